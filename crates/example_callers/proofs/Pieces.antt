@@ -5,7 +5,7 @@ use Rattle.std.specs.Prelude.{Result, Err, if◌then◌else◌, true, false}
 use Rattle.std.specs.Result.{is_ok, is_err}
 use Rattle.std.proofs.Math.Seq.{take-add, take-length}
 use Rattle.ua_frame.specs.declared.frame.Frame.{Frame}
-use Rattle.ua_frame.specs.Reader.{Reader, StandsAfter, Answers, Takes}
+use Rattle.ua_frame.specs.Reader.{Reader, StandsAfter, AnswersFragment, Takes}
 
 -- whatever octets the reader stood after, it stands after those and these, with its frames
 abbrev pub Goes : Reader → List Frame → List ℕ → Reader → List Frame → Type 0
@@ -17,7 +17,7 @@ Went old before piece at new after = (at ≤ length piece) × Goes old before (t
 
 -- what the reader answers to a piece, whatever it stands after
 abbrev pub Stands : Reader → List ℕ → ℕ → Option Frame → Reader → Type 0
-Stands old piece n found new = (octets : List ℕ) (frames : List Frame) → StandsAfter old octets frames → Answers old piece (Ok (n, found)) new octets frames
+Stands old piece n found new = (octets : List ℕ) (frames : List Frame) → StandsAfter old octets frames → AnswersFragment old piece (Ok (n, found)) new octets frames
 
 -- how many octets it took of what is left of a piece, with a frame or without
 pub count : (x y : Reader) (piece : List ℕ) (n : ℕ) (found : Option Frame) → Takes x piece (Ok (n, found)) y → n ≤ length piece

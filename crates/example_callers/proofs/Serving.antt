@@ -14,7 +14,7 @@ use Rattle.ua_channel.specs.ServerStands.{IsDone, channel_of, limits_of}
 use Rattle.ua_channel.specs.ServerTold.{Told, Asked}
 use Rattle.ua_channel_laws.proofs.ReadOn.{told_behind}
 use Rattle.ua_server.specs.Reply.{answered}
-use Rattle.ua_server.specs.Said.{Course, first_of, state_after, course_after as course_by, with_more}
+use Rattle.ua_server.specs.Said.{Course, first_time, state_after, course_after as course_by, with_more}
 use Rattle.ua_server.specs.Served.{channel_in}
 use Rattle.ua_server.specs.State.{State}
 use Rattle.ua_server.specs.Stepping.{LeftByMessage, ServerStands, StepAnswers, StepBreaks, given_up}
@@ -25,13 +25,13 @@ use Rattle.ua_server.specs.declared.step.Step.{Step}
 use Rattle.ua_server.specs.declared.step.StepFault.{StepFault}
 use Rattle.ua_server.specs.declared.step.StepFault.TheVariants as step_fault
 use Rattle.ua_loopback.specs.Beginning.{Beginning}
-use Rattle.ua_loopback.specs.Kept.{EndsAt, Keeps, Serves}
-use Rattle.ua_loopback.specs.Says.{end_by, services_after, reading_at_server, server_output, times_of_answers, state_told}
+use Rattle.ua_loopback.specs.Kept.{EndsAt, Keeps, HasTakenAll}
+use Rattle.ua_loopback.specs.Says.{end_by, services_after, reading_at_server, server_output, answer_times, state_told}
 use Rattle.ua_loopback.specs.declared.stage.Stage.TheVariants as stage
 use Rattle.ua_loopback.proofs.Replying.{none_left}
 use Rattle.ua_loopback.proofs.Saying.{end_is, left_by_run, left_on, rules_by, said_by_run}
 use Rattle.ua_loopback.proofs.Stepped.{keeps_ended, keeps_on, keeps_where, kept_as, said_none, serves_first}
-use Rattle.example_callers.specs.Serve.{Answers, BreaksOff}
+use Rattle.example_callers.specs.Serve.{AnswersNewBytes, BreaksOffServing}
 
 -- ---- octets behind the end of a connection
 
@@ -76,16 +76,16 @@ quiet_state channel c (id ∷ ids) = quiet_state channel c ids
 given_up_leave : (b : Beginning) (told : List Told) (ids : List ℕ) → state_told b (told ++ given_up ids) ≡ state_told b told
 given_up_leave b told ids =
     ap (λ (c : Course). c.state) (left_on b told (given_up ids))
-    ∙ quiet_state b.channel (with_more (state_after b.channel b.first told (times_of_answers told b.moment)) (times_of_answers (given_up ids) b.moment)) ids
+    ∙ quiet_state b.channel (with_more (state_after b.channel b.first told (answer_times told b.moment)) (answer_times (given_up ids) b.moment)) ids
 
 -- what a whole message leaves
 message_leaves : (b : Beginning) (told : List Told) (id token : ℕ) (message : List ℕ) → state_told b (told ++ Asked id token message ∷ [])
     ≡ (answered (state_told b told) b.moment message).0
 message_leaves b told id token message =
     ap (λ (c : Course). c.state) (left_on b told (Asked id token message ∷ []))
-    ∙ ap (λ (ms : List DateTime). (answered (state_told b told) (first_of (ms ++ b.moment ∷ [])) message).0) (none_left b.channel b.first told b.moment)
+    ∙ ap (λ (ms : List DateTime). (answered (state_told b told) (first_time (ms ++ b.moment ∷ [])) message).0) (none_left b.channel b.first told b.moment)
 
-module _ (b : Beginning) (server : Server) (now : State) (octets piece : List ℕ) (before : State) (s : Serves b server before octets) where
+module _ (b : Beginning) (server : Server) (now : State) (octets piece : List ℕ) (before : State) (s : HasTakenAll b server before octets) where
   left_message : (l : LeftByMessage (limits_of (channel_in server)) (channel_of (channel_in server)) b.moment piece octets s.told before now)
       → now ≡ services_after b (octets ++ take l.ends.n piece)
   left_message l =
@@ -99,8 +99,8 @@ module _ (b : Beginning) (server : Server) (now : State) (octets piece : List �
       subst (λ (R : Rules Told ℕ). events R (e.frames ++ e.frame ∷ []) ≡ here ++ Asked e.id e.token l.message ∷ []) rules_are
       (told_behind (server_rules (limits_of (channel_in server)) (channel_of (channel_in server))) e.frames e.frame here (Asked e.id e.token l.message)
       e.told_is e.tells) in
-      let channel_same : (state_after b.channel b.first s.told (times_of_answers s.told b.moment)).state ≡ before =
-      ap (λ (c : ℕ). (state_after c b.first s.told (times_of_answers s.told b.moment)).state) (sym s.channel_is) ∙ s.stands.state_is in
+      let channel_same : (state_after b.channel b.first s.told (answer_times s.told b.moment)).state ≡ before =
+      ap (λ (c : ℕ). (state_after c b.first s.told (answer_times s.told b.moment)).state) (sym s.channel_is) ∙ s.stands.state_is in
       l.now_is
       ∙ (ap (λ (t : State). (answered t b.moment l.message).0) (sym channel_same ∙ sym (given_up_leave b s.told e.quiet))
       ∙ (sym (message_leaves b here e.id e.token l.message)
@@ -135,7 +135,7 @@ pub record ServedTo (b : Beginning) (moment : DateTime) (before octets : List �
 pub record Served (moment : DateTime) (octets : List ℕ) (first : Server) (began : State) (server : Server) (now : State) (at : ℕ) (old out : List ℕ) : Type
     0 where
   pub within : at ≤ length octets
-  pub to : (b : Beginning) (before : List ℕ) → Serves b first began before → moment ≡ b.moment → ServedTo b moment before octets server now at old out
+  pub to : (b : Beginning) (before : List ℕ) → HasTakenAll b first began before → moment ≡ b.moment → ServedTo b moment before octets server now at old out
 
 pub served_none : (moment : DateTime) (octets : List ℕ) (server : Server) (now : State) (old : List ℕ) → Served moment octets server now server now 0 old old
 served_none moment octets server now old = record {
@@ -186,7 +186,7 @@ module _ (moment : DateTime) (octets : List ℕ) (first : Server) (began : State
     }
 
     -- it ended
-    module _ (end : Ending) (ended : step.end ≡ Some end) (b : Beginning) (before : List ℕ) (serves : Serves b first began before)
+    module _ (end : Ending) (ended : step.end ≡ Some end) (b : Beginning) (before : List ℕ) (serves : HasTakenAll b first began before)
         (dated : moment ≡ b.moment) where
       abbrev up : List ℕ
       up = (before ++ take at octets) ++ take step.taken piece
@@ -210,7 +210,7 @@ module _ (moment : DateTime) (octets : List ℕ) (first : Server) (began : State
       pub ended_ends : EndsAt (stage.Ended end) b (before ++ octets)
       ended_ends = ends_past b end up (before ++ octets) (ap (end_by b) front.parts ∙ end_past b up front.more over) keeps.ends
 
-      pub ended_answers : (new : List ℕ) → new ≡ out ++ step.out.items → Answers b before (before ++ octets) old new
+      pub ended_answers : (new : List ℕ) → new ≡ out ++ step.out.items → AnswersNewBytes b before (before ++ octets) old new
       ended_answers new added = record {
         more = there.added ++ step.out.items;
         said_is = ap (server_output b) front.parts
@@ -219,10 +219,10 @@ module _ (moment : DateTime) (octets : List ℕ) (first : Server) (began : State
       }
 
     -- memory was refused behind it
-    answered_there : (b : Beginning) (before : List ℕ) → Serves b first began before → moment ≡ b.moment → Answers b before (before ++ take at octets) old out
+    answered_there : (b : Beginning) (before : List ℕ) → HasTakenAll b first began before → moment ≡ b.moment → AnswersNewBytes b before (before ++ take at octets) old out
     answered_there b before serves dated = let t = s.to b before serves dated in record { more = t.added; said_is = sym t.keeps.down_is; added_is = t.added_is }
 
-    left_then : (b : Beginning) (before : List ℕ) (serves : Serves b first began before) → moment ≡ b.moment → (end : Option Ending) → step.end ≡ end
+    left_then : (b : Beginning) (before : List ℕ) (serves : HasTakenAll b first began before) → moment ≡ b.moment → (end : Option Ending) → step.end ≡ end
         → later ≡ services_after b ((before ++ take at octets) ++ take step.taken piece)
     left_then b before serves dated None is =
         let t = s.to b before serves dated in
@@ -230,7 +230,7 @@ module _ (moment : DateTime) (octets : List ℕ) (first : Server) (began : State
         is).leaves
     left_then b before serves dated (Some end) is = (keeps end is b before serves dated).leaves
 
-    pub lost_then : (b : Beginning) (before : List ℕ) → Serves b first began before → moment ≡ b.moment → BreaksOff b before (before ++ octets) old out later
+    pub lost_then : (b : Beginning) (before : List ℕ) → HasTakenAll b first began before → moment ≡ b.moment → BreaksOffServing b before (before ++ octets) old out later
     lost_then b before serves dated = record {
       taken = (before ++ take at octets) ++ take step.taken piece;
       taken_front = front_of before octets piece at step.taken piece_is;
@@ -243,12 +243,12 @@ module _ (moment : DateTime) (octets : List ℕ) (first : Server) (began : State
     }
 
   -- memory was refused within it
-  module _ (b : Beginning) (before : List ℕ) (serves : Serves b first began before) (dated : moment ≡ b.moment) where
+  module _ (b : Beginning) (before : List ℕ) (serves : HasTakenAll b first began before) (dated : moment ≡ b.moment) where
     t : ServedTo b moment before octets x now at old out
     t = s.to b before serves dated
 
     broken_at : (front : List ℕ) → Extends front (before ++ octets) → Extends (before ++ take at octets) front → later ≡ services_after b front
-        → BreaksOff b before (before ++ octets) old out later
+        → BreaksOffServing b before (before ++ octets) old out later
     broken_at front extends behind left_is = record {
       taken = front;
       taken_front = extends;
@@ -261,7 +261,7 @@ module _ (moment : DateTime) (octets : List ℕ) (first : Server) (began : State
     }
 
     broken_by : StepBreaks (limits_of (channel_in x)) (channel_of (channel_in x)) b.moment piece (channel_in y) (before ++ take at octets) t.keeps.serves.told
-        now later → BreaksOff b before (before ++ octets) old out later
+        now later → BreaksOffServing b before (before ++ octets) old out later
     broken_by (done, inl same) = broken_at (before ++ take at octets) (front_there before octets at)
         (record { more = []; parts = sym (append-nil (before ++ take at octets)) }) (same ∙ t.keeps.leaves)
     broken_by (done, inr l) =
@@ -270,17 +270,17 @@ module _ (moment : DateTime) (octets : List ℕ) (first : Server) (began : State
         (left_message b x later (before ++ take at octets) piece now t.keeps.serves l)
 
     fault_by : (f : StepFault) → StepAnswers (limits_of (channel_in x)) (channel_of (channel_in x)) b.moment piece (Err f) (channel_in y)
-        (before ++ take at octets) t.keeps.serves.told b.first (times_of_answers t.keeps.serves.told b.moment) now later
-        → BreaksOff b before (before ++ octets) old out later × (f ≡ step_fault.OutOfMemory)
+        (before ++ take at octets) t.keeps.serves.told b.first (answer_times t.keeps.serves.told b.moment) now later
+        → BreaksOffServing b before (before ++ octets) old out later × (f ≡ step_fault.OutOfMemory)
     fault_by step_fault.OutOfMemory a = (broken_by a, refl)
     fault_by step_fault.Closed a = absurd a
 
-    pub broken : (f : StepFault) → Steps moment x y now later piece (Err f) → BreaksOff b before (before ++ octets) old out later × (f ≡ step_fault.OutOfMemory)
+    pub broken : (f : StepFault) → Steps moment x y now later piece (Err f) → BreaksOffServing b before (before ++ octets) old out later × (f ≡ step_fault.OutOfMemory)
     broken f answers =
         fault_by f
         (subst (λ (m : DateTime). StepAnswers (limits_of (channel_in x)) (channel_of (channel_in x)) m piece (Err f) (channel_in y) (before ++ take at octets)
-        t.keeps.serves.told b.first (times_of_answers t.keeps.serves.told b.moment) now later) dated
-        (answers (before ++ take at octets) t.keeps.serves.told b.first (times_of_answers t.keeps.serves.told b.moment) t.keeps.serves.stands))
+        t.keeps.serves.told b.first (answer_times t.keeps.serves.told b.moment) now later) dated
+        (answers (before ++ take at octets) t.keeps.serves.told b.first (answer_times t.keeps.serves.told b.moment) t.keeps.serves.stands))
 
 -- ---- a server that ended
 
@@ -316,7 +316,7 @@ module _ {A : Type 0} (first : Server) (began : State) (old : A) (x y : Server) 
 
 module _ (moment : DateTime) (octets : List ℕ) (first : Server) (began : State) (x : Server) (now : State) (at : ℕ) (old out : List ℕ)
     (s : Served moment octets first began x now at old out) (enough : length octets ≤ at) (b : Beginning) (before : List ℕ)
-    (serves : Serves b first began before) (dated : moment ≡ b.moment) where
+    (serves : HasTakenAll b first began before) (dated : moment ≡ b.moment) where
   whole : take at octets ≡ octets
   whole = ap (λ (k : ℕ). take k octets) (same at (length octets) s.within enough) ∙ take-length octets
     where
@@ -329,13 +329,13 @@ module _ (moment : DateTime) (octets : List ℕ) (first : Server) (began : State
   all_keeps : Keeps b x now moment (before ++ octets) (server_output b before ++ done.added) 0 stage.Going
   all_keeps = subst (λ (o : List ℕ). Keeps b x now moment (before ++ o) (server_output b before ++ done.added) 0 stage.Going) whole done.keeps
 
-  pub all_taken : Serves b x now (before ++ octets)
+  pub all_taken : HasTakenAll b x now (before ++ octets)
   all_taken = all_keeps.serves
 
   pub all_leaves : now ≡ services_after b (before ++ octets)
   all_leaves = all_keeps.leaves
 
-  pub all_answers : Answers b before (before ++ octets) old out
+  pub all_answers : AnswersNewBytes b before (before ++ octets) old out
   all_answers = record { more = done.added; said_is = sym all_keeps.down_is; added_is = done.added_is }
 
   pub all_ends : EndsAt stage.Going b (before ++ octets)
@@ -346,13 +346,13 @@ module _ (moment : DateTime) (octets : List ℕ) (first : Server) (began : State
 -- a server that waits for a client, over these services
 pub serves_none : (limits : Limits) (channel : ℕ) (first now : State) (moment : DateTime) (server : Server) → now ≡ first
     → ((s : State) → ServerStands (channel_in server) [] [] s [] s) → limits_of (channel_in server) ≡ limits → channel_of (channel_in server) ≡ channel
-    → Serves (record { limits = limits; channel = channel; first = first; moment = moment }) server now []
+    → HasTakenAll (record { limits = limits; channel = channel; first = first; moment = moment }) server now []
 serves_none limits channel first now moment server same stands limits_are channel_is =
     let b : Beginning = record { limits = limits; channel = channel; first = first; moment = moment } in
-    subst (λ (s : State). Serves b server s []) (sym same) (serves_first b server (stands first) limits_are channel_is)
+    subst (λ (s : State). HasTakenAll b server s []) (sym same) (serves_first b server (stands first) limits_are channel_is)
 
 -- what was added is all that it says
-pub all_said : (r : Result (Option Ending) StepFault) (b : Beginning) (octets old out : List ℕ) → OnOk r (Answers b [] octets old out)
+pub all_said : (r : Result (Option Ending) StepFault) (b : Beginning) (octets old out : List ℕ) → OnOk r (AnswersNewBytes b [] octets old out)
     → OnOk r (out ≡ old ++ server_output b octets)
 all_said (Err f) b octets old out a = tt
 all_said (Ok end) b octets old out a = a.added_is ∙ ap (λ (o : List ℕ). old ++ o) (sym (a.said_is ∙ ap (λ (o : List ℕ). o ++ a.more) (said_none b)))

@@ -111,9 +111,9 @@ pub record BothStep (channels : ℕ → ℕ) (limits other : Limits) (moment : D
 -- ---- a switch
 
 -- what a switch tells of itself
-abbrev pub reading_of : Pulse → Reading
-reading_of p = record { value = One (Boolean p.is_on); status = None; source_time = p.moment; source_picoseconds = None }
+abbrev pub pulse_reading : Pulse → Reading
+pulse_reading p = record { value = One (Boolean p.is_on); status = None; source_time = p.moment; source_picoseconds = None }
 
 -- its node was set to what it was, and it is the other way then
 abbrev pub pulses : Pulse → State → Pulse → State → Type 0
-pulses before old after new = (new ≡ with_nodes old (after_set before.id (reading_of before) old.nodes)) × (after ≡ record before { is_on = not before.is_on })
+pulses before old after new = (new ≡ with_nodes old (after_set before.id (pulse_reading before) old.nodes)) × (after ≡ record before { is_on = not before.is_on })

@@ -15,14 +15,14 @@ stage_of (Some end) = Ended end
 
 -- these were added to bytes that are to be sent back: the response to all bytes that came is the
 -- response to those before, and then these
-pub record Answers (b : Beginning) (before all : List ℕ) (out_before out : List ℕ) : Type 0 where
+pub record AnswersNewBytes (b : Beginning) (before all : List ℕ) (out_before out : List ℕ) : Type 0 where
   pub more : List ℕ
   pub said_is : server_output b all ≡ server_output b before ++ more
   pub added_is : out ≡ out_before ++ more
 
 -- an allocation failed: the services are in the state that a prefix of all bytes that came leaves,
 -- and what was added is the response to a prefix of that, which has all bytes that came before
-pub record BreaksOff (b : Beginning) (before all : List ℕ) (out_before out : List ℕ) (services : State) : Type 0 where
+pub record BreaksOffServing (b : Beginning) (before all : List ℕ) (out_before out : List ℕ) (services : State) : Type 0 where
   pub taken : List ℕ
   pub taken_front : Extends taken all
   pub left_is : services ≡ services_after b taken
@@ -30,4 +30,4 @@ pub record BreaksOff (b : Beginning) (before all : List ℕ) (out_before out : L
   pub heard_behind : Extends before heard
   pub heard_front : Extends heard all
   pub taken_behind : Extends heard taken
-  pub answers : Answers b before heard out_before out
+  pub answers : AnswersNewBytes b before heard out_before out

@@ -17,7 +17,7 @@ use Rattle.ua_client.specs.declared.reply.Reply.{Reply}
 -- each of these was done over the transport in the state in which the one before it left the client
 -- and the transport; the replies are those to the Write and to the Read, in the session whose
 -- AuthenticationToken the server gave
-pub record Talk (limits : Limits) (url : Option (List ℕ)) (moment : DateTime) (writes : List WriteValue) (reads : List ReadValueId)
+pub record ExampleTalk (limits : Limits) (url : Option (List ℕ)) (moment : DateTime) (writes : List WriteValue) (reads : List ReadValueId)
     (before after : Option Traffic) (replies : List Reply) : Type 0 where
   pub opened : Client
   pub behind_open : Option Traffic

@@ -3,12 +3,12 @@
 ghost use Rattle.std.specs.Prelude.{◌≡◌, ◌<◌, ◌++◌, [], ℕ, List, None, Ok, Err, IfErr, IfOk, OnErr, OnOk, length};
 ghost use Rattle.ua_channel.specs.ServerStands.{IsDone};
 ghost use Rattle.ua_loopback.specs.Beginning.{Beginning};
-ghost use Rattle.ua_loopback.specs.Kept.{EndsAt, Serves};
+ghost use Rattle.ua_loopback.specs.Kept.{EndsAt, HasTakenAll};
 ghost use Rattle.ua_loopback.specs.Says.{services_after, server_output};
 ghost use Rattle.ua_server.specs.Served.{channel_in};
 ghost use Rattle.ua_server.specs.State.{begun};
 ghost use Rattle.ua_server.specs.declared.step.StepFault.TheVariants.{Closed, OutOfMemory};
-ghost use Rattle.example_callers.specs.Serve.{Answers, BreaksOff, stage_of};
+ghost use Rattle.example_callers.specs.Serve.{AnswersNewBytes, BreaksOffServing, stage_of};
 
 use std::alloc::Global;
 use ua_builtin::DateTime;
@@ -29,21 +29,21 @@ pub fn serve_octets(
     out: &mut Vec<u8>,
 ) -> Result<Option<End>, StepFault>
     // Bytes in: while the connection goes on, the server took all of them.
-    ensures takes { (b : Beginning) (before : List ℕ) → Serves b server.old services.old before → moment ≡ b.moment
-        → result ≡ Ok None → Serves b server.new services.new (before ++ octets.now) }
+    ensures takes { (b : Beginning) (before : List ℕ) → HasTakenAll b server.old services.old before → moment ≡ b.moment
+        → result ≡ Ok None → HasTakenAll b server.new services.new (before ++ octets.now) }
     // Nodes changed: the services are as all bytes leave them.
-    ensures leaves { (b : Beginning) (before : List ℕ) → Serves b server.old services.old before → moment ≡ b.moment
+    ensures leaves { (b : Beginning) (before : List ℕ) → HasTakenAll b server.old services.old before → moment ≡ b.moment
         → OnOk result (services.new ≡ services_after b (before ++ octets.now)) }
     // Bytes out: what is added is the server's output for them.
-    ensures answers { (b : Beginning) (before : List ℕ) → Serves b server.old services.old before → moment ≡ b.moment
-        → OnOk result (Answers b before (before ++ octets.now) out.old.items out.new.items) }
-    ensures ends { (b : Beginning) (before : List ℕ) → Serves b server.old services.old before → moment ≡ b.moment
+    ensures answers { (b : Beginning) (before : List ℕ) → HasTakenAll b server.old services.old before → moment ≡ b.moment
+        → OnOk result (AnswersNewBytes b before (before ++ octets.now) out.old.items out.new.items) }
+    ensures ends { (b : Beginning) (before : List ℕ) → HasTakenAll b server.old services.old before → moment ≡ b.moment
         → IfOk result (λ end. EndsAt (stage_of end) b (before ++ octets.now)) }
     // If an allocation fails, the services are as a prefix of the bytes leaves them, and what is
     // added is the server's output for a prefix of that.
-    ensures breaks { (b : Beginning) (before : List ℕ) → Serves b server.old services.old before → moment ≡ b.moment
-        → OnErr result (BreaksOff b before (before ++ octets.now) out.old.items out.new.items services.new) }
-    ensures memory { (b : Beginning) (before : List ℕ) → Serves b server.old services.old before → moment ≡ b.moment
+    ensures breaks { (b : Beginning) (before : List ℕ) → HasTakenAll b server.old services.old before → moment ≡ b.moment
+        → OnErr result (BreaksOffServing b before (before ++ octets.now) out.old.items out.new.items services.new) }
+    ensures memory { (b : Beginning) (before : List ℕ) → HasTakenAll b server.old services.old before → moment ≡ b.moment
         → IfErr result (λ fault. fault ≡ OutOfMemory) }
     // A server that ended takes nothing more.
     ensures closed { IsDone (channel_in server.old) → 0 < length octets.now → (result ≡ Err Closed)
@@ -89,7 +89,7 @@ pub fn serve_connection(
         (λ end. EndsAt (stage_of end)
         (record { limits = limits; channel = channel_id; first = begun services.old; moment = moment }) octets.now) }
     ensures breaks { OnErr result
-        (BreaksOff (record { limits = limits; channel = channel_id; first = begun services.old; moment = moment }) []
+        (BreaksOffServing (record { limits = limits; channel = channel_id; first = begun services.old; moment = moment }) []
         octets.now out.old.items out.new.items services.new) }
     ensures memory { IfErr result (λ fault. fault ≡ OutOfMemory) }
 {

@@ -3,7 +3,7 @@
 ghost use Rattle.std.specs.Prelude.{◌≡◌, ◌∷◌, [], length, IfOk, IsTrue};
 ghost use Rattle.ua_services.specs.SessionRequests.{read, write};
 ghost use Rattle.ua_wire.specs.Counted.{text};
-ghost use Rattle.example_callers.specs.Talk.{Talk};
+ghost use Rattle.example_callers.specs.Talk.{ExampleTalk};
 
 use std::alloc::Global;
 use ua_builtin::{DateTime, NodeId, UaString};
@@ -26,7 +26,7 @@ pub fn write_and_read<L: Line>(
     reads: Vec<ReadValueId>,
 ) -> Result<Vec<Reply>, ClientFault>
     requires { IsTrue (text.encodable url) }
-    ensures talks { IfOk result (λ replies. Talk limits url moment writes.items reads.items (L.traffic line.old)
+    ensures talks { IfOk result (λ replies. ExampleTalk limits url moment writes.items reads.items (L.traffic line.old)
         (L.traffic line.new) replies.items) }
     ensures count { IfOk result (λ replies. length replies.items ≡ 2) }
 {

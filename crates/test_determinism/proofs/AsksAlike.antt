@@ -16,7 +16,7 @@ use Rattle.ua_chunk.specs.declared.lane.Lane.{Lane}
 use Rattle.ua_channel.specs.Asks.{Asking, Placed, asked_in}
 use Rattle.ua_channel.specs.Client.{client_limits, client_next, client_bound, client_bound_behind, IsClientDone, phase_of, client_rules_of, InPhase}
 use Rattle.ua_channel.specs.Client.{IsNotOpen, ClientGoes, ClientStands, SameClient, ask_refusal, renew_refusal, close_refusal, IsCall, IsRenewal, IsClosing}
-use Rattle.ua_channel.specs.ClientAsks.{Talks, Calls, Renews, AnswersFor, IsFor, call_lane, room_of, ask_reasons, renew_reasons}
+use Rattle.ua_channel.specs.ClientAsks.{Talks, Calls, AsksRenewal, AnswersFor, IsAskFaultFor, call_lane, room_of, ask_reasons, renew_reasons}
 use Rattle.ua_channel.specs.ClientAsks.{is_too_large, closing_octets, most_pending, most_tokens, no_id, JudgesBy}
 use Rattle.ua_channel.specs.ClientSends.{renewal_frame, close_frame}
 use Rattle.ua_channel.specs.ClientTable.{client_rules}
@@ -212,7 +212,7 @@ one_call t u number again body id other out also next then s e p q = record {
 }
 
 one_renewal : (t u : Talking) (number again : ℕ) (moment : DateTime) (id other : ℕ) (out also : List ℕ) (next then : ℕ) → SameTalk t u → number ≡ again
-    → Renews t number moment id out next → Renews u again moment other also then → OneAsk id other out also next then
+    → AsksRenewal t number moment id out next → AsksRenewal u again moment other also then → OneAsk id other out also next then
 one_renewal t u number again moment id other out also next then s e p q = record {
   ids = p.id_is ∙ (s.next ∙ sym q.id_is);
   octets = p.out_is
@@ -251,7 +251,7 @@ same_closing p q number again moment out also (Both t u a b s) e h k =
 
 -- ---- answers
 
-as_reason : (reason : Option AskFault) (fault : AskFault) → IsFor reason fault → (fault ≡ OutOfMemory → ⊥) → reason ≡ Some fault
+as_reason : (reason : Option AskFault) (fault : AskFault) → IsAskFaultFor reason fault → (fault ≡ OutOfMemory → ⊥) → reason ≡ Some fault
 as_reason reason NotOpen h had = h
 as_reason reason TooManyPending h had = h
 as_reason reason RenewPending h had = h

@@ -9,7 +9,7 @@ use Rattle.ua_frame.specs.declared.limits.Limits.{Limits}
 use Rattle.ua_frame.proofs.Readings.{reading}
 use Rattle.ua_channel.specs.ServerRules.{server_rules}
 use Rattle.ua_channel.specs.ServerTold.{Told}
-use Rattle.ua_server.specs.Requests.{requests}
+use Rattle.ua_server.specs.Requests.{requests_answered}
 use Rattle.ua_server.specs.Said.{Course, last_words, state_after, output_of, said_of, used_in, times_used_by}
 use Rattle.ua_server.specs.Serving.{Answer, AreAsked, BrokenOff, EndsAt, LastWord, Nothing, Refusal, end_at, told_at}
 use Rattle.ua_server.specs.State.{State}
@@ -56,7 +56,7 @@ module _ (limits : Limits) (channel : ℕ) (first : State) where
     pub parts : read ++ ahead ≡ whole
     pub broken : BrokenOff limits channel first read written moments now
     pub some : 0 < length broken.unwritten
-    pub tells : asked ≡ requests channel first (broken.before ++ told_at broken.word) moments
+    pub tells : asked ≡ requests_answered channel first (broken.before ++ told_at broken.word) moments
     pub counts : AreAsked limits channel broken.front (broken.before ++ told_at broken.word) moments
 
   -- how many moments the last word uses
@@ -71,7 +71,7 @@ module _ (limits : Limits) (channel : ℕ) (first : State) where
     place : SaidAt whole before told end
     given_is : given + used_last place ≡ used_in told + 1
     state_is : (state_after channel first told moments).state ≡ now
-    asked_is : asked ≡ requests channel first told moments
+    asked_is : asked ≡ requests_answered channel first told moments
     part : List ℕ
     written_is : written ≡ output_of channel first before Going moments ++ part
     unwritten : List ℕ
@@ -226,7 +226,7 @@ module _ (limits : Limits) (channel : ℕ) (first : State) where
       breaks_once : (asked ≡ also) × (now ≡ then) × (given ≡ other_given)
       breaks_once =
           let same = told_once a.place b.place in (
-            a.asked_is ∙ (ap (λ (ts : List Told). requests channel first ts moments) same.0 ∙ sym b.asked_is),
+            a.asked_is ∙ (ap (λ (ts : List Told). requests_answered channel first ts moments) same.0 ∙ sym b.asked_is),
             sym a.state_is ∙ (ap (λ (ts : List Told). (state_after channel first ts moments).state) same.0 ∙ b.state_is),
             as_many given other_given (used_last a.place) (used_last b.place) (used_in told) (used_in other) a.given_is b.given_is same.1 (ap used_in same.0),
           )

@@ -19,7 +19,7 @@ use Rattle.ua_client.specs.declared.connection.Connection.{Connection}
 use Rattle.ua_client.specs.declared.fault.ClientFault.{ClientFault}
 use Rattle.ua_client.specs.declared.fault.ClientFault.TheVariants as fault
 use Rattle.test_determinism.specs.Calling.{ComesTo}
-use Rattle.test_determinism.specs.Lines.{ComeAlike, Wrote, WroteAlike}
+use Rattle.test_determinism.specs.Lines.{ComeAlike, WroteExactly, WroteAlike}
 use Rattle.test_determinism.proofs.FrontsAlike.{ReadsAll, ReadsFront, stopped_all}
 use Rattle.test_determinism.proofs.ServedAlike.{come, where_told, wrote, wrote_at}
 use Rattle.test_determinism.proofs.ServersAlike.{same_code}
@@ -58,7 +58,7 @@ ran old new sent line after coming t m e brings =
     }
 
 pub ran_wrote : (new : Connection) (sent taken : List ℕ) (line after : Option Traffic) (coming : List ℕ) → Ran new sent taken line after coming
-    → Wrote line after sent
+    → WroteExactly line after sent
 ran_wrote new sent taken line after coming r = wrote line after r.first r.last sent r.first_is r.last_is r.written
 
 -- two calls that wrote the same
@@ -67,7 +67,7 @@ pub both_wrote : (one two : Connection) (sent other taken got : List ℕ) (line 
 both_wrote one two sent other taken got line after elsewhere later coming e r q = record {
   sent = sent;
   first = ran_wrote one sent taken line after coming r;
-  second = subst (λ (o : List ℕ). Wrote elsewhere later o) (sym e) (ran_wrote two other got elsewhere later coming q);
+  second = subst (λ (o : List ℕ). WroteExactly elsewhere later o) (sym e) (ran_wrote two other got elsewhere later coming q);
 }
 
 -- the octets that a call leaves to come

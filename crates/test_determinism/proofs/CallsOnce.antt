@@ -8,7 +8,7 @@ use Rattle.ua_channel.specs.declared.client.channel.ClientChannel.{ClientChannel
 use Rattle.ua_services.specs.declared.request.Request.{Request}
 use Rattle.ua_client.specs.Calls.{AllAt, CallsAll, all_of}
 use Rattle.ua_client.specs.Client.{IsLeft, client_channel, connection_of}
-use Rattle.ua_client.specs.Hearing.{channel_of, fault_alone}
+use Rattle.ua_client.specs.Hearing.{channel_of_connection, fault_alone}
 use Rattle.ua_client.specs.Kept.{CallsInto, IntoAt}
 use Rattle.ua_client.specs.ClientPlace.{ClientPlace}
 use Rattle.ua_client.specs.declared.client.Client.{Client}
@@ -41,14 +41,14 @@ err_found : {A P : Type 0} (f : ClientFault) (v : A) → ◌≡◌ {A = Result A
 err_found f v e = cc
 
 met : {A : Type 0} (view : A → List Reply) (limits : Limits) (requests : List Request) (s : ClientPlace) (new : Connection) (sent taken more : List ℕ)
-    → client_limits (channel_of new) ≡ limits → (a : Result A ClientFault)
+    → client_limits (channel_of_connection new) ≡ limits → (a : Result A ClientFault)
     → ((f : ClientFault) → fault_of a ≡ Some f → (f ≡ fault.Ended) ⊎ (f ≡ fault.Read) → more ≡ [])
     → ((f : ClientFault) → fault_of a ≡ Some f → f ≡ fault.OutOfMemory → ⊥) → ((f : ClientFault) → fault_of a ≡ Some f → f ≡ fault.TooLong → ⊥)
-    → AllAt view requests s new sent taken a → Met view limits (channel_of new) requests s (taken ++ more) sent taken a
+    → AllAt view requests s new sent taken a → Met view limits (channel_of_connection new) requests s (taken ++ more) sent taken a
 met view limits requests s new sent taken more same (Ok v) stop had short k = record {
   replies = view v;
   count = length (all_of k.groups) + 0;
-  walk = walk_answered false limits requests s sent taken more (channel_of new) same (view v) k;
+  walk = walk_answered false limits requests s sent taken more (channel_of_connection new) same (view v) k;
   shown = λ w e. ap view (same_found v w e);
 }
 met view limits requests s new sent taken more same (Err f) stop had short k = record {
@@ -145,14 +145,14 @@ same_named : (c d : CallsFault) → ◌≡◌ {A = Result (Unit {0}) CallsFault}
 same_named c d e = cc
 
 added_by : (limits : Limits) (requests : List Request) (s : ClientPlace) (new : Connection) (sent taken more : List ℕ) (added : List Reply)
-    → client_limits (channel_of new) ≡ limits → (a : Result (Unit {0}) CallsFault)
+    → client_limits (channel_of_connection new) ≡ limits → (a : Result (Unit {0}) CallsFault)
     → ((f : ClientFault) → fault_of (fault_alone a) ≡ Some f → (f ≡ fault.Ended) ⊎ (f ≡ fault.Read) → more ≡ [])
     → ((f : ClientFault) → fault_of (fault_alone a) ≡ Some f → f ≡ fault.OutOfMemory → ⊥)
     → ((f : ClientFault) → fault_of (fault_alone a) ≡ Some f → f ≡ fault.TooLong → ⊥) → IntoAt requests s new sent taken a added
-    → Added limits (channel_of new) requests s (taken ++ more) sent taken added a
+    → Added limits (channel_of_connection new) requests s (taken ++ more) sent taken added a
 added_by limits requests s new sent taken more added same (Ok done) stop had short k = record {
   count = length (all_of k.groups) + 0;
-  walk = walk_answered true limits requests s sent taken more (channel_of new) same added k;
+  walk = walk_answered true limits requests s sent taken more (channel_of_connection new) same added k;
   named = λ c e. found_err c e;
 }
 added_by limits requests s new sent taken more added same (Err c) stop had short k =
@@ -161,7 +161,7 @@ added_by limits requests s new sent taken more added same (Err c) stop had short
     (short c.fault refl) k.place k.kept k.broken.breaks k.keeps) in
     record {
       count = length (all_of k.broken.groups) + k.place;
-      walk = subst (λ (rs : List Reply). Walk true limits (channel_of new) (Some c.fault) requests s (taken ++ more) sent taken rs
+      walk = subst (λ (rs : List Reply). Walk true limits (channel_of_connection new) (Some c.fault) requests s (taken ++ more) sent taken rs
           (length (all_of k.broken.groups) + k.place)) (sym k.added_is) walked;
       named = λ d e. ap (λ (z : CallsFault). z.request) (sym (same_named c d e)) ∙ k.request_is;
     }

@@ -22,8 +22,8 @@ use Rattle.ua_channel.specs.declared.client.event.ClientEvent.{ClientEvent}
 use Rattle.ua_channel.specs.declared.client.event.ClientEvent.TheVariants.{NeedMore, Send, Open, Answered, Aborted, Failed, Renewed}
 use Rattle.ua_channel.specs.declared.client.fault.ClientTakeFault.{ClientTakeFault}
 use Rattle.ua_channel.specs.declared.client.fault.ClientTakeFault.TheVariants.{Closed, OutOfMemory}
-use Rattle.test_determinism.specs.Clients.{ClientsAlike, ClientsDone, Seen, SameClientAnswer, LeftClients, answer_seen}
-use Rattle.test_determinism.specs.Clients.{Seen as seen}
+use Rattle.test_determinism.specs.Clients.{ClientsAlike, ClientsDone, ClientSeen, SameClientAnswer, LeftClients, client_answer_seen}
+use Rattle.test_determinism.specs.Clients.{ClientSeen as seen}
 use Rattle.test_determinism.specs.Pinned.{HadMemory}
 use Rattle.test_determinism.proofs.EndsAlike.{Comes, bound_stopped, comes_as, one_at_both, same_parts, tells_by, tells_goes, whole_taken}
 use Rattle.test_determinism.proofs.StreamsAlike.{Outcome, Tells}
@@ -43,7 +43,7 @@ pub to_tells : (R : Rules ClientTold Why) (x : ClientChannel) (asks : List Place
     → client_rules_of x asks ≡ R → n ≤ length piece → ClientGoesTelling x asks (octets ++ take n piece) before e → Tells R octets piece before n e
 to_tells R x asks = tells_by client_side asks R x.end
 
-abbrev failed : Why → Seen
+abbrev failed : Why → ClientSeen
 failed why = let code : StatusCode = record { code = why.code } in seen.Fails code why.peer
 
 abbrev parts_in : Option (List (List ℕ)) → List (List ℕ)
@@ -51,7 +51,7 @@ parts_in None = []
 parts_in (Some parts) = parts
 
 -- what is answered to what a piece comes to, with the parts of a message
-abbrev said : DateTime → Option (List (List ℕ)) → Came → Seen
+abbrev said : DateTime → Option (List (List ℕ)) → Came → ClientSeen
 said moment parts Quietly = seen.NeedsMore
 said moment parts (Telling (told.Agreed ack)) = seen.Sends (frame_octets (first_open moment))
 said moment parts (Telling (told.Opened channel token)) = seen.Opens
@@ -87,7 +87,7 @@ record Heard (moment : DateTime) (piece octets : List ℕ) (asks : List Placed) 
   parts : Option (List (List ℕ))
   handed : HandsOutParts client_side parts x.end asks (octets ++ take count piece)
   some : is_some parts ≡ hands came
-  answer : answer_seen a ≡ Ok (count, said moment parts came)
+  answer : client_answer_seen a ≡ Ok (count, said moment parts came)
   left : (y : ClientChannel) → Left x y asks (octets ++ take count piece) before came → LeftClients a x y asks octets before piece
 
 module _ (moment : DateTime) (piece octets : List ℕ) (asks : List Placed) (before : List ClientTold) (x : ClientChannel) where

@@ -6,7 +6,7 @@ use Rattle.ua_frame.specs.Run.{End, events}
 use Rattle.ua_frame.specs.declared.frame.Frame.{Frame}
 use Rattle.ua_frame.proofs.Unique.{unique}
 use Rattle.ua_pair.specs.Dissected.{AddsLines, AreLines, AreTold, rules}
-use Rattle.ua_pair.specs.Dissecting.{AreHeld, EndsLines, StandsBehind, TellsMore, held_behind}
+use Rattle.ua_pair.specs.Dissecting.{AreHeld, EndsLines, StandsBehind, TellsMore, buffered_behind}
 use Rattle.ua_pair.proofs.Texts.{texts_exact}
 use Rattle.ua_pair.specs.declared.dissector.Dissector.{Dissector}
 use Rattle.ua_pair.specs.declared.options.DissectOptions.{DissectOptions}
@@ -71,5 +71,5 @@ pub held_once : (options : DissectOptions) (octets : List ℕ) (n m : ℕ) → A
 held_once options octets n m a b =
     let same = unique (rules options) octets a.frames b.frames a.rest b.rest a.end b.end a.run b.run in
     a.held_are
-    ∙ (ap (λ (fs : List Frame). held_behind fs a.rest a.end) same.frames
-    ∙ (ap (λ (r : List ℕ). held_behind b.frames r a.end) same.rests ∙ (ap (λ (e : End ℕ). held_behind b.frames b.rest e) same.ends ∙ sym b.held_are)))
+    ∙ (ap (λ (fs : List Frame). buffered_behind fs a.rest a.end) same.frames
+    ∙ (ap (λ (r : List ℕ). buffered_behind b.frames r a.end) same.rests ∙ (ap (λ (e : End ℕ). buffered_behind b.frames b.rest e) same.ends ∙ sym b.held_are)))

@@ -16,17 +16,17 @@ use Rattle.ua_channel.specs.ClientTold.{ClientTold, Why}
 use Rattle.ua_channel.specs.ClientTold.ClientTold.{Answered, GaveUp}
 use Rattle.ua_channel.specs.declared.client.channel.ClientChannel.{ClientChannel}
 use Rattle.ua_opening.specs.Message.{IsBody}
-use Rattle.ua_services.specs.Request.{kind_of}
+use Rattle.ua_services.specs.Request.{kind_of_request}
 use Rattle.ua_services.specs.Response.{response}
 use Rattle.ua_services.specs.declared.request.Request.{Request}
 use Rattle.ua_services.specs.declared.request.RequestKind.{RequestKind}
 use Rattle.ua_services.specs.declared.response.Response.{Response}
 use Rattle.ua_client.specs.Calls.{Answered as IsAnsweredAt, IsSentAt, LastCame, asked_at, refusal_at, sent_at}
-use Rattle.ua_client.specs.Client.{ends}
+use Rattle.ua_client.specs.Client.{ends_client}
 use Rattle.ua_client.specs.Hearing.{is_line_fault}
-use Rattle.ua_client.specs.Kept.{IsRefusedFor}
-use Rattle.ua_client.specs.Replies.{AreAwaited, AreReplies, AreSlots, IsAnswer, IsAt, IsFront, IsMisanswer}
-use Rattle.ua_client.specs.Replies.{IsMisanswered, IsReply, IsReplyBy, IsSlot, IsUntold, LacksAnswer}
+use Rattle.ua_client.specs.Kept.{IsGroupRefusedFor}
+use Rattle.ua_client.specs.Replies.{AreAwaited, AreReplies, AreSlots, IsAnswer, IsRequestAt, IsFront, IsMisanswer}
+use Rattle.ua_client.specs.Replies.{IsMisanswered, IsReplyTo, IsReplyBy, IsSlot, IsUntold, LacksAnswer}
 use Rattle.ua_client.specs.Sent.{group_reasons, request_reasons}
 use Rattle.ua_client.specs.ClientPlace.{ClientPlace, StandsAt, id_at}
 use Rattle.ua_client.specs.Told.{is_told_of, told_of}
@@ -93,9 +93,9 @@ more_same : {A : Type 0} (r q : A) (rs qs : List A) → r ≡ q → rs ≡ qs �
 more_same r q rs qs e d = cc
 
 -- the reply to a request by what was told is one
-reply_once : OneBody → (m : Request) (id : ℕ) (told : List ClientTold) (r q : Reply) → IsReply m id told r → IsReply m id told q → r ≡ q
+reply_once : OneBody → (m : Request) (id : ℕ) (told : List ClientTold) (r q : Reply) → IsReplyTo m id told r → IsReplyTo m id told q → r ≡ q
 reply_once once m id told r q p h =
-    one_reply once (kind_of m) id h.0 r q (subst (λ (t : ClientTold). IsReplyBy (kind_of m) id t r) (told_head p.0 h.0 [] [] (sym p.1 ∙ h.1)) p.2) h.2
+    one_reply once (kind_of_request m) id h.0 r q (subst (λ (t : ClientTold). IsReplyBy (kind_of_request m) id t r) (told_head p.0 h.0 [] [] (sym p.1 ∙ h.1)) p.2) h.2
 
 replies_once : OneBody → (requests : List Request) (id : ℕ) (told : List ClientTold) (rs qs : List Reply) → AreReplies requests id told rs
     → AreReplies requests id told qs → rs ≡ qs
@@ -122,16 +122,16 @@ one_on a b = omega arith
 
 -- the reply to the request at a place
 reply_at : (requests : List Request) (id : ℕ) (told : List ClientTold) (rs : List Reply) (n : ℕ) (m : Request) → AreReplies requests id told rs
-    → IsAt requests n m → (r : Reply) × IsReply m (id + n) told r
+    → IsRequestAt requests n m → (r : Reply) × IsReplyTo m (id + n) told r
 reply_at [] id told rs n m h at = absurd at
 reply_at (q ∷ qs) id told [] n m h at = absurd h
 reply_at (q ∷ qs) id told (r ∷ rs) zero m h at =
-    (r, subst (λ (z : Request). IsReply z (id + 0) told r) (sym at) (subst (λ (k : ℕ). IsReply q k told r) (sym (add-zero id)) h.0))
+    (r, subst (λ (z : Request). IsReplyTo z (id + 0) told r) (sym at) (subst (λ (k : ℕ). IsReplyTo q k told r) (sym (add-zero id)) h.0))
 reply_at (q ∷ qs) id told (r ∷ rs) (suc n) m h at = let l =
-    reply_at qs (id + 1) told rs n m h.1 at in (l.0, subst (λ (k : ℕ). IsReply m k told l.0) (sym (one_on id n)) l.1)
+    reply_at qs (id + 1) told rs n m h.1 at in (l.0, subst (λ (k : ℕ). IsReplyTo m k told l.0) (sym (one_on id n)) l.1)
 
 slot_at : (requests : List Request) (id : ℕ) (told : List ClientTold) (slots : List (Option Reply)) (n : ℕ) (m : Request) → AreSlots requests id told slots
-    → IsAt requests n m → (slot : Option Reply) × IsSlot m (id + n) told slot
+    → IsRequestAt requests n m → (slot : Option Reply) × IsSlot m (id + n) told slot
 slot_at [] id told slots n m h at = absurd at
 slot_at (q ∷ qs) id told [] n m h at = absurd h
 slot_at (q ∷ qs) id told (r ∷ rs) zero m h at =
@@ -156,8 +156,8 @@ none_misanswered : (requests : List Request) (id : ℕ) (all told other more res
     → AreReplies requests id told rs → IsMisanswered requests id other → ⊥
 none_misanswered requests id all told other more rest rs e d p m =
     let r = reply_at requests id told rs m.place m.request p m.request_is in
-    not_misanswered (kind_of m.request) (id + m.place) m.last r.0
-    (subst (λ (t : ClientTold). IsReplyBy (kind_of m.request) (id + m.place) t r.0)
+    not_misanswered (kind_of_request m.request) (id + m.place) m.last r.0
+    (subst (λ (t : ClientTold). IsReplyBy (kind_of_request m.request) (id + m.place) t r.0)
     (one_told (id + m.place) all told other more rest r.1.0 m.last e d r.1.1 (misanswer_told requests id other m)) r.1.2) m.misanswers
 
 -- nor is one where each is answered, or nothing was told of it
@@ -171,8 +171,8 @@ slots_misanswered requests id all told more slots e h m = by (slot_at requests i
     by : (slot : Option Reply) × IsSlot m.request (id + m.place) all slot → ⊥
     by (None, none) = no_told m.last (told_of (id + m.place) more) (sym none ∙ all_is)
     by (Some r, is) =
-        not_misanswered (kind_of m.request) (id + m.place) m.last r
-        (subst (λ (t : ClientTold). IsReplyBy (kind_of m.request) (id + m.place) t r)
+        not_misanswered (kind_of_request m.request) (id + m.place) m.last r
+        (subst (λ (t : ClientTold). IsReplyBy (kind_of_request m.request) (id + m.place) t r)
         (told_head is.0 m.last [] (told_of (id + m.place) more) (sym is.1 ∙ all_is)) is.2) m.misanswers
 
 -- two fronts of what is told that end at such a message are one
@@ -200,7 +200,7 @@ Keeps false Misses requests id told kept place = (kept ≡ []) × (place ≡ 0)
 Keeps true Misses requests id told kept place = (place ≡ length kept) × IsFront Misses kept requests id told
 
 module _ (once : OneBody) (Misses : Request → ℕ → List ClientTold → Type 0) (misses : (m : Request) (id : ℕ) (told : List ClientTold) (r : Reply)
-    → Misses m id told → IsReply m id told r → ⊥) where
+    → Misses m id told → IsReplyTo m id told r → ⊥) where
   front_once : (requests : List Request) (id : ℕ) (told : List ClientTold) (rs qs : List Reply) → IsFront Misses rs requests id told
       → IsFront Misses qs requests id told → rs ≡ qs
   front_once [] id told rs qs p q = absurd p
@@ -214,20 +214,20 @@ module _ (once : OneBody) (Misses : Request → ℕ → List ClientTold → Type
   keeps_once false requests id told rs qs n k p q = (p.0 ∙ sym q.0, p.1 ∙ sym q.1)
   keeps_once true requests id told rs qs n k p q = let e = front_once requests id told rs qs p.1 q.1 in (e, p.0 ∙ (ap length e ∙ sym q.0))
 
-untold_misses : (m : Request) (id : ℕ) (told : List ClientTold) (r : Reply) → IsUntold m id told → IsReply m id told r → ⊥
+untold_misses : (m : Request) (id : ℕ) (told : List ClientTold) (r : Reply) → IsUntold m id told → IsReplyTo m id told r → ⊥
 untold_misses m id told r none p = no_told p.0 [] (sym none ∙ p.1)
 
-lacking_misses : (m : Request) (id : ℕ) (told : List ClientTold) (r : Reply) → LacksAnswer m id told → IsReply m id told r → ⊥
+lacking_misses : (m : Request) (id : ℕ) (told : List ClientTold) (r : Reply) → LacksAnswer m id told → IsReplyTo m id told r → ⊥
 lacking_misses m id told r (inl none) p = no_told p.0 [] (sym none ∙ p.1)
 lacking_misses m id told r (inr q) p =
-    not_misanswered (kind_of m) id q.0 r (subst (λ (t : ClientTold). IsReplyBy (kind_of m) id t r) (told_head p.0 q.0 [] [] (sym p.1 ∙ q.1)) p.2) q.2
+    not_misanswered (kind_of_request m) id q.0 r (subst (λ (t : ClientTold). IsReplyBy (kind_of_request m) id t r) (told_head p.0 q.0 [] [] (sym p.1 ∙ q.1)) p.2) q.2
 
 -- ---- which request is refused
 
 -- the same of a group that is not asked
 abbrev pub Refuses : Bool → List Request → ClientPlace → ClientFault → List Reply → ℕ → Type 0
 Refuses false requests s f kept place = (kept ≡ []) × (place ≡ 0)
-Refuses true requests s f kept place = (kept ≡ []) × IsRefusedFor requests s f place
+Refuses true requests s f kept place = (kept ≡ []) × IsGroupRefusedFor requests s f place
 
 no_reason : (f : ClientFault) → ◌≡◌ {A = Option ClientFault} None (Some f) → ⊥
 no_reason f e = cc
@@ -319,7 +319,7 @@ pub data Broke (b : Bool) (limits : Limits) (requests : List Request) (s : Clien
   Missed : f ≡ fault.UnknownResponse → IsSentAt requests s sent → (told : List ClientTold) → ReadsFront (rules_at limits requests s) (s.octets ++ coming) told
       → IsMisanswered requests (id_at s) told → Keeps b LacksAnswer requests (id_at s) told kept place
       → Broke b limits requests s coming x sent taken kept place f
-  Judged : refusal_at s requests ≡ Some f → ends f ≡ false → sent ≡ [] → taken ≡ [] → StandsAt x s → Refuses b requests s f kept place
+  Judged : refusal_at s requests ≡ Some f → ends_client f ≡ false → sent ≡ [] → taken ≡ [] → StandsAt x s → Refuses b requests s f kept place
       → Broke b limits requests s coming x sent taken kept place f
   Unwritten : f ≡ fault.Write → refusal_at s requests ≡ None → length sent < length (sent_at s requests) → kept ≡ [] → place ≡ 0
       → Broke b limits requests s coming x sent taken kept place f
@@ -332,19 +332,19 @@ pub record BrokeOnce (s : ClientPlace) (x y : ClientChannel) (sent other taken g
   pub kept_are : kept ≡ also
   pub place_is : place ≡ again
   -- where the client goes on, both stand there still
-  pub stays : ends f ≡ false → (taken ≡ []) × (got ≡ []) × StandsAt x s × StandsAt y s
+  pub stays : ends_client f ≡ false → (taken ≡ []) × (got ≡ []) × StandsAt x s × StandsAt y s
 
 differ : true ≡ false → ⊥
 differ e = cc
 
-ends_line : (f : ClientFault) (e : End Why) → EndsBy f e → (is_line_fault f ≡ false) × (ends f ≡ true)
-ends_line f e (ByPeer code p q) = (ap is_line_fault p, ap ends p)
-ends_line f e (ByOurs code p q) = (ap is_line_fault p, ap ends p)
-ends_line f e (ByEnd p q) = (ap is_line_fault p, ap ends p)
+ends_line : (f : ClientFault) (e : End Why) → EndsBy f e → (is_line_fault f ≡ false) × (ends_client f ≡ true)
+ends_line f e (ByPeer code p q) = (ap is_line_fault p, ap ends_client p)
+ends_line f e (ByOurs code p q) = (ap is_line_fault p, ap ends_client p)
+ends_line f e (ByEnd p q) = (ap is_line_fault p, ap ends_client p)
 
-waits_ends : (f : ClientFault) (e : End Why) → WaitsBy f e → ends f ≡ true
+waits_ends : (f : ClientFault) (e : End Why) → WaitsBy f e → ends_client f ≡ true
 waits_ends f e (ByFault by) = (ends_line f e by).1
-waits_ends f e (ByRead p q) = ap ends p
+waits_ends f e (ByRead p q) = ap ends_client p
 
 -- no call of the line fails, or both faults are one
 abbrev pub FailAlike : ClientFault → ClientFault → Type 0
@@ -450,7 +450,7 @@ module _ (once : OneBody) (limits : Limits) (requests : List Request) (s : Clien
     abbrev Once : Type 0
     Once = BrokeOnce s x y sent other taken got kept also place again f g
 
-    no_stay : ends f ≡ true → ends f ≡ false → (taken ≡ []) × (got ≡ []) × StandsAt x s × StandsAt y s
+    no_stay : ends_client f ≡ true → ends_client f ≡ false → (taken ≡ []) × (got ≡ []) × StandsAt x s × StandsAt y s
     no_stay is not = absurd (differ (sym is ∙ not))
 
     unrefused : refusal_at s requests ≡ None → (h : ClientFault) → refusal_at s requests ≡ Some h → ⊥
@@ -484,7 +484,7 @@ module _ (once : OneBody) (limits : Limits) (requests : List Request) (s : Clien
         let same = misanswers_once requests (id_at s) m.0 told told_too m.1 m.2 m.3 m.4 mis mis_too in
         let one = keeps_once once LacksAnswer lacking_misses b requests (id_at s) told kept also place again k
         (subst (λ (ts : List ClientTold). Keeps b LacksAnswer requests (id_at s) ts also again) (sym same) k_too) in
-        record { fault_is = is ∙ sym is_too; sent_is = sent_is.1 ∙ sym also_sent.1; kept_are = one.0; place_is = one.1; stays = no_stay (ap ends is) }
+        record { fault_is = is ∙ sym is_too; sent_is = sent_is.1 ∙ sym also_sent.1; kept_are = one.0; place_is = one.1; stays = no_stay (ap ends_client is) }
     broke_once (Missed is sent_is told front mis k) (Judged is_too ending none nothing at r) = absurd (unrefused sent_is.0 g is_too)
     broke_once (Missed is sent_is told front mis k) (Unwritten is_too none fewer nothing first) = absurd (unwritten_misses f g alike is is_too)
     broke_once (Judged is ending none nothing at r) (Waited d by_too also_sent told_too all_too a_too k_too) = absurd (unrefused also_sent.0 f is)
@@ -512,5 +512,5 @@ module _ (once : OneBody) (limits : Limits) (requests : List Request) (s : Clien
           kept_are = nothing ∙ sym nothing_too;
           place_is = first
               ∙ sym first_too;
-          stays = no_stay (ap ends is);
+          stays = no_stay (ap ends_client is);
         }

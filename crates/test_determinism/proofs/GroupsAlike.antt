@@ -11,8 +11,8 @@ use Rattle.ua_channel.specs.declared.client.channel.ClientChannel.{ClientChannel
 use Rattle.ua_services.specs.declared.request.Request.{Request}
 use Rattle.ua_client.specs.Calls.{AnsweredAll, AreGroups, BreaksAt, BrokenAll, EndsOn, ClientGoesOn, IsSentAt, Rounds, all_of, asked_at, sent_at}
 use Rattle.ua_client.specs.Calls.Rounds.{NoRound, OneRound}
-use Rattle.ua_client.specs.Client.{ends}
-use Rattle.ua_client.specs.Hearing.{channel_of}
+use Rattle.ua_client.specs.Client.{ends_client}
+use Rattle.ua_client.specs.Hearing.{channel_of_connection}
 use Rattle.ua_client.specs.Kept.{KeepsAt}
 use Rattle.ua_client.specs.Replies.{AreAwaited, IsFront, IsMisanswered, IsUntold, LacksAnswer}
 use Rattle.ua_client.specs.ClientPlace.{ClientPlace, StandsAt, id_at}
@@ -74,7 +74,7 @@ pub data Walk (b : Bool) (limits : Limits) (x : ClientChannel) (o : Option Clien
 -- the client may be called again
 abbrev pub goes_on : Option ClientFault → Bool
 goes_on None = true
-goes_on (Some f) = not (ends f)
+goes_on (Some f) = not (ends_client f)
 
 -- two channels stand in one place behind these octets
 pub record Place (x y : ClientChannel) (s : ClientPlace) (taken got : List ℕ) : Type 0 where
@@ -101,10 +101,10 @@ pub record Faults (o p : Option ClientFault) (sent other : List ℕ) : Type 0 wh
 no_requests : (requests g others : List Request) → requests ≡ [] → requests ≡ g ++ others → IsGroup g others → ⊥
 no_requests requests g others e d p = let some = p.0 in omega (arith, some, ap length (sym e ∙ d), length-append g others)
 
-pub not_going : (f : ClientFault) → not (ends f) ≡ true → ends f ≡ false
-not_going f e = by (ends f) refl
+pub not_going : (f : ClientFault) → not (ends_client f) ≡ true → ends_client f ≡ false
+not_going f e = by (ends_client f) refl
   where
-    by : (c : Bool) → ends f ≡ c → ends f ≡ false
+    by : (c : Bool) → ends_client f ≡ c → ends_client f ≡ false
     by true is = let k : false ≡ true = sym (ap not is) ∙ e in cc
     by false is = is
 
@@ -283,63 +283,63 @@ module _ (b : Bool) (limits : Limits) (x client : ClientChannel) (same : client_
 -- ---- where a group is not answered
 
 module _ (limits : Limits) (requests : List Request) (s : ClientPlace) (new : Connection) (sent taken more : List ℕ)
-    (same : client_limits (channel_of new) ≡ limits) where
+    (same : client_limits (channel_of_connection new) ≡ limits) where
   abbrev R : Rules ClientTold Why
   R = rules_at limits requests s
 
   abbrev whole : List ℕ
   whole = s.octets ++ (taken ++ more)
 
-  rules : client_rules_of (channel_of new) (asked_at s requests) ≡ R
+  rules : client_rules_of (channel_of_connection new) (asked_at s requests) ≡ R
   rules = ap (λ (l : Limits). client_rules l (asked_at s requests)) same
 
   parts : (s.octets ++ taken) ++ more ≡ whole
   parts = append_assoc s.octets taken more
 
   abbrev Ending : Bool → List Reply → ℕ → ClientFault → Type 0
-  Ending b kept place f = Broke b limits requests s (taken ++ more) (channel_of new) sent taken kept place f
+  Ending b kept place f = Broke b limits requests s (taken ++ more) (channel_of_connection new) sent taken kept place f
 
   ended_by : (b : Bool) (kept : List Reply) (place : ℕ) (f : ClientFault) (why : Why) → EndsBy f (Stopped why) → IsSentAt requests s sent
-      × EndsOn (channel_of new) (asked_at s requests) (s.octets ++ taken) s.told why (AreAwaited requests (id_at s))
+      × EndsOn (channel_of_connection new) (asked_at s requests) (s.octets ++ taken) s.told why (AreAwaited requests (id_at s))
       → ((told : List ClientTold) → ReadsAll R whole told (Stopped why) → Keeps b IsUntold requests (id_at s) told kept place) → Ending b kept place f
   ended_by b kept place f why by k keeps =
-      let all = ended_reads R (channel_of new) (asked_at s requests) (s.octets ++ taken) more whole (s.told ++ k.1.0) why rules parts k.1.1 in
+      let all = ended_reads R (channel_of_connection new) (asked_at s requests) (s.octets ++ taken) more whole (s.told ++ k.1.0) why rules parts k.1.1 in
       Waited (Stopped why) (ByFault by) k.0 (s.told ++ k.1.0) all k.1.2 (keeps (s.told ++ k.1.0) all)
 
   gone_by : (b : Bool) (kept : List Reply) (place : ℕ) (f : ClientFault) → WaitsBy f Going → more ≡ [] → IsSentAt requests s sent
-      × ClientGoesOn (channel_of new) (asked_at s requests) (s.octets ++ taken) s.told (AreAwaited requests (id_at s))
-      → ((told : List ClientTold) → ClientGoes (channel_of new) (asked_at s requests) (s.octets ++ taken) told
+      × ClientGoesOn (channel_of_connection new) (asked_at s requests) (s.octets ++ taken) s.told (AreAwaited requests (id_at s))
+      → ((told : List ClientTold) → ClientGoes (channel_of_connection new) (asked_at s requests) (s.octets ++ taken) told
       → Keeps b IsUntold requests (id_at s) told kept place) → Ending b kept place f
   gone_by b kept place f by none k keeps =
       Waited Going by k.0 (s.told ++ k.1.0)
-      (goes_reads R (channel_of new) (asked_at s requests) (s.octets ++ taken) whole (s.told ++ k.1.0) rules
+      (goes_reads R (channel_of_connection new) (asked_at s requests) (s.octets ++ taken) whole (s.told ++ k.1.0) rules
       (ap (λ (o : List ℕ). s.octets ++ o) (sym (ap (λ (o : List ℕ). taken ++ o) none ∙ append-nil taken))) k.1.1)
       k.1.2 (keeps (s.told ++ k.1.0) k.1.1)
 
-  missed_by : (b : Bool) (kept : List Reply) (place : ℕ) → IsSentAt requests s sent × ClientGoesOn (channel_of new) (asked_at s requests)
+  missed_by : (b : Bool) (kept : List Reply) (place : ℕ) → IsSentAt requests s sent × ClientGoesOn (channel_of_connection new) (asked_at s requests)
       (s.octets ++ taken) s.told (IsMisanswered requests (id_at s))
-      → ((told : List ClientTold) → ClientGoes (channel_of new) (asked_at s requests) (s.octets ++ taken) told
+      → ((told : List ClientTold) → ClientGoes (channel_of_connection new) (asked_at s requests) (s.octets ++ taken) told
       → Keeps b LacksAnswer requests (id_at s) told kept place) → Ending b kept place fault.UnknownResponse
   missed_by b kept place k keeps =
-      Missed refl k.0 (s.told ++ k.1.0) (goes_front R (channel_of new) (asked_at s requests) (s.octets ++ taken) more whole (s.told ++ k.1.0) rules parts k.1.1)
+      Missed refl k.0 (s.told ++ k.1.0) (goes_front R (channel_of_connection new) (asked_at s requests) (s.octets ++ taken) more whole (s.told ++ k.1.0) rules parts k.1.1)
       k.1.2 (keeps (s.told ++ k.1.0) k.1.1)
 
   -- what is kept is told of what was read
   keeps_ended : (why : Why) (kept : List Reply) (place : ℕ)
-      → (place ≡ length kept) × EndsOn (channel_of new) (asked_at s requests) (s.octets ++ taken) s.told why (IsFront IsUntold kept requests (id_at s))
+      → (place ≡ length kept) × EndsOn (channel_of_connection new) (asked_at s requests) (s.octets ++ taken) s.told why (IsFront IsUntold kept requests (id_at s))
       → (told : List ClientTold) → ReadsAll R whole told (Stopped why) → Keeps true IsUntold requests (id_at s) told kept place
   keeps_ended why kept place q told all =
       let same_told = all_once R whole (s.told ++ q.1.0) told (Stopped why) (Stopped why)
-      (ended_reads R (channel_of new) (asked_at s requests) (s.octets ++ taken) more whole (s.told ++ q.1.0) why rules parts q.1.1) all in
+      (ended_reads R (channel_of_connection new) (asked_at s requests) (s.octets ++ taken) more whole (s.told ++ q.1.0) why rules parts q.1.1) all in
       (q.0, subst (λ (ts : List ClientTold). IsFront IsUntold kept requests (id_at s) ts) same_told.0 q.1.2)
 
   keeps_gone : (Misses : Request → ℕ → List ClientTold → Type 0) (kept : List Reply) (place : ℕ)
-      → (place ≡ length kept) × ClientGoesOn (channel_of new) (asked_at s requests) (s.octets ++ taken) s.told (IsFront Misses kept requests (id_at s))
-      → (told : List ClientTold) → ClientGoes (channel_of new) (asked_at s requests) (s.octets ++ taken) told
+      → (place ≡ length kept) × ClientGoesOn (channel_of_connection new) (asked_at s requests) (s.octets ++ taken) s.told (IsFront Misses kept requests (id_at s))
+      → (told : List ClientTold) → ClientGoes (channel_of_connection new) (asked_at s requests) (s.octets ++ taken) told
       → Keeps true Misses requests (id_at s) told kept place
   keeps_gone Misses kept place q told g =
-      let here = goes_reads R (channel_of new) (asked_at s requests) (s.octets ++ taken) (s.octets ++ taken) (s.told ++ q.1.0) rules refl q.1.1 in
-      let there = goes_reads R (channel_of new) (asked_at s requests) (s.octets ++ taken) (s.octets ++ taken) told rules refl g in (
+      let here = goes_reads R (channel_of_connection new) (asked_at s requests) (s.octets ++ taken) (s.octets ++ taken) (s.told ++ q.1.0) rules refl q.1.1 in
+      let there = goes_reads R (channel_of_connection new) (asked_at s requests) (s.octets ++ taken) (s.octets ++ taken) told rules refl g in (
         q.0,
         subst (λ (ts : List ClientTold). IsFront Misses kept requests (id_at s) ts)
             (all_once R (s.octets ++ taken) (s.told ++ q.1.0) told Going Going here there).0 q.1.2,
@@ -406,17 +406,17 @@ module _ (b : Bool) (limits : Limits) (requests : List Request) (s : ClientPlace
       (prepend b limits x x same None s [] more [] [] [] 0 a.rounds (grouped_all a.groups a.sized) (Over refl refl refl refl refl refl a.at))
 
   -- behind groups that are, one is not
-  pub walk_broken : (new : Connection) → client_limits (channel_of new) ≡ limits
+  pub walk_broken : (new : Connection) → client_limits (channel_of_connection new) ≡ limits
       → (f : ClientFault) (k : BrokenAll requests s new sent taken f) (kept : List Reply) (place : ℕ)
-      → Broke b limits k.group k.behind (k.taken_then ++ more) (channel_of new) k.sent_then k.taken_then kept place f
-      → Walk b limits (channel_of new) (Some f) requests s (taken ++ more) sent taken (k.replies ++ kept) (length (all_of k.groups) + place)
+      → Broke b limits k.group k.behind (k.taken_then ++ more) (channel_of_connection new) k.sent_then k.taken_then kept place f
+      → Walk b limits (channel_of_connection new) (Some f) requests s (taken ++ more) sent taken (k.replies ++ kept) (length (all_of k.groups) + place)
   walk_broken new same f k kept place u =
       let one = last_group k.groups k.group k.sized in
-      walk_as b limits (channel_of new) (Some f) (all_of k.groups ++ (k.group ++ k.others)) requests s (k.taken_before ++ (k.taken_then ++ more))
+      walk_as b limits (channel_of_connection new) (Some f) (all_of k.groups ++ (k.group ++ k.others)) requests s (k.taken_before ++ (k.taken_then ++ more))
       (taken ++ more) (k.sent_before ++ k.sent_then) sent (k.taken_before ++ k.taken_then) taken
       (k.replies ++ kept) (k.replies ++ kept) (length (all_of k.groups) + place) (length (all_of k.groups) + place)
       (sym k.parts) (sym (ap (λ (o : List ℕ). o ++ more) k.taken_parts ∙ append_assoc k.taken_before k.taken_then more)) (sym k.sent_parts)
       (sym k.taken_parts) refl refl
-      (prepend b limits (channel_of new) (channel_of new) same (Some f) s (k.group ++ k.others) (k.taken_then ++ more) k.sent_then k.taken_then kept place
+      (prepend b limits (channel_of_connection new) (channel_of_connection new) same (Some f) s (k.group ++ k.others) (k.taken_then ++ more) k.sent_then k.taken_then kept place
       k.rounds (grouped_before k.groups k.group (k.group ++ k.others) k.sized)
       (Breaks f k.group k.others refl refl (one.0, one.1, k.full) u))

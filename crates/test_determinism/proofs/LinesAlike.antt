@@ -4,13 +4,13 @@ use Rattle.std.proofs.Common.{refl, sym, ◌∙◌, ap, subst, inl, inr}
 use Rattle.std.proofs.lemmas.List.{append_cancel_left}
 use Rattle.ua_channel.specs.Client.{SameClient, client_limits}
 use Rattle.ua_channel.specs.Line.{Traffic}
-use Rattle.ua_client.specs.Client.{IsLeft, IsReady, client_channel, connection_of, ends}
+use Rattle.ua_client.specs.Client.{IsLeft, IsReady, client_channel, connection_of, ends_client}
 use Rattle.ua_client.specs.Hearing.{MovesConnection, StopsAt, is_line_fault, most_reads, untaken_of}
 use Rattle.ua_client.specs.ClientPlace.{ClientPlace}
 use Rattle.ua_client.specs.declared.client.Client.{Client}
 use Rattle.ua_client.specs.declared.fault.ClientFault.{ClientFault}
 use Rattle.ua_client.specs.declared.fault.ClientFault.TheVariants as fault
-use Rattle.test_determinism.specs.Calling.{CallsAlike, ComesTo, LeavesBoth, StandBy, StandReady, line_failed}
+use Rattle.test_determinism.specs.Calling.{CallsAlike, ComesTo, LeavesBoth, StandBy, StandReady, line_failed_calling}
 use Rattle.test_determinism.specs.Calling.CallsAlike.{NoFault, AtRead, AtWrite}
 use Rattle.test_determinism.specs.Lines.{ComeAlike, WroteAlike}
 use Rattle.test_determinism.specs.Pinned.{HadMemory}
@@ -38,7 +38,7 @@ err_fault : {A : Type 0} (a : Result A ClientFault) (f : ClientFault) → IsErrO
 err_fault a f e = ap fault_of e
 
 -- whether a call of the line failed
-line_of : {A : Type 0} (a : Result A ClientFault) (f : ClientFault) → fault_of a ≡ Some f → line_failed a ≡ is_line_fault f
+line_of : {A : Type 0} (a : Result A ClientFault) (f : ClientFault) → fault_of a ≡ Some f → line_failed_calling a ≡ is_line_fault f
 line_of (Ok v) f e = none_option f e
 line_of (Err g) f e = ap is_line_fault (same_option g f e)
 
@@ -52,12 +52,12 @@ leaves : {A : Type 0} (a b : Result A ClientFault) (x y : Client) (after later :
 leaves (Ok v) (Ok w) x y after later e left left_too stands = stands refl left left_too
 leaves (Ok v) (Err g) x y after later e left left_too stands = none_option g e
 leaves (Err f) (Ok w) x y after later e left left_too stands = none_option f (sym e)
-leaves (Err f) (Err g) x y after later e left left_too stands = by (ends f) refl
+leaves (Err f) (Err g) x y after later e left left_too stands = by (ends_client f) refl
   where
-    too : y.is_done ≡ ends f
-    too = left_too ∙ ap ends (sym (same_option f g e))
+    too : y.is_done ≡ ends_client f
+    too = left_too ∙ ap ends_client (sym (same_option f g e))
 
-    by : (c : Bool) → ends f ≡ c → StandBy (ends f) x y after later
+    by : (c : Bool) → ends_client f ≡ c → StandBy (ends_client f) x y after later
     by true is = subst (λ (d : Bool). StandBy d x y after later) (sym is) (record { first = left ∙ is; second = too ∙ is })
     by false is = subst (λ (d : Bool). StandBy d x y after later) (sym is) (stands (ap not is) (left ∙ is) (too ∙ is))
 
@@ -124,7 +124,7 @@ module _ {A : Type 0} (one two x y : Client) (a b : Result A ClientFault) (line 
   unwritten : (f : ClientFault) → is_line_fault f ≡ false → f ≡ fault.Write → ⊥
   unwritten f none is = differ (sym (ap is_line_fault is) ∙ none)
 
-  no_fault : line_failed a ≡ false → line_failed b ≡ false → Both
+  no_fault : line_failed_calling a ≡ false → line_failed_calling b ≡ false → Both
   no_fault f g = record {
     more = untaken_of (connection_of x) ++ first.last.coming [];
     rest = untaken_of (connection_of y) ++ second.last.coming [];

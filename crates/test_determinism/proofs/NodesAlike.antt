@@ -1,7 +1,7 @@
 -- Answers of nodes that are added twice.
 use Rattle.std.specs.Prelude.{◌≡◌, ℕ, zero, suc, ◌<◌, ◌⊎◌, List, length, Option, Result, Ok, Err, OnOk}
 use Rattle.std.proofs.Common.{refl, sym, ◌∙◌, ap, subst, arith, inl, inr}
-use Rattle.ua_nodes.specs.Within.{IsWithin, Passes, with_first}
+use Rattle.ua_nodes.specs.Within.{IsWithin, Passes, with_octets_of_first}
 
 -- so many are added, or fewer
 data Order (n m : ℕ) : Type 0 where
@@ -29,7 +29,7 @@ not_fewer most octets_of things old new other a b less (inr passes) = b.first a.
 by_order : {A : Type 0} (most : Option ℕ) (octets_of : A → List ℕ) (things : List A) (old new other : List ℕ) (a : IsWithin most octets_of things old new)
     (b : IsWithin most octets_of things old other) → Order a.count b.count → new ≡ other
 by_order most octets_of things old new other a b (Less h) = absurd (not_fewer most octets_of things old new other a b h a.ends)
-by_order most octets_of things old new other a b (Same e) = a.are ∙ (ap (with_first octets_of things old) e ∙ sym b.are)
+by_order most octets_of things old new other a b (Same e) = a.are ∙ (ap (with_octets_of_first octets_of things old) e ∙ sym b.are)
 by_order most octets_of things old new other a b (More h) = absurd (not_fewer most octets_of things old other new b a h b.ends)
 
 -- they are added up to one place

@@ -14,16 +14,16 @@ use Rattle.ua_channel.specs.ClientTold.ClientTold.{Agreed, Opened}
 use Rattle.ua_channel.specs.Line.{Traffic}
 use Rattle.ua_channel.specs.declared.client.channel.ClientChannel.{ClientChannel}
 use Rattle.ua_channel_laws.proofs.ClientReadings.{goes_behind}
-use Rattle.ua_client.specs.Client.{IsFresh, IsOver, OpensClient, OpensNothing, connection_of}
-use Rattle.ua_client.specs.Hearing.{BreaksOff, StopsAt, channel_of, most_reads, untaken_of}
-use Rattle.ua_client.specs.Opening.{BreaksWaiting, IsOpened, Opens, OpensAt, hello_octets, open_octets}
+use Rattle.ua_client.specs.Client.{IsFresh, IsOpenedOver, OpensClient, OpensNothing, connection_of}
+use Rattle.ua_client.specs.Hearing.{BreaksOff, StopsAt, channel_of_connection, most_reads, untaken_of}
+use Rattle.ua_client.specs.Opening.{BreaksWaiting, IsOpened, Opens, OpensAt, hello_octets, open_frame_octets}
 use Rattle.ua_client.specs.Renewing.{IsSettled}
 use Rattle.ua_client.specs.ClientPlace.{ClientPlace, StandsAt}
 use Rattle.ua_client.specs.declared.client.Client.{Client}
 use Rattle.ua_client.specs.declared.connection.Connection.{Connection}
 use Rattle.ua_client.specs.declared.fault.ClientFault.{ClientFault}
 use Rattle.ua_client.specs.declared.fault.ClientFault.TheVariants as fault
-use Rattle.test_determinism.specs.Calling.{CallsAlike, ComesTo, OpenAlike, StandBy, line_failed}
+use Rattle.test_determinism.specs.Calling.{CallsAlike, ComesTo, OpenAlike, StandBy, line_failed_calling}
 use Rattle.test_determinism.specs.Calling.CallsAlike.{NoFault, AtRead, AtWrite}
 use Rattle.test_determinism.specs.Lines.{LinesAlike, WroteAlike}
 use Rattle.test_determinism.specs.Pinned.{HadMemory}
@@ -62,40 +62,40 @@ data OpensTo {A : Type 0} (R : Rules ClientTold Why) (whole hello opening : List
 module _ {A : Type 0} (R : Rules ClientTold Why) (limits : Limits) (url : Option (List ℕ)) (old new : Connection) (moment : DateTime)
     (line after : Option Traffic) (coming : List ℕ) (t : Traffic) (line_is : line ≡ Some t) (brings : (more : List ℕ)
     → untaken_of old ++ t.coming more ≡ coming) (few : length coming < 0xFFFF_FFFF_FFFF_FFFF)
-    (a : Result A ClientFault) (h : Opens moment old new line after a) (rules : client_rules_of (channel_of new) [] ≡ R) where
+    (a : Result A ClientFault) (h : Opens moment old new line after a) (rules : client_rules_of (channel_of_connection new) [] ≡ R) where
   abbrev hello : List ℕ
-  hello = hello_octets (client_limits (channel_of old)) (url_of (channel_of old))
+  hello = hello_octets (client_limits (channel_of_connection old)) (url_of (channel_of_connection old))
 
   r : Ran new h.sent h.moves.taken line after coming
   r = ran old new h.sent line after coming t h.moves line_is brings
 
   abbrev To : Type 0
-  To = OpensTo R coming hello (open_octets moment) (channel_of new) h.sent h.moves.taken a
+  To = OpensTo R coming hello (open_frame_octets moment) (channel_of_connection new) h.sent h.moves.taken a
 
-  ended : (f : ClientFault) (why : Why) (told : List ClientTold) → EndsBy f (Stopped why) → a ≡ Err f → SaidAt hello (open_octets moment) h.sent told
-      → ClientEnded (channel_of new) [] h.moves.taken told why → To
+  ended : (f : ClientFault) (why : Why) (told : List ClientTold) → EndsBy f (Stopped why) → a ≡ Err f → SaidAt hello (open_frame_octets moment) h.sent told
+      → ClientEnded (channel_of_connection new) [] h.moves.taken told why → To
   ended f why told e p said w =
       Waited f (Stopped why) p e told said
-      (ended_reads R (channel_of new) [] h.moves.taken (untaken_of new ++ r.last.coming []) coming told why rules r.parts w)
+      (ended_reads R (channel_of_connection new) [] h.moves.taken (untaken_of new ++ r.last.coming []) coming told why rules r.parts w)
 
   ran_out : (told : List ClientTold) → a ≡ Err fault.Ended → StopsAt {A = A} most_reads most_reads h.moves.got new after (Err fault.Ended)
-      → SaidAt hello (open_octets moment) h.sent told → ClientGoes (channel_of new) [] h.moves.taken told → To
+      → SaidAt hello (open_frame_octets moment) h.sent told → ClientGoes (channel_of_connection new) [] h.moves.taken told → To
   ran_out told p stops said g = Waited fault.Ended Going p (ByEnd refl refl) told said
-      (goes_reads R (channel_of new) [] h.moves.taken coming told rules (ended_all new h.sent h.moves.taken line after coming r stops.0 stops.1) g)
+      (goes_reads R (channel_of_connection new) [] h.moves.taken coming told rules (ended_all new h.sent h.moves.taken line after coming r stops.0 stops.1) g)
 
   waited : (f : ClientFault) (why : Why) → EndsBy f (Stopped why) → a ≡ Err f
-      → ((told : List ClientTold) → BreaksOff f (channel_of new) [] h.moves.taken told → ClientEnded (channel_of new) [] h.moves.taken told why)
-      → BreaksWaiting hello (open_octets moment) (channel_of new) h.sent h.moves.taken f → To
+      → ((told : List ClientTold) → BreaksOff f (channel_of_connection new) [] h.moves.taken told → ClientEnded (channel_of_connection new) [] h.moves.taken told why)
+      → BreaksWaiting hello (open_frame_octets moment) (channel_of_connection new) h.sent h.moves.taken f → To
   waited f why e p of (inl w) = ended f why [] e p (inl (w.0, refl)) (of [] w.1)
   waited f why e p of (inr w) = ended f why (Agreed w.1.0 ∷ []) e p (inr (w.1.0, w.0, refl)) (of (Agreed w.1.0 ∷ []) w.1.1)
 
   waited_out : a ≡ Err fault.Ended → StopsAt {A = A} most_reads most_reads h.moves.got new after (Err fault.Ended)
-      → BreaksWaiting hello (open_octets moment) (channel_of new) h.sent h.moves.taken fault.Ended → To
+      → BreaksWaiting hello (open_frame_octets moment) (channel_of_connection new) h.sent h.moves.taken fault.Ended → To
   waited_out p stops (inl w) = ran_out [] p stops (inl (w.0, refl)) w.1
   waited_out p stops (inr w) = ran_out (Agreed w.1.0 ∷ []) p stops (inr (w.1.0, w.0, refl)) w.1.1
 
-  opens_by : (b : Result A ClientFault) → a ≡ b → OpensAt hello (open_octets moment) (channel_of new) h.sent h.moves.taken b
-      → StopsAt most_reads most_reads h.moves.got new after b → line_failed b ≡ false → ¬ (IsErrOf b fault.OutOfMemory) → To
+  opens_by : (b : Result A ClientFault) → a ≡ b → OpensAt hello (open_frame_octets moment) (channel_of_connection new) h.sent h.moves.taken b
+      → StopsAt most_reads most_reads h.moves.got new after b → line_failed_calling b ≡ false → ¬ (IsErrOf b fault.OutOfMemory) → To
   opens_by (Ok v) e k stops unbroken had = Done v e k.0 k.1
   opens_by (Err fault.Write) e k stops unbroken had = absurd (true_false unbroken)
   opens_by (Err fault.Read) e k stops unbroken had = absurd (true_false unbroken)
@@ -106,17 +106,17 @@ module _ {A : Type 0} (R : Rules ClientTold Why) (limits : Limits) (url : Option
   opens_by (Err (fault.Refused code)) e k stops unbroken had = waited (fault.Refused code) (ours code.code) (ByOurs code refl refl) e (λ told w. w) k
   opens_by (Err f) e k stops unbroken had = absurd k
 
-  opens_to : ClientGoes (channel_of old) [] [] [] → line_failed a ≡ false → ¬ (IsErrOf a fault.OutOfMemory) → To
+  opens_to : ClientGoes (channel_of_connection old) [] [] [] → line_failed_calling a ≡ false → ¬ (IsErrOf a fault.OutOfMemory) → To
   opens_to goes unbroken had = opens_by a refl (h.answers goes) h.stops unbroken had
 
   -- what was told where a read failed
-  at_read : ClientGoes (channel_of old) [] [] [] → a ≡ Err fault.Read → (told : List ClientTold) × SaidAt hello (open_octets moment) h.sent told
-      × ClientGoes (channel_of new) [] h.moves.taken told × (untaken_of new ≡ [])
-  at_read goes e = by (subst (λ (b : Result A ClientFault). OpensAt hello (open_octets moment) (channel_of new) h.sent h.moves.taken b) e (h.answers goes))
+  at_read : ClientGoes (channel_of_connection old) [] [] [] → a ≡ Err fault.Read → (told : List ClientTold) × SaidAt hello (open_frame_octets moment) h.sent told
+      × ClientGoes (channel_of_connection new) [] h.moves.taken told × (untaken_of new ≡ [])
+  at_read goes e = by (subst (λ (b : Result A ClientFault). OpensAt hello (open_frame_octets moment) (channel_of_connection new) h.sent h.moves.taken b) e (h.answers goes))
       (subst (λ (b : Result A ClientFault). StopsAt most_reads most_reads h.moves.got new after b) e h.stops)
     where
-      by : BreaksWaiting hello (open_octets moment) (channel_of new) h.sent h.moves.taken fault.Read → untaken_of new ≡ [] → (told : List ClientTold)
-          × SaidAt hello (open_octets moment) h.sent told × ClientGoes (channel_of new) [] h.moves.taken told × (untaken_of new ≡ [])
+      by : BreaksWaiting hello (open_frame_octets moment) (channel_of_connection new) h.sent h.moves.taken fault.Read → untaken_of new ≡ [] → (told : List ClientTold)
+          × SaidAt hello (open_frame_octets moment) h.sent told × ClientGoes (channel_of_connection new) [] h.moves.taken told × (untaken_of new ≡ [])
       by (inl w) none = ([], inl (w.0, refl), w.1, none)
       by (inr w) none = (Agreed w.1.0 ∷ [], inr (w.1.0, w.0, refl), w.1.1, none)
 
@@ -137,10 +137,10 @@ module _ (settled : SettledBehind) (limits : Limits) (url : Option (List ℕ)) (
   abbrev R : Rules ClientTold Why
   R = client_rules limits []
 
-  mine : client_rules_of (channel_of h.last) [] ≡ R
+  mine : client_rules_of (channel_of_connection h.last) [] ≡ R
   mine = ap (λ (l : Limits). client_rules l []) (sym h.opens.keeps.same.limits ∙ h.fresh.limits_are)
 
-  theirs : client_rules_of (channel_of k.last) [] ≡ R
+  theirs : client_rules_of (channel_of_connection k.last) [] ≡ R
   theirs = ap (λ (l : Limits). client_rules l []) (sym k.opens.keeps.same.limits ∙ k.fresh.limits_are)
 
   brings : (more : List ℕ) → untaken_of h.begun ++ lines.first.coming more ≡ coming
@@ -161,8 +161,8 @@ module _ (settled : SettledBehind) (limits : Limits) (url : Option (List ℕ)) (
   abbrev hi : List ℕ
   hi = hello_octets limits url
 
-  same_hello : (x : Connection) → IsFresh limits url x → hello_octets (client_limits (channel_of x)) (url_of (channel_of x)) ≡ hi
-  same_hello x f = ap (λ (l : Limits). hello_octets l (url_of (channel_of x))) f.limits_are ∙ ap (hello_octets limits) f.url_is
+  same_hello : (x : Connection) → IsFresh limits url x → hello_octets (client_limits (channel_of_connection x)) (url_of (channel_of_connection x)) ≡ hi
+  same_hello x f = ap (λ (l : Limits). hello_octets l (url_of (channel_of_connection x))) f.limits_are ∙ ap (hello_octets limits) f.url_is
 
   told_by : (x : ClientChannel) (taken more : List ℕ) (o : IsOpened x taken) → client_rules_of x [] ≡ R → taken ++ more ≡ coming
       → Tells R [] coming (Agreed o.ack ∷ []) (length taken) (Opened o.channel o.token)
@@ -191,20 +191,20 @@ module _ (settled : SettledBehind) (limits : Limits) (url : Option (List ℕ)) (
   same_taken x y o v (Around more e) = absurd (omega (arith, ap length e, length-append ((Agreed v.ack ∷ []) ++ Opened v.channel v.token ∷ []) more))
 
   stand_both : (x y : Client) → connection_of x ≡ h.last → connection_of y ≡ k.last → x.is_done ≡ false → y.is_done ≡ false
-      → IsOpened (channel_of h.last) h.opens.moves.taken → IsOpened (channel_of k.last) k.opens.moves.taken → StandBy false x y after later
+      → IsOpened (channel_of_connection h.last) h.opens.moves.taken → IsOpened (channel_of_connection k.last) k.opens.moves.taken → StandBy false x y after later
   stand_both x y is is_too ready ready_too o v =
-      let taken : h.opens.moves.taken ≡ k.opens.moves.taken = same_taken (channel_of h.last) (channel_of k.last) o v
+      let taken : h.opens.moves.taken ≡ k.opens.moves.taken = same_taken (channel_of_connection h.last) (channel_of_connection k.last) o v
       (tells_tells R [] coming (Agreed o.ack ∷ []) (Agreed v.ack ∷ []) (length h.opens.moves.taken) (length k.opens.moves.taken) (Opened o.channel o.token)
       (Opened v.channel v.token)
-      (told_by (channel_of h.last) h.opens.moves.taken (untaken_of h.last ++ first.last.coming []) o mine first.parts)
-      (told_by (channel_of k.last) k.opens.moves.taken (untaken_of k.last ++ second.last.coming []) v theirs second.parts)) in
-      let s = settled (channel_of h.last) h.opens.moves.taken o in
-      let t = settled (channel_of k.last) k.opens.moves.taken v in
-      let limits_same : client_limits (channel_of h.last) ≡ client_limits (channel_of k.last) = (sym h.opens.keeps.same.limits ∙ h.fresh.limits_are)
+      (told_by (channel_of_connection h.last) h.opens.moves.taken (untaken_of h.last ++ first.last.coming []) o mine first.parts)
+      (told_by (channel_of_connection k.last) k.opens.moves.taken (untaken_of k.last ++ second.last.coming []) v theirs second.parts)) in
+      let s = settled (channel_of_connection h.last) h.opens.moves.taken o in
+      let t = settled (channel_of_connection k.last) k.opens.moves.taken v in
+      let limits_same : client_limits (channel_of_connection h.last) ≡ client_limits (channel_of_connection k.last) = (sym h.opens.keeps.same.limits ∙ h.fresh.limits_are)
       ∙ sym (sym k.opens.keeps.same.limits ∙ k.fresh.limits_are) in
       let number : s.0.number ≡ t.0.number = sym s.3.number_is
       ∙ ((h.opens.keeps.next ∙ h.fresh.next_is) ∙ (sym (k.opens.keeps.next ∙ k.fresh.next_is) ∙ t.3.number_is)) in
-      let place : s.0 ≡ t.0 = site_once (channel_of h.last) (channel_of k.last) s.0 t.0 s.3 t.3 limits_same (s.2 ∙ sym t.2) (s.1 ∙ (taken ∙ sym t.1)) number in
+      let place : s.0 ≡ t.0 = site_once (channel_of_connection h.last) (channel_of_connection k.last) s.0 t.0 s.3 t.3 limits_same (s.2 ∙ sym t.2) (s.1 ∙ (taken ∙ sym t.1)) number in
       let ahead : untaken_of h.last ++ first.last.coming [] ≡ untaken_of k.last ++ second.last.coming [] =
       append_cancel_left h.opens.moves.taken _ _
       (first.parts ∙ (sym second.parts ∙ ap (λ (p : List ℕ). p ++ (untaken_of k.last ++ second.last.coming [])) (sym taken))) in (
@@ -213,14 +213,14 @@ module _ (settled : SettledBehind) (limits : Limits) (url : Option (List ℕ)) (
         record {
           ready = ready;
           ready_too = ready_too;
-          first = subst (λ (c : Connection). StandsAt (channel_of c) s.0) (sym is) s.3;
-          second = subst (λ (c : Connection). StandsAt (channel_of c) s.0) (sym is_too) (subst (StandsAt (channel_of k.last)) (sym place) t.3);
+          first = subst (λ (c : Connection). StandsAt (channel_of_connection c) s.0) (sym is) s.3;
+          second = subst (λ (c : Connection). StandsAt (channel_of_connection c) s.0) (sym is_too) (subst (StandsAt (channel_of_connection k.last)) (sym place) t.3);
           same = record {
-            limits = ap (λ (c : Connection). client_limits (channel_of c)) is
-                ∙ (limits_same ∙ sym (ap (λ (c : Connection). client_limits (channel_of c)) is_too));
-            url = ap (λ (c : Connection). url_of (channel_of c)) is
+            limits = ap (λ (c : Connection). client_limits (channel_of_connection c)) is
+                ∙ (limits_same ∙ sym (ap (λ (c : Connection). client_limits (channel_of_connection c)) is_too));
+            url = ap (λ (c : Connection). url_of (channel_of_connection c)) is
                 ∙ ((sym h.opens.keeps.same.url ∙ h.fresh.url_is)
-                ∙ (sym (sym k.opens.keeps.same.url ∙ k.fresh.url_is) ∙ sym (ap (λ (c : Connection). url_of (channel_of c)) is_too)));
+                ∙ (sym (sym k.opens.keeps.same.url ∙ k.fresh.url_is) ∙ sym (ap (λ (c : Connection). url_of (channel_of_connection c)) is_too)));
           };
           comes = ran_comes x h.last h.opens.sent h.opens.moves.taken line after coming first is;
           comes_too = subst (ComesTo y later) (sym ahead) (ran_comes y k.last k.opens.sent k.opens.moves.taken other later coming second is_too);
@@ -229,11 +229,11 @@ module _ (settled : SettledBehind) (limits : Limits) (url : Option (List ℕ)) (
         },
       )
 
-  opened_by : (c d : Result Client ClientFault) (x y : Client) → a ≡ c → b ≡ d → c ≡ Ok x → d ≡ Ok y → IsOpened (channel_of h.last) h.opens.moves.taken
-      → IsOpened (channel_of k.last) k.opens.moves.taken → OpenAlike a b after later
+  opened_by : (c d : Result Client ClientFault) (x y : Client) → a ≡ c → b ≡ d → c ≡ Ok x → d ≡ Ok y → IsOpened (channel_of_connection h.last) h.opens.moves.taken
+      → IsOpened (channel_of_connection k.last) k.opens.moves.taken → OpenAlike a b after later
   opened_by c d x y e i p q o v =
-      let over = subst (λ (z : Result Client ClientFault). IsOver z h.last) (e ∙ p) h.over in
-      let over_too = subst (λ (z : Result Client ClientFault). IsOver z k.last) (i ∙ q) k.over in
+      let over = subst (λ (z : Result Client ClientFault). IsOpenedOver z h.last) (e ∙ p) h.over in
+      let over_too = subst (λ (z : Result Client ClientFault). IsOpenedOver z k.last) (i ∙ q) k.over in
       subst (λ (z : Result Client ClientFault). OpenAlike z b after later) (sym (e ∙ p))
       (subst (λ (z : Result Client ClientFault). OpenAlike (Ok x) z after later) (sym (i ∙ q))
       (stand_both x y over.0 over_too.0 over.1 over_too.1 o v))
@@ -243,33 +243,33 @@ module _ (settled : SettledBehind) (limits : Limits) (url : Option (List ℕ)) (
       (subst (λ (z : Result Client ClientFault). OpenAlike (Err f) z after later) (sym d) same)
 
   abbrev ToFirst : Type 0
-  ToFirst = OpensTo R coming (hello_octets (client_limits (channel_of h.begun)) (url_of (channel_of h.begun))) (open_octets moment)
-      (channel_of h.last) h.opens.sent h.opens.moves.taken a
+  ToFirst = OpensTo R coming (hello_octets (client_limits (channel_of_connection h.begun)) (url_of (channel_of_connection h.begun))) (open_frame_octets moment)
+      (channel_of_connection h.last) h.opens.sent h.opens.moves.taken a
 
   abbrev ToSecond : Type 0
-  ToSecond = OpensTo R coming (hello_octets (client_limits (channel_of k.begun)) (url_of (channel_of k.begun))) (open_octets moment)
-      (channel_of k.last) k.opens.sent k.opens.moves.taken b
+  ToSecond = OpensTo R coming (hello_octets (client_limits (channel_of_connection k.begun)) (url_of (channel_of_connection k.begun))) (open_frame_octets moment)
+      (channel_of_connection k.last) k.opens.sent k.opens.moves.taken b
 
-  said_both : (told also : List ClientTold) → told ≡ also → SaidAt (hello_octets (client_limits (channel_of h.begun)) (url_of (channel_of h.begun)))
-      (open_octets moment) h.opens.sent told → SaidAt (hello_octets (client_limits (channel_of k.begun)) (url_of (channel_of k.begun)))
-      (open_octets moment) k.opens.sent also → h.opens.sent ≡ k.opens.sent
+  said_both : (told also : List ClientTold) → told ≡ also → SaidAt (hello_octets (client_limits (channel_of_connection h.begun)) (url_of (channel_of_connection h.begun)))
+      (open_frame_octets moment) h.opens.sent told → SaidAt (hello_octets (client_limits (channel_of_connection k.begun)) (url_of (channel_of_connection k.begun)))
+      (open_frame_octets moment) k.opens.sent also → h.opens.sent ≡ k.opens.sent
   said_both told also e p q =
-      said_once hi (open_octets moment) h.opens.sent k.opens.sent told
-      (subst (λ (o : List ℕ). SaidAt o (open_octets moment) h.opens.sent told) (same_hello h.begun h.fresh) p)
-      (subst (λ (t : List ClientTold). SaidAt hi (open_octets moment) k.opens.sent t) (sym e)
-      (subst (λ (o : List ℕ). SaidAt o (open_octets moment) k.opens.sent also) (same_hello k.begun k.fresh) q))
+      said_once hi (open_frame_octets moment) h.opens.sent k.opens.sent told
+      (subst (λ (o : List ℕ). SaidAt o (open_frame_octets moment) h.opens.sent told) (same_hello h.begun h.fresh) p)
+      (subst (λ (t : List ClientTold). SaidAt hi (open_frame_octets moment) k.opens.sent t) (sym e)
+      (subst (λ (o : List ℕ). SaidAt o (open_frame_octets moment) k.opens.sent also) (same_hello k.begun k.fresh) q))
 
   both : ToFirst → ToSecond → OpenedOnce a b line after other later
   both (Done x e sent o) (Done y d also v) = record {
     answers = opened_by a b x y refl refl e d o v;
-    written = wrote_both (sent ∙ (ap (λ (t : List ℕ). t ++ open_octets moment) (same_hello h.begun h.fresh ∙ sym (same_hello k.begun k.fresh)) ∙ sym also));
+    written = wrote_both (sent ∙ (ap (λ (t : List ℕ). t ++ open_frame_octets moment) (same_hello h.begun h.fresh ∙ sym (same_hello k.begun k.fresh)) ∙ sym also));
   }
   both (Done x e sent o) (Waited f c d by told said all) =
-      absurd (never_waited (channel_of h.last) h.opens.moves.taken (untaken_of h.last ++ first.last.coming []) o mine first.parts c told
-      (said_few _ (open_octets moment) k.opens.sent told said) all)
+      absurd (never_waited (channel_of_connection h.last) h.opens.moves.taken (untaken_of h.last ++ first.last.coming []) o mine first.parts c told
+      (said_few _ (open_frame_octets moment) k.opens.sent told said) all)
   both (Waited f c e by told said all) (Done y d also v) =
-      absurd (never_waited (channel_of k.last) k.opens.moves.taken (untaken_of k.last ++ second.last.coming []) v theirs second.parts c told
-      (said_few _ (open_octets moment) h.opens.sent told said) all)
+      absurd (never_waited (channel_of_connection k.last) k.opens.moves.taken (untaken_of k.last ++ second.last.coming []) v theirs second.parts c told
+      (said_few _ (open_frame_octets moment) h.opens.sent told said) all)
   both (Waited f c e by told said all) (Waited g i d by_too also said_too all_too) =
       let same = all_once R coming told also c i all all_too in
       record { answers = failed_by f g e d (one_fault f g c i by by_too same.1); written = wrote_both (said_both told also same.0 said said_too) }
@@ -285,8 +285,8 @@ module _ (settled : SettledBehind) (limits : Limits) (url : Option (List ℕ)) (
       let taken = read_same h.last k.last h.opens.sent k.opens.sent h.opens.moves.taken k.opens.moves.taken line after other later coming first second p.3 q.3 c
       in
       let told =
-      (all_once R k.opens.moves.taken p.0 q.0 Going Going (goes_reads R (channel_of h.last) [] h.opens.moves.taken k.opens.moves.taken p.0 mine taken p.2)
-      (goes_reads R (channel_of k.last) [] k.opens.moves.taken k.opens.moves.taken q.0 theirs refl q.2)).0 in
+      (all_once R k.opens.moves.taken p.0 q.0 Going Going (goes_reads R (channel_of_connection h.last) [] h.opens.moves.taken k.opens.moves.taken p.0 mine taken p.2)
+      (goes_reads R (channel_of_connection k.last) [] k.opens.moves.taken k.opens.moves.taken q.0 theirs refl q.2)).0 in
       record { answers = failed_by fault.Read fault.Read f g refl; written = wrote_both (said_both p.0 q.0 told p.1 q.1) }
   by_faults (AtWrite f g w) = record { answers = failed_by fault.Write fault.Write f g refl; written = w }
 

@@ -16,8 +16,8 @@ use Rattle.ua_channel.specs.Line.{Traffic}
 use Rattle.ua_channel.specs.Received.{Received, received}
 use Rattle.ua_channel.specs.declared.client.channel.ClientChannel.{ClientChannel}
 use Rattle.ua_client.specs.Carried.{Carries}
-use Rattle.ua_client.specs.Client.{Closes, ClosesAt, IsDone, IsLeft, client_channel, closing_at, connection_of, ends}
-use Rattle.ua_client.specs.Hearing.{StopsAt, channel_of, most_reads, untaken_of}
+use Rattle.ua_client.specs.Client.{Closes, ClosesAt, HasFailedOrClosed, IsLeft, client_channel, closing_at, connection_of, ends_client}
+use Rattle.ua_client.specs.Hearing.{StopsAt, channel_of_connection, most_reads, untaken_of}
 use Rattle.ua_client.specs.Opening.{GoesWithout, EndsWithout}
 use Rattle.ua_client.specs.Renewing.{IsRefusal, IsRenewed, Renews, RenewsAt, asks_renewed, is_renewed, refused_by, renewal_at}
 use Rattle.ua_client.specs.ClientPlace.{ClientPlace, StandsAt}
@@ -25,9 +25,9 @@ use Rattle.ua_client.specs.declared.client.Client.{Client}
 use Rattle.ua_client.specs.declared.connection.Connection.{Connection}
 use Rattle.ua_client.specs.declared.fault.ClientFault.{ClientFault}
 use Rattle.ua_client.specs.declared.fault.ClientFault.TheVariants as fault
-use Rattle.test_determinism.specs.Calling.{CallsAlike, ComesTo, LeavesBoth, StandBy, StandReady, line_failed}
+use Rattle.test_determinism.specs.Calling.{CallsAlike, ComesTo, LeavesBoth, StandBy, StandReady, line_failed_calling}
 use Rattle.test_determinism.specs.Calling.CallsAlike.{NoFault, AtRead, AtWrite}
-use Rattle.test_determinism.specs.Lines.{Wrote, WroteAlike}
+use Rattle.test_determinism.specs.Lines.{WroteExactly, WroteAlike}
 use Rattle.test_determinism.specs.Pinned.{HadMemory}
 use Rattle.test_determinism.proofs.CallsAlike.{EndsBy, Ran, behind_parts, both_wrote, comes_at, ended_all, ended_reads}
 use Rattle.test_determinism.proofs.CallsAlike.{few_reads, goes_front, goes_reads, one_fault, ran, ran_comes, same_rules}
@@ -51,7 +51,7 @@ true_false e = cc
 abbrev ClosesTo : ClientPlace → DateTime → List ℕ → Result (Unit {0}) ClientFault → Type 0
 ClosesTo s moment sent a = (a ≡ Ok tt) × (sent ≡ closing_at s moment)
 
-closes_to : (s : ClientPlace) (moment : DateTime) (sent : List ℕ) (a : Result (Unit {0}) ClientFault) → ClosesAt s moment sent a → line_failed a ≡ false
+closes_to : (s : ClientPlace) (moment : DateTime) (sent : List ℕ) (a : Result (Unit {0}) ClientFault) → ClosesAt s moment sent a → line_failed_calling a ≡ false
     → ¬ (IsErrOf a fault.OutOfMemory) → ClosesTo s moment sent a
 closes_to s moment sent (Ok u) h unbroken had = (refl, h)
 closes_to s moment sent (Err fault.Write) h unbroken had = absurd (true_false unbroken)
@@ -83,10 +83,10 @@ closed_once one two moment a b line after other later s coming stand had faults 
     both e = record {
       sent = h.sent;
       first = wrote line after p.0 first.after h.sent p.1 first.is first.holds.written;
-      second = subst (λ (o : List ℕ). Wrote other later o) (sym e) (wrote other later q.0 second.after k.sent q.1 second.is second.holds.written);
+      second = subst (λ (o : List ℕ). WroteExactly other later o) (sym e) (wrote other later q.0 second.after k.sent q.1 second.is second.holds.written);
     }
 
-    unfailed : line_failed a ≡ false → line_failed b ≡ false → ClosedOnce a b line after other later
+    unfailed : line_failed_calling a ≡ false → line_failed_calling b ≡ false → ClosedOnce a b line after other later
     unfailed f g =
         let x = closes_to s moment h.sent a (h.answers s stand.first) f had.first in
         let y = closes_to s moment k.sent b (k.answers s stand.second) g had.second in
@@ -136,7 +136,7 @@ data RenewsTo (R : Rules ClientTold Why) (whole : List ℕ) (s : ClientPlace) (m
 
 module _ (R : Rules ClientTold Why) (old new : Connection) (moment : DateTime) (s : ClientPlace) (line after : Option Traffic) (coming : List ℕ) (t : Traffic)
     (line_is : line ≡ Some t) (brings : (more : List ℕ) → untaken_of old ++ t.coming more ≡ coming) (few : length (s.octets ++ coming) < 0xFFFF_FFFF_FFFF_FFFF)
-    (a : Result (Unit {0}) ClientFault) (h : Renews moment old new line after a) (rules : client_rules_of (channel_of new) (asks_renewed s) ≡ R) where
+    (a : Result (Unit {0}) ClientFault) (h : Renews moment old new line after a) (rules : client_rules_of (channel_of_connection new) (asks_renewed s) ≡ R) where
   r : Ran new h.sent h.moves.taken line after coming
   r = ran old new h.sent line after coming t h.moves line_is brings
 
@@ -144,24 +144,24 @@ module _ (R : Rules ClientTold Why) (old new : Connection) (moment : DateTime) (
   parts = behind_parts s.octets h.moves.taken (untaken_of new ++ r.last.coming []) coming r.parts
 
   broken : (f : ClientFault) (why : Why) → EndsBy f (Stopped why) → a ≡ Err f → (h.sent ≡ renewal_at s moment)
-      × EndsWithout is_renewed (channel_of new) (asks_renewed s) (s.octets ++ h.moves.taken) s.told why
-      → RenewsTo R (s.octets ++ coming) s moment (channel_of new) h.sent h.moves.taken a
+      × EndsWithout is_renewed (channel_of_connection new) (asks_renewed s) (s.octets ++ h.moves.taken) s.told why
+      → RenewsTo R (s.octets ++ coming) s moment (channel_of_connection new) h.sent h.moves.taken a
   broken f why e p w =
       Waited f (Stopped why) p e w.0 w.1.heard w.1.none
-      (ended_reads R (channel_of new) (asks_renewed s) (s.octets ++ h.moves.taken) (untaken_of new ++ r.last.coming []) (s.octets ++ coming)
+      (ended_reads R (channel_of_connection new) (asks_renewed s) (s.octets ++ h.moves.taken) (untaken_of new ++ r.last.coming []) (s.octets ++ coming)
       (s.told ++ w.1.heard) why rules parts w.1.ended)
 
   ran_out : a ≡ Err fault.Ended → StopsAt {A = Unit {0}} most_reads most_reads h.moves.got new after (Err fault.Ended) → (h.sent ≡ renewal_at s moment)
-      × GoesWithout is_renewed (channel_of new) (asks_renewed s) (s.octets ++ h.moves.taken) s.told
-      → RenewsTo R (s.octets ++ coming) s moment (channel_of new) h.sent h.moves.taken a
+      × GoesWithout is_renewed (channel_of_connection new) (asks_renewed s) (s.octets ++ h.moves.taken) s.told
+      → RenewsTo R (s.octets ++ coming) s moment (channel_of_connection new) h.sent h.moves.taken a
   ran_out p stops w =
       Waited fault.Ended Going p (ByEnd refl refl) w.0 w.1.heard w.1.none
-      (goes_reads R (channel_of new) (asks_renewed s) (s.octets ++ h.moves.taken) (s.octets ++ coming) (s.told ++ w.1.heard) rules
+      (goes_reads R (channel_of_connection new) (asks_renewed s) (s.octets ++ h.moves.taken) (s.octets ++ coming) (s.told ++ w.1.heard) rules
       (ap (λ (o : List ℕ). s.octets ++ o) (ended_all new h.sent h.moves.taken line after coming r stops.0 stops.1)) w.1.goes)
 
-  renews_by : (b : Result (Unit {0}) ClientFault) → a ≡ b → RenewsAt s moment (channel_of new) h.sent h.moves.taken b
-      → StopsAt most_reads most_reads h.moves.got new after b → line_failed b ≡ false → ¬ (IsErrOf b fault.OutOfMemory)
-      → RenewsTo R (s.octets ++ coming) s moment (channel_of new) h.sent h.moves.taken a
+  renews_by : (b : Result (Unit {0}) ClientFault) → a ≡ b → RenewsAt s moment (channel_of_connection new) h.sent h.moves.taken b
+      → StopsAt most_reads most_reads h.moves.got new after b → line_failed_calling b ≡ false → ¬ (IsErrOf b fault.OutOfMemory)
+      → RenewsTo R (s.octets ++ coming) s moment (channel_of_connection new) h.sent h.moves.taken a
   renews_by (Ok u) e k stops unbroken had = Done e k.0 k.1.0 k.1.1
   renews_by (Err fault.Write) e k stops unbroken had = absurd (true_false unbroken)
   renews_by (Err fault.Read) e k stops unbroken had = absurd (true_false unbroken)
@@ -174,8 +174,8 @@ module _ (R : Rules ClientTold Why) (old new : Connection) (moment : DateTime) (
   renews_by (Err (fault.Refused code)) e k stops unbroken had = broken (fault.Refused code) (ours code.code) (ByOurs code refl refl) e k
   renews_by (Err f) e k stops unbroken had = absurd k
 
-  renews_to : StandsAt (channel_of old) s → line_failed a ≡ false → ¬ (IsErrOf a fault.OutOfMemory)
-      → RenewsTo R (s.octets ++ coming) s moment (channel_of new) h.sent h.moves.taken a
+  renews_to : StandsAt (channel_of_connection old) s → line_failed_calling a ≡ false → ¬ (IsErrOf a fault.OutOfMemory)
+      → RenewsTo R (s.octets ++ coming) s moment (channel_of_connection new) h.sent h.moves.taken a
   renews_to at unbroken had = renews_by a refl (h.answers s at) h.stops unbroken had
 
 -- ---- two renewals are one
@@ -199,18 +199,18 @@ not_heard told heard us more token e none =
 no_fault : (f : ClientFault) → ◌≡◌ {A = Option ClientFault} None (Some f) → ⊥
 no_fault f e = cc
 
-waited_unrefused : (f : ClientFault) (e : End Why) → EndsBy f e → (refused_by {A = Unit {0}} (Err f) ≡ None) × (ends f ≡ true)
-waited_unrefused f e (ByPeer code p q) = subst (λ (g : ClientFault). (refused_by {A = Unit {0}} (Err g) ≡ None) × (ends g ≡ true)) (sym p) (refl, refl)
-waited_unrefused f e (ByOurs code p q) = subst (λ (g : ClientFault). (refused_by {A = Unit {0}} (Err g) ≡ None) × (ends g ≡ true)) (sym p) (refl, refl)
-waited_unrefused f e (ByEnd p q) = subst (λ (g : ClientFault). (refused_by {A = Unit {0}} (Err g) ≡ None) × (ends g ≡ true)) (sym p) (refl, refl)
+waited_unrefused : (f : ClientFault) (e : End Why) → EndsBy f e → (refused_by {A = Unit {0}} (Err f) ≡ None) × (ends_client f ≡ true)
+waited_unrefused f e (ByPeer code p q) = subst (λ (g : ClientFault). (refused_by {A = Unit {0}} (Err g) ≡ None) × (ends_client g ≡ true)) (sym p) (refl, refl)
+waited_unrefused f e (ByOurs code p q) = subst (λ (g : ClientFault). (refused_by {A = Unit {0}} (Err g) ≡ None) × (ends_client g ≡ true)) (sym p) (refl, refl)
+waited_unrefused f e (ByEnd p q) = subst (λ (g : ClientFault). (refused_by {A = Unit {0}} (Err g) ≡ None) × (ends_client g ≡ true)) (sym p) (refl, refl)
 
-done_by : (f : ClientFault) (one two : Client) (a : Result (Unit {0}) ClientFault) (after later : Option Traffic) → a ≡ Err f → ends f ≡ true → IsDone one
-    → IsDone two → LeavesBoth a one two after later
+done_by : (f : ClientFault) (one two : Client) (a : Result (Unit {0}) ClientFault) (after later : Option Traffic) → a ≡ Err f → ends_client f ≡ true → HasFailedOrClosed one
+    → HasFailedOrClosed two → LeavesBoth a one two after later
 done_by f one two a after later e d p q =
     subst (λ (z : Result (Unit {0}) ClientFault). LeavesBoth z one two after later) (sym e)
     (subst (λ (b : Bool). StandBy b one two after later) (sym d) (record { first = p; second = q }))
 
-left_done : (f : ClientFault) (x : Client) (a : Result (Unit {0}) ClientFault) → a ≡ Err f → ends f ≡ true → IsLeft a x → IsDone x
+left_done : (f : ClientFault) (x : Client) (a : Result (Unit {0}) ClientFault) → a ≡ Err f → ends_client f ≡ true → IsLeft a x → HasFailedOrClosed x
 left_done f x a e d h = let k : IsLeft {A = Unit {0}} (Err f) x = subst (λ (z : Result (Unit {0}) ClientFault). IsLeft z x) e h in k ∙ d
 
 module _ (one two x y : Client) (moment : DateTime) (a b : Result (Unit {0}) ClientFault) (line after other later : Option Traffic) (s : ClientPlace)
@@ -347,7 +347,7 @@ module _ (one two x y : Client) (moment : DateTime) (a b : Result (Unit {0}) Cli
         (subst (λ (z : Option Traffic). StandReady one two line z s coming) (sym (kept_too g).1) stand))),
   )
 
-  refusal_stays : (f : ClientFault) → refused_by {A = Unit {0}} (Err f) ≡ Some f → ends f ≡ false
+  refusal_stays : (f : ClientFault) → refused_by {A = Unit {0}} (Err f) ≡ Some f → ends_client f ≡ false
   refusal_stays fault.TooManyTokens e = refl
   refusal_stays fault.Exhausted e = refl
   refusal_stays f e = cc

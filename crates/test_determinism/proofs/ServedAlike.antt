@@ -10,13 +10,13 @@ use Rattle.ua_frame.specs.declared.limits.Limits.{Limits}
 use Rattle.ua_frame.proofs.Ends.{ends_stay}
 use Rattle.ua_frame.proofs.Unique.{unique}
 use Rattle.ua_channel.specs.Line.{Traffic, IfTrafficKnown}
-use Rattle.ua_channel.specs.Moments.{Gives}
+use Rattle.ua_channel.specs.Moments.{GivesTimes}
 use Rattle.ua_channel.specs.ServerRules.{server_rules}
 use Rattle.ua_channel.specs.ServerTold.{Told}
 use Rattle.ua_server.specs.Happening.{Event, Given, Happens, Leads, Noted, noted_in, ticks_in}
-use Rattle.ua_server.specs.Requests.{requests}
+use Rattle.ua_server.specs.Requests.{requests_answered}
 use Rattle.ua_server.specs.Said.{state_after, output_of, Course}
-use Rattle.ua_server.specs.Serving.{Answered, AnsweredTo, AreAsked, IsClean, MovesTraffic, RanOut, Serves}
+use Rattle.ua_server.specs.Serving.{AnsweredAllRead, AnsweredTo, AreAsked, IsClean, MovesTraffic, RanOut, Serves}
 use Rattle.ua_server.specs.Serving.{ServesBy, ServesTelling, TellsAll, TellsBy, moment_of, told_at}
 use Rattle.ua_server.specs.State.{State, begun}
 use Rattle.ua_server.specs.declared.serve_fault.ServeFault.{ServeFault}
@@ -28,9 +28,9 @@ use Rattle.ua_server.proofs.Happened.{given-led}
 use Rattle.ua_server.proofs.LeftOver.{all-asked, as-many, asked-over}
 use Rattle.ua_server.proofs.RequestsInParts.{requests-more}
 use Rattle.ua_server.proofs.SaidInParts.{said-more, left-more}
-use Rattle.test_determinism.specs.Lines.{ComeAlike, LinesAlike, Wrote, WroteAlike}
+use Rattle.test_determinism.specs.Lines.{ComeAlike, LinesAlike, WroteExactly, WroteAlike}
 use Rattle.test_determinism.specs.Pinned.{HadMemory}
-use Rattle.test_determinism.specs.Serving.{IsWriteFault, ServesAlike, ToldAlike, line_failed}
+use Rattle.test_determinism.specs.Serving.{IsWriteFault, ServesAlike, ToldAlike, line_failed_serving}
 use Rattle.test_determinism.specs.Serving.ServesAlike.{NoFault, AtRead, AtWrite}
 use Rattle.test_determinism.proofs.BrokenAlike.{BrokeOff, broken_once}
 use Rattle.test_determinism.proofs.MomentsAlike.{Begins, given_once, left_once, moments_begin}
@@ -66,21 +66,21 @@ where_line P silent (Some t) (Some u) before e h =
     record { after = u; is = refl; holds = subst (λ (z : Traffic). P (Some z) (Some u)) (same_some t before e) h }
 
 pub wrote : (line new : Option Traffic) (before after : Traffic) (sent : List ℕ) → line ≡ Some before → new ≡ Some after
-    → after.written ≡ before.written ++ sent → Wrote line new sent
-wrote line new before after sent p q e = subst (λ (z : Option Traffic). Wrote z new sent) (sym p)
-    (subst (λ (z : Option Traffic). Wrote (Some before) z sent) (sym q) e)
+    → after.written ≡ before.written ++ sent → WroteExactly line new sent
+wrote line new before after sent p q e = subst (λ (z : Option Traffic). WroteExactly z new sent) (sym p)
+    (subst (λ (z : Option Traffic). WroteExactly (Some before) z sent) (sym q) e)
 
 pub come : (new later : Option Traffic) (after other : Traffic) → new ≡ Some after → later ≡ Some other → ComeAlike new later
     → after.coming [] ≡ other.coming []
 come new later after other p q h = subst (λ (z : Option Traffic). ComeAlike (Some after) z) q (subst (λ (z : Option Traffic). ComeAlike z later) p h)
 
-pub wrote_at : (line new : Option Traffic) (before after : Traffic) (sent : List ℕ) → line ≡ Some before → new ≡ Some after → Wrote line new sent
+pub wrote_at : (line new : Option Traffic) (before after : Traffic) (sent : List ℕ) → line ≡ Some before → new ≡ Some after → WroteExactly line new sent
     → after.written ≡ before.written ++ sent
-wrote_at line new before after sent p q h = subst (λ (z : Option Traffic). Wrote (Some before) z sent) q (subst (λ (z : Option Traffic). Wrote z new sent) p h)
+wrote_at line new before after sent p q h = subst (λ (z : Option Traffic). WroteExactly (Some before) z sent) q (subst (λ (z : Option Traffic). WroteExactly z new sent) p h)
 
 -- what was written is this
 pub wrote_same : (line new : Option Traffic) (before after : Traffic) (sent other : List ℕ) → line ≡ Some before → new ≡ Some after
-    → after.written ≡ before.written ++ other → Wrote line new sent → other ≡ sent
+    → after.written ≡ before.written ++ other → WroteExactly line new sent → other ≡ sent
 wrote_same line new before after sent other p q e h = append_cancel_left before.written other sent (sym e ∙ wrote_at line new before after sent p q h)
 
 -- ---- what is said
@@ -97,7 +97,7 @@ module _ (limits : Limits) (channel : ℕ) (first : State) where
 
   abbrev Says : List ℕ → List Told → End ℕ → List DateTime → List ℕ → State → List AnsweredRequest → Type 0
   Says whole told end moments written now asked = (written ≡ output_of channel first told end moments) × ((state_after channel first told moments).state ≡ now)
-      × (asked ≡ requests channel first told moments) × AreAsked limits channel whole told moments
+      × (asked ≡ requests_answered channel first told moments) × AreAsked limits channel whole told moments
 
   says_more : (whole : List ℕ) (told : List Told) (end : End ℕ) (ms more : List DateTime) (written other : List ℕ) (now then : State)
       (asked also : List AnsweredRequest) → Says whole told end ms written now asked → Says whole told end (ms ++ more) other then also
@@ -151,7 +151,7 @@ module _ (limits : Limits) (channel : ℕ) (first : State) where
       record { frames = frames; rest = rest; run = a.run; says = (a.written_is, a.state_is, tells, a.asked) }
 
   of_ended : (octets more whole written : List ℕ) (moments : List DateTime) (now : State) (asked : List AnsweredRequest) (end : End ℕ) → (end ≡ Going → ⊥)
-      → octets ++ more ≡ whole → (a : Answered limits channel first octets written moments now end)
+      → octets ++ more ≡ whole → (a : AnsweredAllRead limits channel first octets written moments now end)
       → TellsAll limits channel first moments a.frames asked → Reads whole end moments written now asked
   of_ended octets more whole written moments now asked end not_going e a tells = record {
     frames = a.frames;
@@ -206,7 +206,7 @@ module _ (limits : Limits) (channel : ℕ) (first : State) where
     pub tells : TellsBy a limits channel first octets written moments now more to asked
 
   came : (octets more whole written : List ℕ) (moments : List DateTime) (now : State) (asked : List AnsweredRequest) (a : Result Ending ServeFault)
-      → octets ++ more ≡ whole → Comes a octets written moments now more asked → line_failed a ≡ false → ¬ (IsErrOf a fault.OutOfMemory)
+      → octets ++ more ≡ whole → Comes a octets written moments now more asked → line_failed_serving a ≡ false → ¬ (IsErrOf a fault.OutOfMemory)
       → length whole < 0xFFFF_FFFF_FFFF_FFFF → Came whole moments written now asked a
   unfolding of_run_out
   came octets more whole written moments now asked (Ok ending.Closed) e h unbroken had few =
@@ -299,7 +299,7 @@ pub record ServedSo {M : Type 0} (limits : Limits) (channel : ℕ) (gives : M �
   pub written : List ℕ
   pub ticks : List ℤ
   pub moved : MovesTraffic read written before after
-  pub given : Gives gives moments ticks later
+  pub given : GivesTimes gives moments ticks later
   pub comes : Comes limits channel first result read written (map moment_of ticks) now (after.coming []) asked
 
 -- two services of alike lines are one
@@ -346,7 +346,7 @@ module _ {M : Type 0} (gives : M → ℤ → M → Type 0) (once : (m x y : M) (
         ∙ ap (λ (t : List ℕ). lines.second.written ++ t) (sym e));
   }
 
-  unfailed : line_failed a ≡ false → line_failed b ≡ false → Served
+  unfailed : line_failed_serving a ≡ false → line_failed_serving b ≡ false → Served
   unfailed f g =
       let x = came limits channel first p.holds.read (p.after.coming []) coming p.holds.written ms now asked a parts p.holds.comes f had.first lines.few in
       let y = came limits channel first q.holds.read (q.after.coming []) coming q.holds.written ns then also b parts_too q.holds.comes g had.second lines.few in
@@ -410,20 +410,20 @@ noted_of : (limits : Limits) (channel : ℕ) (first : State) (a : Result Ending 
     (more : List ℕ) (h : ServesBy a limits channel first octets written moments now more) → ¬ (IsErrOf a fault.OutOfMemory)
     → (asked : List AnsweredRequest) × TellsBy a limits channel first octets written moments now more h asked
 noted_of limits channel first (Ok ending.Closed) octets written moments now more h had =
-    (requests channel first (events (server_rules limits channel) h.frames) moments, refl)
+    (requests_answered channel first (events (server_rules limits channel) h.frames) moments, refl)
 noted_of limits channel first (Ok (ending.Refused code)) octets written moments now more h had =
-    (requests channel first (events (server_rules limits channel) h.frames) moments, refl)
+    (requests_answered channel first (events (server_rules limits channel) h.frames) moments, refl)
 noted_of limits channel first (Ok ending.NoClose) octets written moments now more h had =
-    (requests channel first (events (server_rules limits channel) h.frames) moments, refl)
+    (requests_answered channel first (events (server_rules limits channel) h.frames) moments, refl)
 noted_of limits channel first (Ok ending.Cut) octets written moments now more h had =
-    (requests channel first (events (server_rules limits channel) h.frames) moments, refl)
+    (requests_answered channel first (events (server_rules limits channel) h.frames) moments, refl)
 noted_of limits channel first (Err fault.Read) octets written moments now more h had =
-    (requests channel first (events (server_rules limits channel) h.frames) moments, refl)
+    (requests_answered channel first (events (server_rules limits channel) h.frames) moments, refl)
 noted_of limits channel first (Err (fault.Write n)) octets written moments now more h had =
-    (requests channel first (h.0.before ++ told_at h.0.word) moments, refl)
+    (requests_answered channel first (h.0.before ++ told_at h.0.word) moments, refl)
 noted_of limits channel first (Err fault.OutOfMemory) octets written moments now more h had = absurd (had refl)
 noted_of limits channel first (Err fault.TooLong) octets written moments now more h had =
-    (requests channel first (events (server_rules limits channel) h.0.frames) moments, refl)
+    (requests_answered channel first (events (server_rules limits channel) h.0.frames) moments, refl)
 
 -- the requests are told in turn
 noted_led : {M W : Type 0} (gives : M → ℤ → M → Type 0) (notes : W → AnsweredRequest → W → Type 0) (a b : M × W) (es : List Event)

@@ -24,9 +24,9 @@ use Rattle.ua_channel.specs.declared.server_event.ServerEvent.TheVariants as eve
 use Rattle.ua_channel.specs.declared.server_fault.ChannelFault.{ChannelFault}
 use Rattle.ua_channel.specs.declared.server_fault.ChannelFault.TheVariants.{Refused, Closed, OutOfMemory}
 use Rattle.test_determinism.specs.Pinned.{HadMemory}
-use Rattle.test_determinism.specs.Servers.{ServersAlike, ServersDone, Seen, SameServerAnswer, SameServerOutcome}
-use Rattle.test_determinism.specs.Servers.{LeftServers, answer_seen, counted_with, outcome_seen}
-use Rattle.test_determinism.specs.Servers.{Seen as seen}
+use Rattle.test_determinism.specs.Servers.{ServersAlike, ServersDone, ServerSeen, SameServerAnswer, SameServerOutcome}
+use Rattle.test_determinism.specs.Servers.{LeftServers, server_answer_seen, counted_with, outcome_seen}
+use Rattle.test_determinism.specs.Servers.{ServerSeen as seen}
 use Rattle.test_determinism.proofs.EndsAlike.{Comes, bound_over, bound_stopped, comes_as, one_at_both, same_parts, tells_by, tells_goes}
 use Rattle.test_determinism.proofs.StreamsAlike.{Lasts, Outcome, Quiet, Tells}
 use Rattle.test_determinism.proofs.StreamsAlike.Outcome.{Quietly, Telling, Lasting, Stopping}
@@ -66,7 +66,7 @@ is_last (told.Asked id token octets) = false
 is_last (told.GaveUp id) = false
 is_last told.Closed = true
 
-abbrev refused : ℕ → Result Seen ChannelFault
+abbrev refused : ℕ → Result ServerSeen ChannelFault
 refused why = let code : StatusCode = record { code = why } in Err (Refused code (frame_octets (err_frame code)))
 
 abbrev parts_in : Option (List (List ℕ)) → List (List ℕ)
@@ -74,7 +74,7 @@ parts_in None = []
 parts_in (Some parts) = parts
 
 -- what is answered to what a piece comes to, with the parts of a message
-abbrev said : ℕ → ℕ → DateTime → Option (List (List ℕ)) → Came → Result Seen ChannelFault
+abbrev said : ℕ → ℕ → DateTime → Option (List (List ℕ)) → Came → Result ServerSeen ChannelFault
 said channel number moment parts Quietly = Ok seen.NeedsMore
 said channel number moment parts (Telling (Agreed a)) = Ok (seen.Sends (frame_octets (ack_frame a.ack)))
 said channel number moment parts (Telling (Opened id handle token lifetime)) =
@@ -299,11 +299,11 @@ counted old new moment piece octets before (Ok (n, e)) p =
 counted old new moment piece octets before (Err fault) p =
     record { count = p.answers.0; outcome = Err fault; is = refl; taken = record { answers = p.answers.1; parts = tt; limits = p.limits; channel = p.channel } }
 
-abbrev with_count : ℕ → Result Seen ChannelFault → Result (ℕ × Seen) ChannelFault
+abbrev with_count : ℕ → Result ServerSeen ChannelFault → Result (ℕ × ServerSeen) ChannelFault
 with_count n (Ok s) = Ok (n, s)
 with_count n (Err fault) = Err fault
 
-counted_seen : (n : ℕ) (a : Answer) → answer_seen (counted_with n a) ≡ with_count n (outcome_seen a)
+counted_seen : (n : ℕ) (a : Answer) → server_answer_seen (counted_with n a) ≡ with_count n (outcome_seen a)
 counted_seen n (Ok e) = refl
 counted_seen n (Err fault) = refl
 
@@ -322,9 +322,9 @@ taken_alike one two x y moment piece octets before a b s p q had =
     let d = counted two y moment piece octets before b q in
     let both = alike one two x y moment piece octets before c.count d.count c.outcome d.outcome s c.taken d.taken
     (record { first = starved c.count c.outcome a c.is had.first; second = starved d.count d.outcome b d.is had.second }) in record {
-      answers = ap answer_seen c.is
+      answers = ap server_answer_seen c.is
           ∙ (counted_seen c.count c.outcome
           ∙ (ap (λ (k : ℕ). with_count k (outcome_seen c.outcome)) both.taken
-          ∙ (ap (with_count d.count) both.answers ∙ (sym (counted_seen d.count d.outcome) ∙ sym (ap answer_seen d.is)))));
+          ∙ (ap (with_count d.count) both.answers ∙ (sym (counted_seen d.count d.outcome) ∙ sym (ap server_answer_seen d.is)))));
       left = subst (λ (z : Taken). LeftServers z x y octets before piece) (sym c.is) both.left;
     }

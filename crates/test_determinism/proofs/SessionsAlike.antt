@@ -12,7 +12,7 @@ use Rattle.ua_channel.specs.declared.client.channel.ClientChannel.{ClientChannel
 use Rattle.ua_services.specs.declared.request.Request.{Request}
 use Rattle.ua_client.specs.Calls.{sent_at}
 use Rattle.ua_client.specs.Client.{IsLeft, client_channel, connection_of}
-use Rattle.ua_client.specs.Hearing.{channel_of}
+use Rattle.ua_client.specs.Hearing.{channel_of_connection}
 use Rattle.ua_client.specs.Session.{ActivatesBehind, BeginsAt, BeginsSessionAs, Replies, ServesAt, activating_at}
 use Rattle.ua_client.specs.Session.{brings_any, brings_token, creating_at, reply_failure, token_in}
 use Rattle.ua_client.specs.ClientPlace.{ClientPlace, StandsAt}
@@ -98,10 +98,10 @@ module _ (once : OneBody) (limits : Limits) (x y : ClientChannel) (o p : Option 
 
 -- by what the client's clauses say
 module _ (limits : Limits) (request : Request) (s : ClientPlace) (new : Connection) (sent taken more : List ℕ)
-    (same : client_limits (channel_of new) ≡ limits) where
+    (same : client_limits (channel_of_connection new) ≡ limits) where
   -- it was answered
   says_by : (o : Option ClientFault) (P : Reply → Type 0) → ((reply : Reply) → P reply → o ≡ failed_by (reply_failure reply))
-      → Replies request s (channel_of new) sent taken P → Served limits request s (taken ++ more) (channel_of new) sent taken o
+      → Replies request s (channel_of_connection new) sent taken P → Served limits request s (taken ++ more) (channel_of_connection new) sent taken o
   says_by o P is r = Says r.behind r.reply (is r.reply r.says) r.replied.sent_is
       (record { limits_are = same; at = r.at; came = r.replied.came; answered = r.replied.answered; more = more; parts = refl })
 
@@ -109,7 +109,7 @@ module _ (limits : Limits) (request : Request) (s : ClientPlace) (new : Connecti
       → ((f : ClientFault) → fault_of result ≡ Some f → (f ≡ fault.Ended) ⊎ (f ≡ fault.Read) → more ≡ [])
       → ((f : ClientFault) → fault_of result ≡ Some f → f ≡ fault.OutOfMemory → ⊥) → ((f : ClientFault) → fault_of result ≡ Some f → f ≡ fault.TooLong → ⊥)
       → ServesAt request brings s new sent taken result
-      → Served limits request s (taken ++ more) (channel_of new) sent taken (fault_of result)
+      → Served limits request s (taken ++ more) (channel_of_connection new) sent taken (fault_of result)
   served_by brings (Ok found) stop had short k = says_by None (λ reply. (reply_failure reply ≡ None) × brings found reply) (λ reply h. ap failed_by (sym h.0)) k
   served_by brings (Err (fault.Service code)) stop had short k = says_by (Some (fault.Service code)) (λ reply. reply_failure reply ≡ Some code)
       (λ reply h. ap failed_by (sym h)) k
@@ -250,9 +250,9 @@ none_some : {P : Type 0} (f : ClientFault) → ◌≡◌ {A = Option ClientFault
 none_some f e = cc
 
 module _ (limits : Limits) (url policy_id : Option (List ℕ)) (moment : DateTime) (s : ClientPlace) (new : Connection) (sent taken more : List ℕ)
-    (same : client_limits (channel_of new) ≡ limits) where
+    (same : client_limits (channel_of_connection new) ≡ limits) where
   abbrev Comes : Option ClientFault → Option NodeId → Type 0
-  Comes o given = Begun limits url policy_id moment s (taken ++ more) (channel_of new) sent taken o given
+  Comes o given = Begun limits url policy_id moment s (taken ++ more) (channel_of_connection new) sent taken o given
 
   created_by : (result : Result (Unit {0}) ClientFault) (given : Option NodeId) (P : NodeId → Type 0)
       → ((token : NodeId) → P token → fault_of result ≡ None → given ≡ Some token) → ((f : ClientFault) → fault_of result ≡ Some f → given ≡ None)

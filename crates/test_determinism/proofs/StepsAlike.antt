@@ -16,7 +16,7 @@ use Rattle.ua_channel.specs.Stops.{StopsAt}
 use Rattle.ua_channel.specs.declared.server.ServerChannel.{ServerChannel}
 use Rattle.ua_server.specs.Said.{is_answered, output_of, state_after}
 use Rattle.ua_server.specs.State.{State}
-use Rattle.ua_server.specs.Stepping.{ServerStands, Stops, StepAnswers, StepBy, given_up, times_of_answers}
+use Rattle.ua_server.specs.Stepping.{ServerStands, StepStops, StepAnswers, StepBy, given_up, times_of_answers}
 use Rattle.ua_server.specs.declared.step.End.{End as Ending}
 use Rattle.ua_server.specs.declared.step.End.TheVariants as ending
 use Rattle.ua_server.specs.declared.step.Step.{Step}
@@ -98,7 +98,7 @@ data Came (channel : ℕ) (moment : DateTime) (piece octets : List ℕ) (told : 
 
 came_on : (channel : ℕ) (moment : DateTime) (piece octets : List ℕ) (told : List Told) (begun : State) (moments : List DateTime) (before now : State)
     (x : ServerChannel) (step : Step) (more : List Told) (quiet : List ℕ) → step.end ≡ None
-    → Stops x octets piece step.taken step.out.items (told ++ given_up quiet) more
+    → StepStops x octets piece step.taken step.out.items (told ++ given_up quiet) more
     → ServerStands x (octets ++ take step.taken piece) ((told ++ given_up quiet) ++ more) begun (moments ++ times_of_answers more moment) now
     → output_of channel begun ((told ++ given_up quiet) ++ more) Going (moments ++ times_of_answers more moment) ≡ output_of channel begun told Going moments
     ++ step.out.items → Came channel moment piece octets told begun moments before (Ok step) x now

@@ -13,7 +13,7 @@ use Rattle.ua_variant.specs.Data.{VariantData}
 use Rattle.ua_variant.specs.View.{variant_of}
 use Rattle.ua_variant.specs.declared.values.DataValue.{DataValue}
 use Rattle.ua_texts.specs.Replies.{AreAnswers, AreEndpoints, Leaves, NoAnswers, NoEndpoints, endpoint_lines, endpoints_in, fault_in, statuses_in, values_in}
-use Rattle.ua_texts.specs.Script.{Asks, AsksFor, AsksNothing, AsksRead, AsksWrite, IsFirstBad, IsLineOf, Refuses, range_denoted, typed_denoted}
+use Rattle.ua_texts.specs.Script.{AsksForStep, AsksFor, AsksNothing, AsksRead, AsksWrite, IsFirstBadScriptLine, IsLineOf, RefusesScriptLines, range_denoted, typed_denoted}
 use Rattle.ua_texts.specs.declared.fault.AnswerFault.{AnswerFault}
 use Rattle.ua_texts.specs.declared.fault.AnswerFault.TheVariants.{Service, Unknown, OutOfMemory}
 use Rattle.ua_texts.specs.declared.fault.ScriptFault.{ScriptFault}
@@ -23,7 +23,7 @@ use Rattle.ua_texts.specs.declared.script.Step.{Step}
 use Rattle.ua_texts.specs.declared.script.Step.TheVariants.{Read, Write, Renew}
 use Rattle.ua_texts.specs.declared.style.EndpointStyle.{EndpointStyle}
 use Rattle.test_determinism.specs.Pinned.{HadMemory}
-use Rattle.test_determinism.specs.Texts.{SameStep, SameLine, SameScript}
+use Rattle.test_determinism.specs.Texts.{SameScriptStep, SameLine, SameScript}
 
 -- ---- what may be there
 
@@ -160,7 +160,7 @@ module _ (once : (v w : NodeId) (text : List ℕ) → NamesNode v text → Names
         same_some value also (sym a.denotes ∙ (ap (λ (k : List ℕ). typed_denoted k a.text) e.1 ∙ (ap (typed_denoted b.kind) e.2 ∙ b.denotes))),
       )
 
-  same_step : (fs : List (List ℕ)) (step other : Step) → Asks fs step → Asks fs other → SameStep step other
+  same_step : (fs : List (List ℕ)) (step other : Step) → AsksForStep fs step → AsksForStep fs other → SameScriptStep step other
   same_step fs (Read node range) (Read other part) a b = same_read fs node other range part a b
   same_step fs (Read node range) (Write other also) a b = absurd (omega (arith, ap first_octet (sym a.parts ∙ b.parts)))
   same_step fs (Read node range) Renew a b = let e : codes "read" ∷ a.id ∷ a.rest ≡ codes "renew" ∷ [] = sym a.parts
@@ -192,7 +192,7 @@ module _ (once : (v w : NodeId) (text : List ℕ) → NamesNode v text → Names
   asked (f ∷ front) line back [] a = absurd a
   asked (f ∷ front) line back (s ∷ steps) a = asked front line back steps a.1
 
-  not_bad : (lines : List FileLine) (steps : List ScriptLine) (number : ℕ) → AllZip IsLineOf lines steps → IsFirstBad lines number → ⊥
+  not_bad : (lines : List FileLine) (steps : List ScriptLine) (number : ℕ) → AllZip IsLineOf lines steps → IsFirstBadScriptLine lines number → ⊥
   not_bad lines steps number a b =
       let s = asked b.front (record { number = number; text = b.line }) b.back steps (subst (λ (ls : List FileLine). AllZip IsLineOf ls steps) b.parts a) in
       b.bad s.0.step s.1.1
@@ -204,7 +204,7 @@ module _ (once : (v w : NodeId) (text : List ℕ) → NamesNode v text → Names
   same_tail l m b c e = cc
 
   asks_some : (l m : FileLine) (step : ScriptLine) → l ≡ m → IsLineOf m step → AsksNothing (fields l.text) → ⊥
-  asks_some l m step e is bad = bad step.step (subst (λ (z : FileLine). Asks (fields z.text) step.step) (sym e) is.1)
+  asks_some l m step e is bad = bad step.step (subst (λ (z : FileLine). AsksForStep (fields z.text) step.step) (sym e) is.1)
 
   one_bad : (f g : List FileLine) (l m : FileLine) (b c : List FileLine) (ss ts : List ScriptLine) → f ++ l ∷ b ≡ g ++ m ∷ c → AllZip IsLineOf f ss
       → AllZip IsLineOf g ts → AsksNothing (fields l.text) → AsksNothing (fields m.text) → l ≡ m
@@ -217,24 +217,24 @@ module _ (once : (v w : NodeId) (text : List ℕ) → NamesNode v text → Names
   one_bad (x ∷ f) (y ∷ g) l m b c (s ∷ ss) [] e p q bad worse = absurd q
   one_bad (x ∷ f) (y ∷ g) l m b c (s ∷ ss) (t ∷ ts) e p q bad worse = one_bad f g l m b c ss ts (same_tail x y (f ++ l ∷ b) (g ++ m ∷ c) e) p.1 q.1 bad worse
 
-  same_bad : (lines : List FileLine) (m n : ℕ) → IsFirstBad lines m → IsFirstBad lines n → m ≡ n
+  same_bad : (lines : List FileLine) (m n : ℕ) → IsFirstBadScriptLine lines m → IsFirstBadScriptLine lines n → m ≡ n
   same_bad lines m n a b =
       ap (λ (l : FileLine). l.number) (one_bad a.front b.front (record { number = m; text = a.line }) (record { number = n; text = b.line }) a.back b.back
       a.steps b.steps (sym a.parts ∙ b.parts) a.good b.good a.bad b.bad)
 
   -- the same text, read twice
   pub script_once : {V : Type 0} (steps : V → List ScriptLine) (text other : List ℕ) (a b : Result V ScriptFault) → text ≡ other
-      → IfOk a (λ v. AsksFor text (steps v)) → IfErr a (λ fault. Refuses text fault) → IfOk b (λ v. AsksFor other (steps v))
-      → IfErr b (λ fault. Refuses other fault)
+      → IfOk a (λ v. AsksFor text (steps v)) → IfErr a (λ fault. RefusesScriptLines text fault) → IfOk b (λ v. AsksFor other (steps v))
+      → IfErr b (λ fault. RefusesScriptLines other fault)
       → HadMemory script_fault.OutOfMemory a b → SameScript steps a b
   script_once steps text other (Ok v) (Ok w) e p f q g had = same_lines (node_lines text) (steps v) (steps w) p
       (subst (λ (t : List ℕ). AsksFor t (steps w)) (sym e) q)
   script_once steps text other (Ok v) (Err (script_fault.Line n)) e p f q g had =
-      not_bad (node_lines text) (steps v) n p (subst (λ (t : List ℕ). IsFirstBad (node_lines t) n) (sym e) g)
+      not_bad (node_lines text) (steps v) n p (subst (λ (t : List ℕ). IsFirstBadScriptLine (node_lines t) n) (sym e) g)
   script_once steps text other (Ok v) (Err script_fault.OutOfMemory) e p f q g had = absurd (had.second refl)
   script_once steps text other (Err (script_fault.Line n)) (Ok w) e p f q g had =
-      not_bad (node_lines other) (steps w) n q (subst (λ (t : List ℕ). IsFirstBad (node_lines t) n) e f)
+      not_bad (node_lines other) (steps w) n q (subst (λ (t : List ℕ). IsFirstBadScriptLine (node_lines t) n) e f)
   script_once steps text other (Err (script_fault.Line n)) (Err (script_fault.Line m)) e p f q g had =
-      ap (λ (k : ℕ). script_fault.Line k) (same_bad (node_lines text) n m f (subst (λ (t : List ℕ). IsFirstBad (node_lines t) m) (sym e) g))
+      ap (λ (k : ℕ). script_fault.Line k) (same_bad (node_lines text) n m f (subst (λ (t : List ℕ). IsFirstBadScriptLine (node_lines t) m) (sym e) g))
   script_once steps text other (Err (script_fault.Line n)) (Err script_fault.OutOfMemory) e p f q g had = absurd (had.second refl)
   script_once steps text other (Err script_fault.OutOfMemory) b e p f q g had = absurd (had.first refl)

@@ -2,7 +2,7 @@
 use Rattle.std.specs.Prelude.{◌≡◌, ℕ, ◌<◌, Bool, true, false, List, ◌++◌, length, Option, Some, None, Result, Ok, Err, IsErrOf}
 use Rattle.ua_channel.specs.Client.{SameClient}
 use Rattle.ua_channel.specs.Line.{Traffic}
-use Rattle.ua_client.specs.Client.{IsDone, IsReady, client_channel, connection_of, ends}
+use Rattle.ua_client.specs.Client.{HasFailedOrClosed, IsReady, client_channel, connection_of, ends_client}
 use Rattle.ua_client.specs.Hearing.{is_line_fault, untaken_of}
 use Rattle.ua_client.specs.ClientPlace.{ClientPlace, StandsAt}
 use Rattle.ua_client.specs.declared.client.Client.{Client}
@@ -13,14 +13,14 @@ use Rattle.test_determinism.specs.Lines.{ComeAlike, WroteAlike}
 -- ---- how the transports fail
 
 -- a call of the transport failed
-abbrev pub line_failed : {A : Type 0} → Result A ClientFault → Bool
-line_failed (Ok found) = false
-line_failed (Err f) = is_line_fault f
+abbrev pub line_failed_calling : {A : Type 0} → Result A ClientFault → Bool
+line_failed_calling (Ok found) = false
+line_failed_calling (Err f) = is_line_fault f
 
 -- the transports fail alike: no call of either fails; or a read of both fails, after the same
 -- bytes; or a write of both, after the same bytes
 pub data CallsAlike {A B : Type 0} (a : Result A ClientFault) (b : Result B ClientFault) (line after other later : Option Traffic) : Type 0 where
-  NoFault : line_failed a ≡ false → line_failed b ≡ false → CallsAlike a b line after other later
+  NoFault : line_failed_calling a ≡ false → line_failed_calling b ≡ false → CallsAlike a b line after other later
   AtRead : IsErrOf a fault.Read → IsErrOf b fault.Read → ComeAlike after later → CallsAlike a b line after other later
   AtWrite : IsErrOf a fault.Write → IsErrOf b fault.Write → WroteAlike line after other later → CallsAlike a b line after other later
 
@@ -46,8 +46,8 @@ pub record StandReady (one two : Client) (line other : Option Traffic) (s : Clie
 
 -- both are done
 pub record AreDone (one two : Client) : Type 0 where
-  pub first : IsDone one
-  pub second : IsDone two
+  pub first : HasFailedOrClosed one
+  pub second : HasFailedOrClosed two
 
 -- both are done, or they have one state again
 abbrev pub StandBy : Bool → Client → Client → Option Traffic → Option Traffic → Type 0
@@ -57,7 +57,7 @@ StandBy false one two line other = (s : ClientPlace) × (coming : List ℕ) × S
 -- the states in which an outcome leaves them
 abbrev pub LeavesBoth : {A : Type 0} → Result A ClientFault → Client → Client → Option Traffic → Option Traffic → Type 0
 LeavesBoth (Ok found) one two line other = StandBy false one two line other
-LeavesBoth (Err f) one two line other = StandBy (ends f) one two line other
+LeavesBoth (Err f) one two line other = StandBy (ends_client f) one two line other
 
 -- ---- opening
 

@@ -28,32 +28,32 @@ pub record ClientsDone (one two : ClientChannel) : Type 0 where
 -- ---- what they answer
 
 -- what counts of an event: of bytes that are sent their list, and not their address
-pub data Seen : Type 0 where
-  NeedsMore : Seen
-  Sends : (octets : List ℕ) → Seen
-  Opens : Seen
-  Answers : (id : ℕ) (message : List (List ℕ)) → Seen
-  Aborts : (id : ℕ) (code : StatusCode) → Seen
-  Fails : (code : StatusCode) (peer : Bool) → Seen
-  Renews : (token : ℕ) → Seen
+pub data ClientSeen : Type 0 where
+  NeedsMore : ClientSeen
+  Sends : (octets : List ℕ) → ClientSeen
+  Opens : ClientSeen
+  Answers : (id : ℕ) (message : List (List ℕ)) → ClientSeen
+  Aborts : (id : ℕ) (code : StatusCode) → ClientSeen
+  Fails : (code : StatusCode) (peer : Bool) → ClientSeen
+  Renews : (token : ℕ) → ClientSeen
 
-abbrev pub seen : ClientEvent → Seen
-seen NeedMore = NeedsMore
-seen (Send out) = Sends out.items
-seen Open = Opens
-seen (Answered id message) = Answers id message
-seen (Aborted id code) = Aborts id code
-seen (Failed code peer) = Fails code peer
-seen (Renewed token) = Renews token
+abbrev pub client_seen : ClientEvent → ClientSeen
+client_seen NeedMore = NeedsMore
+client_seen (Send out) = Sends out.items
+client_seen Open = Opens
+client_seen (Answered id message) = Answers id message
+client_seen (Aborted id code) = Aborts id code
+client_seen (Failed code peer) = Fails code peer
+client_seen (Renewed token) = Renews token
 
 -- what counts of an outcome
-abbrev pub answer_seen : Result (ℕ × ClientEvent) ClientTakeFault → Result (ℕ × Seen) ClientTakeFault
-answer_seen (Ok (n, event)) = Ok (n, seen event)
-answer_seen (Err fault) = Err fault
+abbrev pub client_answer_seen : Result (ℕ × ClientEvent) ClientTakeFault → Result (ℕ × ClientSeen) ClientTakeFault
+client_answer_seen (Ok (n, event)) = Ok (n, client_seen event)
+client_answer_seen (Err fault) = Err fault
 
 -- two outcomes are the same, and took the same number of bytes
 abbrev pub SameClientAnswer : Result (ℕ × ClientEvent) ClientTakeFault → Result (ℕ × ClientEvent) ClientTakeFault → Type 0
-SameClientAnswer a b = answer_seen a ≡ answer_seen b
+SameClientAnswer a b = client_answer_seen a ≡ client_answer_seen b
 
 -- ---- where an answer leaves them
 

@@ -1,6 +1,6 @@
 -- When two dissectors have the same state.
 use Rattle.std.specs.Prelude.{ℕ, List, ◌++◌}
-use Rattle.ua_pair.specs.Dissecting.{StandsBehind, IsClosed}
+use Rattle.ua_pair.specs.Dissecting.{StandsBehind, IsDissectorClosed}
 use Rattle.ua_pair.specs.declared.dissector.Dissector.{Dissector}
 use Rattle.ua_pair.specs.declared.options.DissectOptions.{DissectOptions}
 
@@ -17,5 +17,5 @@ pub record TellsAlike (one two : Dissector) (options : DissectOptions) (octets t
 
 -- an allocation failed in both: they take nothing more
 pub record DissectorsClosed (one two : Dissector) : Type 0 where
-  pub first : IsClosed one
-  pub second : IsClosed two
+  pub first : IsDissectorClosed one
+  pub second : IsDissectorClosed two

@@ -18,15 +18,15 @@ pub record LinesAlike (line other : Option Traffic) (coming : List ℕ) : Type 0
   pub few : length coming < 0xFFFF_FFFF_FFFF_FFFF
 
 -- these bytes were written to a transport that tells them
-abbrev pub Wrote : Option Traffic → Option Traffic → List ℕ → Type 0
-Wrote (Some before) (Some after) sent = after.written ≡ before.written ++ sent
-Wrote before after sent = ⊥
+abbrev pub WroteExactly : Option Traffic → Option Traffic → List ℕ → Type 0
+WroteExactly (Some before) (Some after) sent = after.written ≡ before.written ++ sent
+WroteExactly before after sent = ⊥
 
 -- the same bytes were written to both
 pub record WroteAlike (line after other later : Option Traffic) : Type 0 where
   pub sent : List ℕ
-  pub first : Wrote line after sent
-  pub second : Wrote other later sent
+  pub first : WroteExactly line after sent
+  pub second : WroteExactly other later sent
 
 -- the same bytes are to come from both before more is written
 abbrev pub ComeAlike : Option Traffic → Option Traffic → Type 0

@@ -27,28 +27,28 @@ pub record ServersDone (one two : ServerChannel) : Type 0 where
 -- ---- what they answer
 
 -- what counts of an event: of bytes that are sent their list, and not their address
-pub data Seen : Type 0 where
-  NeedsMore : Seen
-  Sends : (octets : List ℕ) → Seen
-  Asks : (id : ℕ) (message : List (List ℕ)) → Seen
-  Aborts : (id : ℕ) → Seen
-  Closes : Seen
+pub data ServerSeen : Type 0 where
+  NeedsMore : ServerSeen
+  Sends : (octets : List ℕ) → ServerSeen
+  Asks : (id : ℕ) (message : List (List ℕ)) → ServerSeen
+  Aborts : (id : ℕ) → ServerSeen
+  Closes : ServerSeen
 
-abbrev pub seen : ServerEvent → Seen
-seen NeedMore = NeedsMore
-seen (Send out) = Sends out.items
-seen (Asked id message) = Asks id message
-seen (Aborted id) = Aborts id
-seen Closed = Closes
+abbrev pub server_seen : ServerEvent → ServerSeen
+server_seen NeedMore = NeedsMore
+server_seen (Send out) = Sends out.items
+server_seen (Asked id message) = Asks id message
+server_seen (Aborted id) = Aborts id
+server_seen Closed = Closes
 
 -- what counts of an outcome, and of one with how many bytes were taken
-abbrev pub outcome_seen : Result ServerEvent ChannelFault → Result Seen ChannelFault
-outcome_seen (Ok event) = Ok (seen event)
+abbrev pub outcome_seen : Result ServerEvent ChannelFault → Result ServerSeen ChannelFault
+outcome_seen (Ok event) = Ok (server_seen event)
 outcome_seen (Err fault) = Err fault
 
-abbrev pub answer_seen : Result (ℕ × ServerEvent) ChannelFault → Result (ℕ × Seen) ChannelFault
-answer_seen (Ok (n, event)) = Ok (n, seen event)
-answer_seen (Err fault) = Err fault
+abbrev pub server_answer_seen : Result (ℕ × ServerEvent) ChannelFault → Result (ℕ × ServerSeen) ChannelFault
+server_answer_seen (Ok (n, event)) = Ok (n, server_seen event)
+server_answer_seen (Err fault) = Err fault
 
 -- two outcomes are the same
 abbrev pub SameServerOutcome : Result ServerEvent ChannelFault → Result ServerEvent ChannelFault → Type 0
@@ -56,7 +56,7 @@ SameServerOutcome a b = outcome_seen a ≡ outcome_seen b
 
 -- two outcomes are the same, and took the same number of bytes
 abbrev pub SameServerAnswer : Result (ℕ × ServerEvent) ChannelFault → Result (ℕ × ServerEvent) ChannelFault → Type 0
-SameServerAnswer a b = answer_seen a ≡ answer_seen b
+SameServerAnswer a b = server_answer_seen a ≡ server_answer_seen b
 
 -- an event with how many bytes were taken
 abbrev pub counted_with : ℕ → Result ServerEvent ChannelFault → Result (ℕ × ServerEvent) ChannelFault

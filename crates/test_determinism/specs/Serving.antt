@@ -9,12 +9,12 @@ use Rattle.ua_server.specs.declared.watch.AnsweredRequest.{AnsweredRequest}
 use Rattle.test_determinism.specs.Lines.{ComeAlike, WroteAlike}
 
 -- a call of the transport failed
-abbrev pub line_failed : Result End ServeFault → Bool
-line_failed (Ok end) = false
-line_failed (Err fault.Read) = true
-line_failed (Err (fault.Write n)) = true
-line_failed (Err fault.OutOfMemory) = false
-line_failed (Err fault.TooLong) = false
+abbrev pub line_failed_serving : Result End ServeFault → Bool
+line_failed_serving (Ok end) = false
+line_failed_serving (Err fault.Read) = true
+line_failed_serving (Err (fault.Write n)) = true
+line_failed_serving (Err fault.OutOfMemory) = false
+line_failed_serving (Err fault.TooLong) = false
 
 -- a write failed
 abbrev pub IsWriteFault : Result End ServeFault → Type 0
@@ -24,7 +24,7 @@ IsWriteFault other = ⊥
 -- the transports fail alike: no call of either fails; or a read of both fails, after the same
 -- bytes; or a write of both, after the same bytes
 pub data ServesAlike (a b : Result End ServeFault) (line after other later : Option Traffic) : Type 0 where
-  NoFault : line_failed a ≡ false → line_failed b ≡ false → ServesAlike a b line after other later
+  NoFault : line_failed_serving a ≡ false → line_failed_serving b ≡ false → ServesAlike a b line after other later
   AtRead : IsErrOf a fault.Read → IsErrOf b fault.Read → ComeAlike after later → ServesAlike a b line after other later
   AtWrite : IsWriteFault a → IsWriteFault b → WroteAlike line after other later → ServesAlike a b line after other later
 

@@ -10,16 +10,16 @@ use Rattle.ua_texts.specs.declared.script.Step.TheVariants.{Read, Write, Renew}
 -- ---- scripts
 
 -- two steps request the same: of a value the data that it stands for counts
-abbrev pub SameStep : Step → Step → Type 0
-SameStep (Read node range) (Read other part) = (node ≡ other) × (range ≡ part)
-SameStep (Write node value) (Write other also) = (node ≡ other) × (variant_of value ≡ variant_of also)
-SameStep Renew Renew = Unit {0}
-SameStep step other = ⊥
+abbrev pub SameScriptStep : Step → Step → Type 0
+SameScriptStep (Read node range) (Read other part) = (node ≡ other) × (range ≡ part)
+SameScriptStep (Write node value) (Write other also) = (node ≡ other) × (variant_of value ≡ variant_of also)
+SameScriptStep Renew Renew = Unit {0}
+SameScriptStep step other = ⊥
 
 -- two lines have one number and request the same
 pub record SameLine (one two : ScriptLine) : Type 0 where
   pub number : one.number ≡ two.number
-  pub step : SameStep one.step two.step
+  pub step : SameScriptStep one.step two.step
 
 -- two outcomes are the same: the same steps, line for line, or the same fault
 abbrev pub SameScript : {V : Type 0} → (V → List ScriptLine) → Result V ScriptFault → Result V ScriptFault → Type 0

@@ -2,7 +2,7 @@
 
 ghost use Rattle.std.specs.Prelude.{◌≡◌};
 ghost use Rattle.ua_exchange.specs.declared.fault.PairFault.TheVariants.{OutOfMemory};
-ghost use Rattle.ua_nodes.specs.Sound.{IsSound};
+ghost use Rattle.ua_nodes.specs.Sound.{AreNodesSound};
 ghost use Rattle.test_determinism.specs.Exchanges.{SameExchange};
 ghost use Rattle.test_determinism.specs.Pinned.{HadMemory};
 
@@ -23,7 +23,7 @@ pub fn exchange_twice(
     others: (&[usize], &[usize]),
     moment: DateTime,
 ) -> (Result<Transcript, PairFault>, Result<Transcript, PairFault>)
-    requires sound { IsSound table }
+    requires sound { AreNodesSound table }
     requires same { table ≡ again }
     ensures answers { HadMemory OutOfMemory result.0 result.1 → SameExchange result.0 result.1 }
 {

@@ -1,7 +1,7 @@
 //! Nodes that are loaded, read and written twice.
 
 ghost use Rattle.std.specs.Prelude.{◌≡◌, ◌≤◌, ◌+◌, IfOk, OnOk, vec_len, vec_capacity};
-ghost use Rattle.ua_nodes.specs.Sound.{IsSound};
+ghost use Rattle.ua_nodes.specs.Sound.{AreNodesSound};
 ghost use Rattle.ua_nodes.specs.declared.fault.InsertFault.TheVariants.{OutOfMemory as no_inserting_memory};
 ghost use Rattle.ua_nodes.specs.declared.fault.LoadFault.TheVariants.{OutOfMemory as no_loading_memory};
 ghost use Rattle.test_determinism.specs.Pinned.{AnswerAlike, HadMemory};
@@ -105,7 +105,7 @@ pub fn append_items_twice(
     also: &mut Vec<u8>,
 ) -> (Result<(), AllocError>, Result<(), AllocError>)
     requires same { one.now ≡ two.now }
-    requires sound { IsSound one.now }
+    requires sound { AreNodesSound one.now }
     requires octets { out.old.items ≡ also.old.items }
     ensures octets { OnOk result.0 (OnOk result.1 (out.new.items ≡ also.new.items)) }
 {

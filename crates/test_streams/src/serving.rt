@@ -1,7 +1,7 @@
 //! A server: its nodes, its services, and its steps over bytes.
 
 ghost use Rattle.std.specs.Prelude.{IfSome};
-ghost use Rattle.ua_nodes.specs.Sound.{IsSound};
+ghost use Rattle.ua_nodes.specs.Sound.{AreNodesSound};
 
 use crate::calling::tell_code;
 use crate::given::Given;
@@ -34,7 +34,7 @@ pub struct Serving {
 
 /// The nodes of a text.
 pub fn load(text: &str, told: &mut Told) -> Option<NodeTable>
-    ensures { IfSome result (λ table. IsSound table) }
+    ensures { IfSome result (λ table. AreNodesSound table) }
 {
     match NodeTable::load(told.alloc(), text) {
         Ok(nodes) => Some(nodes),

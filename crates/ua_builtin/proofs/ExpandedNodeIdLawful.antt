@@ -13,7 +13,7 @@ use Rattle.ua_wire.proofs.Lawfulness.{sound_number, sound_made, sound_both, lawf
 use Rattle.ua_wire.proofs.Leasts.{least_starts}
 use Rattle.ua_builtin.specs.Flags.{has, flag_bit, flagged_text, EncodesFlagged}
 use Rattle.ua_builtin.specs.NodeId.{in_form, form_of, EncodesNodeId}
-use Rattle.ua_builtin.specs.ExpandedNodeId.{expanded, expanded_node_id, expanded_fits, expanded_octets, octet_of}
+use Rattle.ua_builtin.specs.ExpandedNodeId.{expanded, expanded_node_id, expanded_fits, expanded_octets, flags_octet_of}
 use Rattle.ua_builtin.specs.ExpandedNodeId.{is_here, behind_octet, flagged_index, EncodesIndex, EncodesExpanded}
 use Rattle.ua_builtin.specs.declared.expanded_node_id.ExpandedNodeId.{ExpandedNodeId}
 use Rattle.ua_builtin.proofs.FlagBits.{flag_has, sound_flagged, sound_flagged_text, text_there, text_back, text_written}
@@ -156,7 +156,7 @@ written_octet v h =
     let first = both_true ((in_form form).encodable v.node_id) ((flagged_text uri).encodable v.namespace_uri && (flagged_index index).encodable v.server_index)
     h in
     let rest = both_true ((flagged_text uri).encodable v.namespace_uri) ((flagged_index index).encodable v.server_index) first.1 in
-    let fits : octet_of v < 256 = ltb-true (octet_of v) 256 (flags_say form uri index (form_below v.node_id)).3 in
+    let fits : flags_octet_of v < 256 = ltb-true (flags_octet_of v) 256 (flags_say form uri index (form_below v.node_id)).3 in
     record {
       has_uri = uri;
       has_index = index;
@@ -171,7 +171,7 @@ written_octet v h =
       octets =
           ap (λ (t : List ℕ).
           t ++ ((in_form form).canonical v.node_id ++ ((flagged_text uri).canonical v.namespace_uri ++ (flagged_index index).canonical v.server_index)))
-          (one_octet (octet_of v) fits);
+          (one_octet (flags_octet_of v) fits);
     }
 
 pub sound_expanded_node_id : IsSound expanded_node_id

@@ -12,7 +12,7 @@ use Rattle.ua_wire.proofs.Lawfulness.{sound_number, sound_nothing, sound_image, 
 use Rattle.ua_wire.proofs.CountedLawful.{sound_text, sound_counted}
 use Rattle.ua_wire.proofs.Leasts.{least_starts}
 use Rattle.ua_builtin.specs.NodeId.{node, node_id, in_form, form_of, is_short, two_octets, numeric, textual, by_guid, opaque, is_numeric, is_textual}
-use Rattle.ua_builtin.specs.NodeId.{is_guid, is_opaque, number_of, text_of, guid_of, octets_of, TwoOctet, FourOctet, NumericForm, StringForm}
+use Rattle.ua_builtin.specs.NodeId.{is_guid, is_opaque, number_of_identifier, text_of_identifier, guid_of, octets_of_identifier, TwoOctet, FourOctet, NumericForm, StringForm}
 use Rattle.ua_builtin.specs.NodeId.{GuidForm, OpaqueForm, EncodesNodeId, two_octet, four_octet, numeric_form, string_form, guid_form, opaque_form}
 use Rattle.ua_builtin.specs.declared.node_id.NodeId.{NodeId}
 use Rattle.ua_builtin.specs.declared.node_id.Identifier.{Identifier}
@@ -22,13 +22,13 @@ use Rattle.ua_builtin.proofs.Leasts.{node_id_least}
 
 -- ---- each form is sound
 
-of_numeric_is : (i : Identifier) → IsTrue (is_numeric i) → i ≡ Numeric (number_of i)
+of_numeric_is : (i : Identifier) → IsTrue (is_numeric i) → i ≡ Numeric (number_of_identifier i)
 of_numeric_is (Numeric n) h = refl
 of_numeric_is (Text t) h = not_false h
 of_numeric_is (Global g) h = not_false h
 of_numeric_is (Opaque b) h = not_false h
 
-of_textual_is : (i : Identifier) → IsTrue (is_textual i) → i ≡ Text (text_of i)
+of_textual_is : (i : Identifier) → IsTrue (is_textual i) → i ≡ Text (text_of_identifier i)
 of_textual_is (Numeric n) h = not_false h
 of_textual_is (Text t) h = refl
 of_textual_is (Global g) h = not_false h
@@ -40,27 +40,27 @@ of_guid_is (Text t) h = not_false h
 of_guid_is (Global g) h = refl
 of_guid_is (Opaque b) h = not_false h
 
-of_opaque_is : (i : Identifier) → IsTrue (is_opaque i) → i ≡ Opaque (octets_of i)
+of_opaque_is : (i : Identifier) → IsTrue (is_opaque i) → i ≡ Opaque (octets_of_identifier i)
 of_opaque_is (Numeric n) h = not_false h
 of_opaque_is (Text t) h = not_false h
 of_opaque_is (Global g) h = not_false h
 of_opaque_is (Opaque b) h = refl
 
-short_back : (v : NodeId) → IsTrue (is_short v) → v ≡ node 0 (Numeric (number_of v.identifier))
+short_back : (v : NodeId) → IsTrue (is_short v) → v ≡ node 0 (Numeric (number_of_identifier v.identifier))
 short_back v h =
     let w = both_true (nat_eq v.namespace 0) (is_numeric v.identifier) h in
-    ap (node v.namespace) (of_numeric_is v.identifier w.1) ∙ ap (λ (n : ℕ). node n (Numeric (number_of v.identifier))) (eqb-true v.namespace 0 w.0)
+    ap (node v.namespace) (of_numeric_is v.identifier w.1) ∙ ap (λ (n : ℕ). node n (Numeric (number_of_identifier v.identifier))) (eqb-true v.namespace 0 w.0)
 
-numeric_back : (v : NodeId) → IsTrue (is_numeric v.identifier) → v ≡ node v.namespace (Numeric (number_of v.identifier))
+numeric_back : (v : NodeId) → IsTrue (is_numeric v.identifier) → v ≡ node v.namespace (Numeric (number_of_identifier v.identifier))
 numeric_back v h = ap (node v.namespace) (of_numeric_is v.identifier h)
 
-textual_back : (v : NodeId) → IsTrue (is_textual v.identifier) → v ≡ node v.namespace (Text (text_of v.identifier))
+textual_back : (v : NodeId) → IsTrue (is_textual v.identifier) → v ≡ node v.namespace (Text (text_of_identifier v.identifier))
 textual_back v h = ap (node v.namespace) (of_textual_is v.identifier h)
 
 guid_back : (v : NodeId) → IsTrue (is_guid v.identifier) → v ≡ node v.namespace (Global (guid_of v.identifier))
 guid_back v h = ap (node v.namespace) (of_guid_is v.identifier h)
 
-opaque_back : (v : NodeId) → IsTrue (is_opaque v.identifier) → v ≡ node v.namespace (Opaque (octets_of v.identifier))
+opaque_back : (v : NodeId) → IsTrue (is_opaque v.identifier) → v ≡ node v.namespace (Opaque (octets_of_identifier v.identifier))
 opaque_back v h = ap (node v.namespace) (of_opaque_is v.identifier h)
 
 pub sound_in_form : (form : ℕ) → IsSound (in_form form)

@@ -14,7 +14,7 @@ use Rattle.std.proofs.lemmas.Str.Parse.{digit_at}
 use Rattle.std.proofs.lemmas.Fmt.{decimal_is_IsNumeral}
 use Rattle.ua_wire.proofs.Readers.{some_is}
 use Rattle.ua_builtin.specs.NodeText.{list_of, semicolon, namespace_text, identifier_text, node_text, IsDecimal, IsGuidText, NamesIdentifier}
-use Rattle.ua_builtin.specs.NodeText.{NamesNamespace, NamesNode, filled, filled_identifier, HasNoSemicolon, IsCutAtSemicolon, IsRest}
+use Rattle.ua_builtin.specs.NodeText.{NamesNamespace, NamesNode, with_empty_identifier, filled_identifier, HasNoSemicolon, IsCutAtSemicolon, IsNodeTextRest}
 use Rattle.ua_builtin.specs.declared.guid.Guid.{Guid}
 use Rattle.ua_builtin.specs.declared.node_id.NodeId.{NodeId}
 use Rattle.ua_builtin.specs.declared.node_id.Identifier.{Identifier}
@@ -105,7 +105,7 @@ no_namespace_number text rest digits back n e cut decimal large v h =
     large (omega (arith, sym decimal.value ∙ d.value, d.fits))
 
 pub numbered_rest : (text rest digits back : List ℕ) (n : ℕ) → text ≡ codes "ns=" ++ rest → IsCutAtSemicolon rest (Some (digits, back))
-    → IsDecimal (2 ^ 32) n digits → n < 2 ^ 16 → IsRest n back text
+    → IsDecimal (2 ^ 32) n digits → n < 2 ^ 16 → IsNodeTextRest n back text
 numbered_rest text rest digits back n e cut decimal small = record {
   names = λ i h. record {
     front = codes "ns=" ++ (digits ++ semicolon ∷ []);
@@ -151,7 +151,7 @@ namespace_cases n false e small =
     })
 
 pub node_names : (v : NodeId) (text : List ℕ) → v.namespace < 2 ^ 16 → text ≡ node_text v
-    → NamesIdentifier (filled_identifier v.identifier) (identifier_text v.identifier) → NamesNode (filled v) text
+    → NamesIdentifier (filled_identifier v.identifier) (identifier_text v.identifier) → NamesNode (with_empty_identifier v) text
 node_names v text small e named = record {
   front = namespace_text v.namespace;
   back = identifier_text v.identifier;

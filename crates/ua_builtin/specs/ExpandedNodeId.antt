@@ -43,8 +43,8 @@ abbrev pub flagged_index : Bool → Flat ℕ
 flagged_index = flagged (number 4) 0 is_here
 
 -- a URI is flagged where it isn't null, an index where it isn't 0
-abbrev pub octet_of : ExpandedNodeId → ℕ
-octet_of v = form_of v.node_id + flag_bit 0x80 (is_some v.namespace_uri) + flag_bit 0x40 (not (is_here v.server_index))
+abbrev pub flags_octet_of : ExpandedNodeId → ℕ
+flags_octet_of v = form_of v.node_id + flag_bit 0x80 (is_some v.namespace_uri) + flag_bit 0x40 (not (is_here v.server_index))
 
 -- each part can be encoded
 abbrev pub expanded_fits : ExpandedNodeId → Bool
@@ -56,7 +56,7 @@ expanded_fits v =
 -- index unless it is 0
 abbrev pub expanded_octets : ExpandedNodeId → List ℕ
 expanded_octets v =
-    number_octets 1 (octet_of v)
+    number_octets 1 (flags_octet_of v)
     ++ ((in_form (form_of v.node_id)).canonical v.node_id
     ++ ((flagged_text (is_some v.namespace_uri)).canonical v.namespace_uri ++ (flagged_index (not (is_here v.server_index))).canonical v.server_index))
 

@@ -118,18 +118,18 @@ is_opaque (Global g) = false
 is_opaque (Opaque b) = true
 
 -- the number that is the identifier, and 0 for any other identifier
-abbrev pub number_of : Identifier → ℕ
-number_of (Numeric n) = n
-number_of (Text t) = 0
-number_of (Global g) = 0
-number_of (Opaque b) = 0
+abbrev pub number_of_identifier : Identifier → ℕ
+number_of_identifier (Numeric n) = n
+number_of_identifier (Text t) = 0
+number_of_identifier (Global g) = 0
+number_of_identifier (Opaque b) = 0
 
 -- the String that is the identifier, and null for any other identifier
-abbrev pub text_of : Identifier → Option (List ℕ)
-text_of (Numeric n) = None
-text_of (Text t) = t
-text_of (Global g) = None
-text_of (Opaque b) = None
+abbrev pub text_of_identifier : Identifier → Option (List ℕ)
+text_of_identifier (Numeric n) = None
+text_of_identifier (Text t) = t
+text_of_identifier (Global g) = None
+text_of_identifier (Opaque b) = None
 
 -- the Guid that is the identifier, and one without bytes for any other identifier
 abbrev pub guid_of : Identifier → Guid
@@ -139,11 +139,11 @@ guid_of (Global g) = g
 guid_of (Opaque b) = record { uuid = [] }
 
 -- the ByteString that is the identifier, and null for any other identifier
-abbrev pub octets_of : Identifier → Option (List ℕ)
-octets_of (Numeric n) = None
-octets_of (Text t) = None
-octets_of (Global g) = None
-octets_of (Opaque b) = b
+abbrev pub octets_of_identifier : Identifier → Option (List ℕ)
+octets_of_identifier (Numeric n) = None
+octets_of_identifier (Text t) = None
+octets_of_identifier (Global g) = None
+octets_of_identifier (Opaque b) = b
 
 -- ---- the forms, as they are read and written
 
@@ -153,15 +153,15 @@ is_short v = nat_eq v.namespace 0 && is_numeric v.identifier
 
 -- form 0x00: the id as Byte, in the namespace 0
 abbrev pub two_octets : Flat NodeId
-two_octets = image (λ n. node 0 (Numeric n)) (λ v. number_of v.identifier) is_short (number 1)
+two_octets = image (λ n. node 0 (Numeric n)) (λ v. number_of_identifier v.identifier) is_short (number 1)
 
 -- forms 0x01 and 0x02: namespace and id, of this many bytes
 abbrev pub numeric : ℕ → ℕ → Flat NodeId
-numeric m n = image (λ p. node p.0 (Numeric p.1)) (λ v. (v.namespace, number_of v.identifier)) (λ v. is_numeric v.identifier) (both (number m) (number n))
+numeric m n = image (λ p. node p.0 (Numeric p.1)) (λ v. (v.namespace, number_of_identifier v.identifier)) (λ v. is_numeric v.identifier) (both (number m) (number n))
 
 -- form 0x03: namespace UInt16 and a String
 abbrev pub textual : Flat NodeId
-textual = image (λ p. node p.0 (Text p.1)) (λ v. (v.namespace, text_of v.identifier)) (λ v. is_textual v.identifier) (both (number 2) text)
+textual = image (λ p. node p.0 (Text p.1)) (λ v. (v.namespace, text_of_identifier v.identifier)) (λ v. is_textual v.identifier) (both (number 2) text)
 
 -- form 0x04: namespace UInt16 and a Guid
 abbrev pub by_guid : Flat NodeId
@@ -169,7 +169,7 @@ by_guid = image (λ p. node p.0 (Global p.1)) (λ v. (v.namespace, guid_of v.ide
 
 -- form 0x05: namespace UInt16 and a ByteString
 abbrev pub opaque : Flat NodeId
-opaque = image (λ p. node p.0 (Opaque p.1)) (λ v. (v.namespace, octets_of v.identifier)) (λ v. is_opaque v.identifier) (both (number 2) counted)
+opaque = image (λ p. node p.0 (Opaque p.1)) (λ v. (v.namespace, octets_of_identifier v.identifier)) (λ v. is_opaque v.identifier) (both (number 2) counted)
 
 -- what follows the form byte, for each form from 0x00 to 0x05; there is no other
 abbrev pub in_form : ℕ → Flat NodeId
@@ -191,7 +191,7 @@ shortest_form namespace number =
 -- identifier's kind
 abbrev pub form_of : NodeId → ℕ
 form_of v =
-    cond (is_numeric v.identifier) (shortest_form v.namespace (number_of v.identifier))
+    cond (is_numeric v.identifier) (shortest_form v.namespace (number_of_identifier v.identifier))
     (cond (is_textual v.identifier) 0x03 (cond (is_guid v.identifier) 0x04 0x05))
 
 -- the form byte, and what follows it

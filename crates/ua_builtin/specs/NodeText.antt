@@ -85,8 +85,8 @@ filled_identifier (Global g) = Global g
 filled_identifier (Opaque b) = Opaque (Some (list_of b))
 
 -- the same NodeId, with an empty identifier in place of a null one
-abbrev pub filled : NodeId → NodeId
-filled v = record { namespace = v.namespace; identifier = filled_identifier v.identifier }
+abbrev pub with_empty_identifier : NodeId → NodeId
+with_empty_identifier v = record { namespace = v.namespace; identifier = filled_identifier v.identifier }
 
 -- ---- the parts of a text
 
@@ -106,6 +106,6 @@ IsCutAtSemicolon text (Some p) = (text ≡ p.0 ++ semicolon ∷ p.1) × ((front 
     → (p.0 ≡ front) × (p.1 ≡ back))
 
 -- a text names a NodeId of this namespace if the rest names its identifier, and no other NodeId
-pub record IsRest (namespace : ℕ) (rest text : List ℕ) : Type 0 where
+pub record IsNodeTextRest (namespace : ℕ) (rest text : List ℕ) : Type 0 where
   pub names : (i : Identifier) → NamesIdentifier i rest → NamesNode (node namespace i) text
   pub alone : (v : NodeId) → NamesNode v text → (v.namespace ≡ namespace) × NamesIdentifier v.identifier rest

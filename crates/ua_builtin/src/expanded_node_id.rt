@@ -26,7 +26,7 @@ impl ExpandedNodeId {
     ghost use Rattle.std.specs.Prelude.{◌≡◌, ◌++◌, IsTrue, is_some, not, IfOk, OnOk, OnErr};
     ghost use Rattle.ua_wire.specs.Format.{Extends};
     ghost use Rattle.ua_builtin.specs.Flags.{flagged_text};
-    ghost use Rattle.ua_builtin.specs.ExpandedNodeId.{octet_of, flagged_index, is_here};
+    ghost use Rattle.ua_builtin.specs.ExpandedNodeId.{flags_octet_of, flagged_index, is_here};
 
     /// Returns an owned copy, equal to this value.
     pub fn try_clone(&self) -> Result<ExpandedNodeId, AllocError>
@@ -41,7 +41,7 @@ impl ExpandedNodeId {
 
     // The form byte with the flags of what is there.
     fn octet(&self) -> u8
-        ensures { result ≡ octet_of self.now }
+        ensures { result ≡ flags_octet_of self.now }
     {
         self.node_id.form()
             + flags::flag_of(HAS_NAMESPACE_URI, self.namespace_uri.is_some())

@@ -5,8 +5,8 @@ ghost use Rattle.std.specs.Prelude.{IfOk, IsErrOf, IfSome, IsNone, OnOk, MatchOp
 ghost use Rattle.base64.specs.Engines.{standard};
 ghost use Rattle.base64.specs.GeneralPurpose.{encode_of, IsBytes};
 ghost use Rattle.ua_builtin.specs.NodeText.{node_text, namespace_text, identifier_text, IsDecimal};
-ghost use Rattle.ua_builtin.specs.NodeText.{NamesIdentifier, NamesNode, filled, filled_identifier};
-ghost use Rattle.ua_builtin.specs.NodeText.{IsBehind, IsCutAtSemicolon, IsRest, IsGuidText, IsBase64};
+ghost use Rattle.ua_builtin.specs.NodeText.{NamesIdentifier, NamesNode, with_empty_identifier, filled_identifier};
+ghost use Rattle.ua_builtin.specs.NodeText.{IsBehind, IsCutAtSemicolon, IsNodeTextRest, IsGuidText, IsBase64};
 ghost use Rattle.ua_builtin.specs.declared.fault.TextFault.TheVariants.{NotNodeId};
 ghost use Rattle.ua_builtin.specs.declared.guid.Guid.{Guid};
 ghost use Rattle.ua_builtin.specs.declared.node_id.NodeId.{NodeId};
@@ -26,7 +26,7 @@ impl NodeId {
     /// identifier, where a null one is printed as an empty one (OPC 10000-6, 5.3.1.10).
     pub fn to_text(&self, alloc: Global) -> Result<String, AllocError>
         ensures text { IfOk result (λ t. string_bytes t ≡ node_text self.now) }
-        ensures names { IfOk result (λ t. NamesNode (filled self.now) (string_bytes t)) }
+        ensures names { IfOk result (λ t. NamesNode (with_empty_identifier self.now) (string_bytes t)) }
     {
         let mut text = namespace_prefix(alloc, self.namespace)?;
         self.identifier.append_text(alloc, &mut text)?;
@@ -95,7 +95,7 @@ fn append_base64(octets: &[u8], out: &mut String) -> Result<(), AllocError>
 
 // The namespace, and the text of the identifier.
 fn split_namespace(text: &str) -> Option<(u16, &str)>
-    ensures some { IfSome result (λ r. IsRest r.0 r.1.now text.now) }
+    ensures some { IfSome result (λ r. IsNodeTextRest r.0 r.1.now text.now) }
     ensures none { IsNone result → (v : NodeId) → ¬ (NamesNode v text.now) }
 {
     let Some(rest) = behind(text, "ns=") else {

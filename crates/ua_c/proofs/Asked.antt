@@ -7,7 +7,7 @@ use Rattle.ua_channel.specs.declared.client.channel.ClientChannel.{ClientChannel
 use Rattle.ua_channel.specs.declared.client.event.ClientEvent.{ClientEvent}
 use Rattle.ua_channel.specs.declared.client.fault.AskFault.{AskFault}
 use Rattle.ua_channel.specs.declared.client.fault.ClientTakeFault.{ClientTakeFault}
-use Rattle.ua_c.specs.Asking.{AsksAs, AsksBody, AsksClient, AsksMachine, ClosesAs, ClosesClient, ClosesMachine, HoldsClient, RenewsAs}
+use Rattle.ua_c.specs.Asking.{AsksAs, AsksBody, AsksClient, AsksMachine, ClosesAs, ClosesHeldClient, ClosesMachine, HoldsClient, RenewsAs}
 use Rattle.ua_c.specs.Asking.{RenewsClient, RenewsMachine, ShowsAsk, ShowsClose, ShowsTake, TakesAs, TakesClient, TakesMachine}
 use Rattle.ua_c.specs.Handled.{OfClient, WhereNone}
 use Rattle.ua_c.specs.declared.holding.Holding.{Holding}
@@ -35,7 +35,7 @@ renews_client old new moment status id answer client renews holds shown =
 
 -- the same of a close
 pub closes_client : (old : ClientChannel) (new : Holding) (moment : DateTime) (status : ℕ) (answer : Result (Vec ℕ Global) AskFault) (client : ClientChannel)
-    → ClosesAs old moment answer client → HoldsClient client new → ShowsClose answer status [] new.waiting → ClosesClient old new moment status
+    → ClosesAs old moment answer client → HoldsClient client new → ShowsClose answer status [] new.waiting → ClosesHeldClient old new moment status
 closes_client old new moment status answer client closes holds shown =
     record { answer = answer; client = client; holds = holds; closes = closes; shown = shown }
 
@@ -74,5 +74,5 @@ pub closes_machine : (old new : Holding) (moment : DateTime) (status : ℕ) (bef
     → old.machine ≡ machine.Client before → (0 < length old.waiting → ⊥) → ClosesAs before moment answer client → HoldsClient client new
     → ShowsClose answer status old.waiting new.waiting → ClosesMachine old new moment status
 closes_machine old new moment status before client answer is none closes holds shown =
-    of_client old new _ (λ x. ClosesClient x new moment status) before is none
+    of_client old new _ (λ x. ClosesHeldClient x new moment status) before is none
     (λ e. closes_client before new moment status answer client closes holds (subst (λ w. ShowsClose answer status w new.waiting) e shown))

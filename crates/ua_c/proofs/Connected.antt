@@ -10,7 +10,7 @@ use Rattle.ua_c.specs.Connecting.{IsNewConnection, MakesConnection, SaysOnly, St
 use Rattle.ua_c.specs.Handled.{OfNodes, OfShared, WhereNone}
 use Rattle.ua_c.specs.Limits.{AreEnough, AreThese}
 use Rattle.ua_c.specs.Making.{Seats}
-use Rattle.ua_c.specs.Serving.{Shows, nothing}
+use Rattle.ua_c.specs.Serving.{Shows, status_report}
 use Rattle.ua_c.specs.Shared.{IsAbout, IsShared, MakesNodes}
 use Rattle.ua_c.specs.Status.{fetch_first, other_handle}
 use Rattle.ua_c.specs.Telling.{untold_in}
@@ -94,7 +94,7 @@ nodes_made file url application_uri name most old new line reason status shared 
 -- what it does where the second handle holds no nodes
 pub steps_other : (old new before after : Holding) (piece : List ℕ) (moment : DateTime) (report : Report) (was : ServedConnection)
     → old.machine ≡ machine.Connection was → ((s : SharedNodes) → before.machine ≡ machine.Nodes s → ⊥)
-    → new ≡ old → after ≡ before → report ≡ nothing other_handle → StepsShared old new before after piece moment report
+    → new ≡ old → after ≡ before → report ≡ status_report other_handle → StepsShared old new before after piece moment report
 steps_other old new before after piece moment report was was_is other same kept told =
     subst (λ m. OfShared m before.machine (SaysOnly report before after other_handle × (new ≡ old))
     (λ c s. WhereNone old new (SaysOnly report before after) (StepsConnection c s new before after piece moment report))) (sym was_is)
@@ -111,7 +111,7 @@ steps_other old new before after piece moment report was was_is other same kept 
 -- what it does where octets wait
 pub steps_waiting : (old new before after : Holding) (piece : List ℕ) (moment : DateTime) (report : Report) (was : ServedConnection) (shared : SharedNodes)
     → old.machine ≡ machine.Connection was → before.machine ≡ machine.Nodes shared
-    → 0 < length old.waiting → new ≡ old → after ≡ before → report ≡ nothing fetch_first → StepsShared old new before after piece moment report
+    → 0 < length old.waiting → new ≡ old → after ≡ before → report ≡ status_report fetch_first → StepsShared old new before after piece moment report
 steps_waiting old new before after piece moment report was shared was_is shared_is some same kept told =
     subst (λ m. OfShared m before.machine (SaysOnly report before after other_handle × (new ≡ old))
     (λ c s. WhereNone old new (SaysOnly report before after) (StepsConnection c s new before after piece moment report))) (sym was_is)

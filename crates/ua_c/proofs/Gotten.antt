@@ -4,7 +4,7 @@ use Rattle.std.proofs.lemmas.Bool.{le-leb, leb-true}
 use Rattle.std.specs.List.{slice_get}
 use Rattle.ua_builtin.specs.declared.node_id.NodeId.{NodeId}
 use Rattle.ua_nodes.proofs.Fits.{both_are}
-use Rattle.ua_nodes.specs.Sound.{IsSound, IsSoundNode, held_fields}
+use Rattle.ua_nodes.specs.Sound.{AreNodesSound, IsSoundNode, held_fields}
 use Rattle.ua_nodes.specs.Table.{Nodes}
 use Rattle.ua_nodes.specs.declared.node.Variable.{Variable}
 use Rattle.ua_variant.specs.Data.{VariantData}
@@ -31,13 +31,13 @@ encodes_sound id v sound =
 some_same : {x y : Variable} → ◌≡◌ {A = Option Variable} (Some x) (Some y) → x ≡ y
 some_same e = cc
 
-encodes_at : (nodes : Nodes) (index : ℕ) (v : Variable) → IsSound nodes → option_map (λ (node : NodeId × Variable). node.1) (slice_get nodes index) ≡ Some v
+encodes_at : (nodes : Nodes) (index : ℕ) (v : Variable) → AreNodesSound nodes → option_map (λ (node : NodeId × Variable). node.1) (slice_get nodes index) ≡ Some v
     → IsTrue (variant_encodable v.value)
 encodes_at [] index v sound e = absurd cc
 encodes_at (node ∷ nodes) zero v sound e = subst (λ (w : Variable). IsTrue (variant_encodable w.value)) (some_same e) (encodes_sound node.0 node.1 sound.0)
 encodes_at (node ∷ nodes) (suc i) v sound e = encodes_at nodes i v sound.1 e
 
-pub encodes_at_index : (shared : SharedNodes) (index : ℕ) (v : Variable) → IsSound shared.services.nodes → node_at_index shared index ≡ Some v
+pub encodes_at_index : (shared : SharedNodes) (index : ℕ) (v : Variable) → AreNodesSound shared.services.nodes → node_at_index shared index ≡ Some v
     → IsTrue (variant_encodable v.value)
 encodes_at_index shared index v sound e = encodes_at shared.services.nodes index v sound e
 

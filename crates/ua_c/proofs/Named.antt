@@ -6,7 +6,7 @@ use Rattle.std.proofs.lemmas.List.{take_more}
 use Rattle.std.proofs.lemmas.Slice.Zip.{AllZip-long, all_zipped_more}
 use Rattle.std.specs.List.{AllZip}
 use Rattle.ua_builtin.specs.declared.node_id.NodeId.{NodeId}
-use Rattle.ua_c.specs.Requests.{AreNamed, AreNoNodes, AreUnnamed, IsNoNode, IsUnnamed, IsUnnamedAt, Names, NamesNone, lines}
+use Rattle.ua_c.specs.Requests.{LinesNameNodes, AreNoNodes, AreUnnamed, IsNoNode, IsUnnamed, IsUnnamedAt, Names, NamesNone, lines}
 use Rattle.ua_c.specs.Status.{text_node}
 use Rattle.ua_c.specs.declared.bad_text.BadText.{BadText}
 
@@ -59,5 +59,5 @@ none_of_lines (Err bad) text octets e (inl starved) = inl (starved.0, starved.1,
 none_of_lines (Err bad) text octets e (inr at) = inr (at.0, subst (λ (t : List ℕ). IsUnnamedAt t bad.index bad.status) e at.1)
 
 -- all lines
-pub named_all : (text : List ℕ) (n : ℕ) (nodes : List NodeId) → n ≡ length (lines text) → NamedUpTo text n nodes → AreNamed text nodes
+pub named_all : (text : List ℕ) (n : ℕ) (nodes : List NodeId) → n ≡ length (lines text) → NamedUpTo text n nodes → LinesNameNodes text nodes
 named_all text n nodes e all = subst (λ (t : List (List ℕ)). AllZip Names t nodes) (take-length (lines text)) (subst (λ (k : ℕ). NamedUpTo text k nodes) e all)

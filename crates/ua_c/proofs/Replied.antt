@@ -12,7 +12,7 @@ use Rattle.ua_opening.specs.Message.{IsBody, IsNoBody, kind_at}
 use Rattle.ua_opening.specs.declared.header.ResponseHeader.{ResponseHeader}
 use Rattle.ua_services.proofs.ResponseLawful.{lawful_response}
 use Rattle.ua_services.proofs.ResponseRead.{Reads, id_fails, kind_fails, kind_found, kind_left, kind_whole, response_found, response_refused}
-use Rattle.ua_services.specs.Response.{Structure, response, response_kind, response_read, responses}
+use Rattle.ua_services.specs.Response.{ResponseStructure, response, response_kind, response_read, responses}
 use Rattle.ua_services.specs.declared.fault.ResponseFault.TheVariants.{Unreadable}
 use Rattle.ua_services.specs.declared.response.Response.{Response}
 use Rattle.ua_services.specs.declared.response.Response.TheVariants.{Read}
@@ -28,7 +28,7 @@ use Rattle.ua_wire.specs.declared.fault.ReadFault.{ReadFault}
 use Rattle.ua_wire.specs.declared.fault.ReadFault.TheVariants.{NoValue, OutOfMemory}
 use Rattle.ua_c.specs.Responses.{IsNoResponse, OfResponse}
 use Rattle.ua_c.specs.Status.{bad_octets}
-use Rattle.ua_c.specs.Views.{AnnouncesOther, AreResults, AreViewsOf, HasNoResults, Sees, SeesBy, results_in, status_of}
+use Rattle.ua_c.specs.Views.{AnnouncesOther, AreResults, AreViewsOf, HasNoResults, Sees, SeesBy, results_in, status_of_read_fault}
 use Rattle.ua_c.specs.declared.readings.UaReading.{UaReading}
 
 -- ---- two readers, one behind the other
@@ -106,7 +106,7 @@ diagnostics_fault Are One old a b new last header OutOfMemory h s none = tt
 refused : (body : List ℕ) → Reads (Err Unreadable) (response_read body) → IsNoBody response body
 refused body h = (response_refused body (Err Unreadable) h).1
 
-pub no_response : (body : List ℕ) (e : ReadFault) (new : List ℕ) (status : ℕ) → Gives node_id.decode body new (Err e) → status ≡ status_of e
+pub no_response : (body : List ℕ) (e : ReadFault) (new : List ℕ) (status : ℕ) → Gives node_id.decode body new (Err e) → status ≡ status_of_read_fault e
     → IsNoResponse body status
 no_response body NoValue new status h is = inr (is, refused body (id_fails body new NoValue h))
 no_response body OutOfMemory new status h is = inl is
@@ -117,7 +117,7 @@ kind_of_reply rest o e = image_reads Read reply_read rest o e
 
 pub no_reply : {X : Type 0} (Are : X → ReadResponse → Type 0) (body rest new : List ℕ) (id : NodeId) (e : ReadFault) (status : ℕ)
     → node_id.decode body ≡ Some (id, rest) → response_kind id ≡ Some kind.Read
-    → SeesBy reply_read Are rest new (Err e) → status ≡ status_of e → IsNoResponse body status
+    → SeesBy reply_read Are rest new (Err e) → status ≡ status_of_read_fault e → IsNoResponse body status
 no_reply Are body rest new id NoValue status found is none e =
     inr (e, refused body (kind_found kind.Read body rest id (Err Unreadable) found is (kind_fails kind.Read rest new NoValue (kind_of_reply rest None none))))
 no_reply Are body rest new id OutOfMemory status found is none e = inl e
@@ -141,7 +141,7 @@ reply_found body rest new id readings found is s none =
 
 -- ---- another response
 
-of_another_kind : (k : ResponseKind) → (k ≡ kind.Read → ⊥) → (s : Structure k) → results_in (responses.make k s) ≡ None
+of_another_kind : (k : ResponseKind) → (k ≡ kind.Read → ⊥) → (s : ResponseStructure k) → results_in (responses.make k s) ≡ None
 of_another_kind kind.GetEndpoints other s = refl
 of_another_kind kind.CreateSession other s = refl
 of_another_kind kind.ActivateSession other s = refl
@@ -150,10 +150,10 @@ of_another_kind kind.Read other s = absurd (other refl)
 of_another_kind kind.Write other s = refl
 of_another_kind kind.ServiceFault other s = refl
 
-abbrev image_of : (k : ResponseKind) → Option (Structure k × List ℕ) → Option (Response × List ℕ)
+abbrev image_of : (k : ResponseKind) → Option (ResponseStructure k × List ℕ) → Option (Response × List ℕ)
 image_of k found = found >>= λ x. Some (responses.make k x.0, x.1)
 
-made_by : (k : ResponseKind) → (k ≡ kind.Read → ⊥) → (r : Response) (found : Option (Structure k × List ℕ)) → image_of k found ≡ Some (r, []) → HasNoResults r
+made_by : (k : ResponseKind) → (k ≡ kind.Read → ⊥) → (r : Response) (found : Option (ResponseStructure k × List ℕ)) → image_of k found ≡ Some (r, []) → HasNoResults r
 made_by k other r None e = absurd cc
 made_by k other r (Some x) e =
     let p : Response × List ℕ = (responses.make k x.0, x.1) in
@@ -183,7 +183,7 @@ pub match_none : {A : Type 0} (o : Option A) (P : Type 0) (Q : A → Type 0) →
 match_none None P Q e h = h
 match_none (Some a) P Q e h = absurd cc
 
-pub no_id : (body at new : List ℕ) (e : ReadFault) (status : ℕ) → at ≡ body → Gives node_id.decode at new (Err e) → status ≡ status_of e
+pub no_id : (body at new : List ℕ) (e : ReadFault) (status : ℕ) → at ≡ body → Gives node_id.decode at new (Err e) → status ≡ status_of_read_fault e
     → IsNoResponse body status
 no_id body at new e status is h told = no_response body e new status (subst (λ (b : List ℕ). Gives node_id.decode b new (Err e)) is h) told
 

@@ -15,7 +15,7 @@ use Rattle.ua_builtin.specs.declared.status_code.StatusCode.{StatusCode}
 use Rattle.ua_diagnostic.specs.Parts.{Optional}
 use Rattle.ua_builtin.specs.Flags.{has}
 use Rattle.ua_opening.proofs.ItemsRead.{with_front, fault_ends, goes_on, is_done}
-use Rattle.ua_opening.specs.Array.{array, behind_count, items_at}
+use Rattle.ua_opening.specs.Array.{array, array_behind_count, items_at}
 use Rattle.ua_variant.proofs.VariantsLawful.{lawful_data_value}
 use Rattle.ua_variant.specs.Data.{DataFields, VariantData}
 use Rattle.ua_variant.specs.Encoding.{EncodesDataValue, EncodesVariant}
@@ -26,7 +26,7 @@ use Rattle.ua_variant.specs.declared.values.DataValue.{DataValue}
 use Rattle.ua_wire.proofs.NumbersRead.{length-number_octets}
 use Rattle.ua_wire.specs.declared.fault.ReadFault.{ReadFault}
 use Rattle.ua_wire.specs.declared.fault.ReadFault.TheVariants.{NoValue, OutOfMemory}
-use Rattle.ua_c.specs.Views.{AreViews, AreViewsOf, IsView, Sees, SeesBy, StandsAt, fields_size, if_there, reading_of}
+use Rattle.ua_c.specs.Views.{AreViews, AreViewsOf, IsView, Sees, SeesBy, EncodesAt, fields_size, if_there, reading_of}
 use Rattle.ua_c.specs.declared.readings.UaReading.{UaReading}
 
 -- ---- the octets of fields
@@ -132,7 +132,7 @@ take_all v rest n e = subst (λ (k : ℕ). take k (v ++ rest) ≡ v) (sym e) (by
 
 stands : (body new before : List ℕ) (o : Option VariantData) (f : DataFields) (front : List ℕ) (at size : ℕ) → Parted o f front
     → body ≡ before ++ (front ++ new) → at ≡ length before + 1 → size + 1 + fields_octets f ≡ length front
-    → StandsAt body o at size
+    → EncodesAt body o at size
 stands body new before None f front at size p e is len = tt
 stands body new before (Some v) f front at size p e is len =
     let n : size ≡ length p.value = omega (arith, len, ap length p.parts, length-append p.value p.fields, p.size) in
@@ -148,7 +148,7 @@ stands body new before (Some v) f front at size p e is len =
 -- the value of a DataValue that was read stands at this place
 pub value_stands : (body old new : List ℕ) (d : DataValue) (at size : ℕ) → Behind body old → data_value_format.decode most_levels old ≡ Some (d, new)
     → at + length old ≡ length body + 1 → size + 1 + fields_size d + length new ≡ length old
-    → StandsAt body d.value at size
+    → EncodesAt body d.value at size
 value_stands body old new d at size behind e is len =
     let b = begins old new d e in
     let whole : body ≡ behind.taken ++ (b.front ++ new) = behind.parts ∙ ap (λ (t : List ℕ). behind.taken ++ t) b.parts in
@@ -229,15 +229,15 @@ seen_fault One All body first old new last count counter readings OutOfMemory lt
 abbrev array_read : List ℕ → Option (Option (List DataValue) × List ℕ)
 array_read = (array data_value_format).decode most_levels
 
-array_is : (old rest : List ℕ) (count : ℕ) → number_at 4 old ≡ Some (count, rest) → array_read old ≡ behind_count read_one count rest
+array_is : (old rest : List ℕ) (count : ℕ) → number_at 4 old ≡ Some (count, rest) → array_read old ≡ array_behind_count read_one count rest
 unfolding array
-array_is old rest count e = ap (λ o. o >>= λ x. behind_count read_one x.0 x.1) e
+array_is old rest count e = ap (λ o. o >>= λ x. array_behind_count read_one x.0 x.1) e
 
-counted_is : (rest : List ℕ) (count : ℕ) → count < first_negative → behind_count read_one count rest ≡ image_read Some (items_at read_one count) rest
+counted_is : (rest : List ℕ) (count : ℕ) → count < first_negative → array_behind_count read_one count rest ≡ image_read Some (items_at read_one count) rest
 counted_is rest count small = ap (λ (test : Bool). cond test (image_read Some (items_at read_one count) rest) (Some (None, rest)))
     (lt-ltb count first_negative small)
 
-null_is : (rest : List ℕ) (count : ℕ) → first_negative ≤ count → behind_count read_one count rest ≡ Some (None, rest)
+null_is : (rest : List ℕ) (count : ℕ) → first_negative ≤ count → array_behind_count read_one count rest ≡ Some (None, rest)
 null_is rest count large = ap (λ (test : Bool). cond test (image_read Some (items_at read_one count) rest) (Some (None, rest)))
     (le-ltb count first_negative large)
 
@@ -262,5 +262,5 @@ array_seen items body old rest new count (Err OutOfMemory) e small s = tt
 pub count_fault : {X : Type 0} (Are : X → Option (List DataValue) → Type 0) (old new last : List ℕ) (e : ReadFault) → Gives (number_at 4) old new (Err e)
     → SeesBy array_read Are old last (Err e)
 unfolding array
-count_fault Are old new last NoValue h = ap (λ o. o >>= λ x. behind_count read_one x.0 x.1) h
+count_fault Are old new last NoValue h = ap (λ o. o >>= λ x. array_behind_count read_one x.0 x.1) h
 count_fault Are old new last OutOfMemory h = tt

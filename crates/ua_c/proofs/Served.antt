@@ -5,7 +5,7 @@ use Rattle.ua_server.specs.declared.step.Step.{Step}
 use Rattle.ua_server.specs.declared.step.StepFault.{StepFault}
 use Rattle.ua_server.specs.State.{begun}
 use Rattle.ua_c.specs.Handled.{OfServer, WhereNone}
-use Rattle.ua_c.specs.Serving.{HoldsFresh, NextMachine, Shows, StepsAs, StepsMachine, StepsServer, nothing}
+use Rattle.ua_c.specs.Serving.{HoldsFresh, NextMachine, Shows, StepsAs, StepsMachine, StepsServer, status_report}
 use Rattle.ua_c.specs.Status.{ok}
 use Rattle.ua_c.specs.declared.holding.Holding.{Holding}
 use Rattle.ua_c.specs.declared.holding.Machine.TheVariants as machine
@@ -32,8 +32,8 @@ pub steps_machine : (old new : Holding) (piece : List ℕ) (moment : DateTime) (
     → new.machine ≡ machine.Server left → Shows answer report old.waiting new.waiting → StepsMachine old new piece moment report
 steps_machine old new piece moment report before left answer is none steps limits machine_is shown =
     subst (λ m.
-    OfServer m old new (λ why. report ≡ nothing why)
-    (λ station. WhereNone old new (λ why. report ≡ nothing why) (StepsServer station new piece moment report))) (sym is) (
+    OfServer m old new (λ why. report ≡ status_report why)
+    (λ station. WhereNone old new (λ why. report ≡ status_report why) (StepsServer station new piece moment report))) (sym is) (
       (λ some. absurd (none some)),
       (λ e. steps_server before new piece moment report answer left steps limits machine_is (subst (λ w. Shows answer report w new.waiting) e shown)),
     )

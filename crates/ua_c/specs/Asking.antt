@@ -14,7 +14,7 @@ use Rattle.ua_channel.specs.Asks.Asking.{Call, Renewal}
 use Rattle.ua_channel.specs.Client.{ClientStands, ClientGoes, ClientStarvedAt, IsClientDone, SameClient, client_limits, url_of, client_next}
 use Rattle.ua_channel.specs.Client.{client_bound, call_refused, renewal_refused, closing_refused, SendsCall, SendsRenewal, SendsClosing}
 use Rattle.ua_channel.specs.ClientAnswers.{ClientAnswers, ComesInParts, ClientProgress, parts_handed}
-use Rattle.ua_channel.specs.ClientAsks.{AnswersFor, IsCalled, IsClosed, IsRenewed, call_reasons, closing_reasons, renewing_reasons}
+use Rattle.ua_channel.specs.ClientAsks.{AnswersFor, IsCalled, IsCloseWith, IsRenewalWith, call_reasons, closing_reasons, renewing_reasons}
 use Rattle.ua_channel.specs.ClientSends.{hello_frame, hello_to}
 use Rattle.ua_channel.specs.ClientTold.{ClientTold as ToldOfFrame}
 use Rattle.ua_channel.specs.Received.{received}
@@ -34,15 +34,15 @@ use Rattle.ua_c.specs.declared.told.Told.{Told}
 -- ---- what of a channel's answers C is told
 
 -- what is told of bytes that were taken
-abbrev pub told_of : ℕ → ClientEvent → Told
-told_of taken event.NeedMore = record { status = ok; taken = taken; event = 0; id = 0; code = 0 }
-told_of taken (event.Send octets) = record { status = ok; taken = taken; event = 1; id = 0; code = 0 }
-told_of taken event.Open = record { status = ok; taken = taken; event = 2; id = 0; code = 0 }
-told_of taken (event.Answered id message) = record { status = ok; taken = taken; event = 3; id = id; code = 0 }
-told_of taken (event.Aborted id code) = record { status = ok; taken = taken; event = 4; id = id; code = code.code }
-told_of taken (event.Renewed token) = record { status = ok; taken = taken; event = 5; id = token; code = 0 }
-told_of taken (event.Failed code false) = record { status = refused; taken = taken; event = 6; id = 0; code = code.code }
-told_of taken (event.Failed code true) = record { status = refused; taken = taken; event = 7; id = 0; code = code.code }
+abbrev pub told_of_taken : ℕ → ClientEvent → Told
+told_of_taken taken event.NeedMore = record { status = ok; taken = taken; event = 0; id = 0; code = 0 }
+told_of_taken taken (event.Send octets) = record { status = ok; taken = taken; event = 1; id = 0; code = 0 }
+told_of_taken taken event.Open = record { status = ok; taken = taken; event = 2; id = 0; code = 0 }
+told_of_taken taken (event.Answered id message) = record { status = ok; taken = taken; event = 3; id = id; code = 0 }
+told_of_taken taken (event.Aborted id code) = record { status = ok; taken = taken; event = 4; id = id; code = code.code }
+told_of_taken taken (event.Renewed token) = record { status = ok; taken = taken; event = 5; id = token; code = 0 }
+told_of_taken taken (event.Failed code false) = record { status = refused; taken = taken; event = 6; id = 0; code = code.code }
+told_of_taken taken (event.Failed code true) = record { status = refused; taken = taken; event = 7; id = 0; code = code.code }
 
 -- the bytes that then wait: those that are to be sent, or those of a reply
 abbrev pub waiting_of : ClientEvent → List ℕ → List ℕ
@@ -55,17 +55,17 @@ waiting_of (event.Renewed token) before = before
 waiting_of (event.Failed code peer) before = before
 
 abbrev pub ShowsEvent : ℕ → ClientEvent → Told → List ℕ → List ℕ → Type 0
-ShowsEvent taken event told before waiting = (told ≡ told_of taken event) × (waiting ≡ waiting_of event before)
+ShowsEvent taken event told before waiting = (told ≡ told_of_taken taken event) × (waiting ≡ waiting_of event before)
 
 -- only a status
-abbrev pub only : ℕ → Told
-only status = record { status = status; taken = 0; event = 0; id = 0; code = 0 }
+abbrev pub status_told : ℕ → Told
+status_told status = record { status = status; taken = 0; event = 0; id = 0; code = 0 }
 
 -- what C is told of an outcome of `ClientChannel::take`, and which bytes then wait
 abbrev pub ShowsTake : Result (ℕ × ClientEvent) ClientTakeFault → Told → List ℕ → List ℕ → Type 0
 ShowsTake (Ok (taken, event)) told before waiting = ShowsEvent taken event told before waiting
-ShowsTake (Err take_fault.Closed) told before waiting = (told ≡ only closed) × (waiting ≡ before)
-ShowsTake (Err take_fault.OutOfMemory) told before waiting = (told ≡ only no_memory) × (waiting ≡ before)
+ShowsTake (Err take_fault.Closed) told before waiting = (told ≡ status_told closed) × (waiting ≡ before)
+ShowsTake (Err take_fault.OutOfMemory) told before waiting = (told ≡ status_told no_memory) × (waiting ≡ before)
 
 -- why nothing was sent
 abbrev pub status_for : AskFault → ℕ
@@ -137,7 +137,7 @@ pub record RenewsAs (client : ClientChannel) (moment : DateTime) (answer : Resul
   pub refuses : (asks : List Placed) (octets : List ℕ) (frames : List Frame) (rest : List ℕ) → ClientStands client asks octets frames rest
       → AnswersFor (first_reason (renewing_reasons (received frames) (asked_in asks))) answer
   pub renews : (asks : List Placed) (octets : List ℕ) (frames : List Frame) (rest : List ℕ) → ClientStands client asks octets frames rest
-      → IfOk answer (λ r. IsRenewed (received frames) (asked_in asks) (client_next client) moment r.0 r.1.items (client_next new))
+      → IfOk answer (λ r. IsRenewalWith (received frames) (asked_in asks) (client_next client) moment r.0 r.1.items (client_next new))
   pub stands : (asks : List Placed) (octets : List ℕ) (frames : List Frame) (rest : List ℕ) → ClientStands client asks octets frames rest
       → IfOk answer (λ r. ClientStands new (asks ++ (length octets, Renewal r.0) ∷ []) octets frames rest)
   pub unchanged : OnErr answer (new ≡ client)
@@ -151,7 +151,7 @@ pub record ClosesAs (client : ClientChannel) (moment : DateTime) (answer : Resul
   pub refuses : (asks : List Placed) (octets : List ℕ) (frames : List Frame) (rest : List ℕ) → ClientStands client asks octets frames rest
       → AnswersFor (first_reason (closing_reasons (received frames))) answer
   pub closes : (asks : List Placed) (octets : List ℕ) (frames : List Frame) (rest : List ℕ) → ClientStands client asks octets frames rest
-      → IfOk answer (λ out. IsClosed (received frames) (asked_in asks) (client_next client) moment out.items)
+      → IfOk answer (λ out. IsCloseWith (received frames) (asked_in asks) (client_next client) moment out.items)
   pub done : OnOk answer (IsClientDone new)
   pub unchanged : OnErr answer (new ≡ client)
   pub same : SameClient client new
@@ -199,7 +199,7 @@ pub record RenewsClient (old : ClientChannel) (new : Holding) (moment : DateTime
   pub shown : ShowsAsk answer status id [] new.waiting
 
 -- one close
-pub record ClosesClient (old : ClientChannel) (new : Holding) (moment : DateTime) (status : ℕ) : Type 0 where
+pub record ClosesHeldClient (old : ClientChannel) (new : Holding) (moment : DateTime) (status : ℕ) : Type 0 where
   pub answer : Result (Vec ℕ Global) AskFault
   pub client : ClientChannel
   pub holds : HoldsClient client new
@@ -212,8 +212,8 @@ HelloMachine old new status = OfClient old.machine old new (λ why. status ≡ w
     (λ client. WhereNone old new (λ why. status ≡ why) (HelloBy client old new status))
 
 abbrev pub TakesMachine : Holding → Holding → List ℕ → DateTime → Told → Type 0
-TakesMachine old new piece moment told = OfClient old.machine old new (λ why. told ≡ only why)
-    (λ client. WhereNone old new (λ why. told ≡ only why) (TakesClient client new piece moment told))
+TakesMachine old new piece moment told = OfClient old.machine old new (λ why. told ≡ status_told why)
+    (λ client. WhereNone old new (λ why. told ≡ status_told why) (TakesClient client new piece moment told))
 
 abbrev pub AsksMachine : Holding → Holding → List ℕ → ℕ → ℕ → Type 0
 AsksMachine old new body status id = OfClient old.machine old new (λ why. (status ≡ why) × (id ≡ 0))
@@ -225,4 +225,4 @@ RenewsMachine old new moment status id = OfClient old.machine old new (λ why. (
 
 abbrev pub ClosesMachine : Holding → Holding → DateTime → ℕ → Type 0
 ClosesMachine old new moment status = OfClient old.machine old new (λ why. status ≡ why)
-    (λ client. WhereNone old new (λ why. status ≡ why) (ClosesClient client new moment status))
+    (λ client. WhereNone old new (λ why. status ≡ why) (ClosesHeldClient client new moment status))

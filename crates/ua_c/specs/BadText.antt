@@ -3,8 +3,8 @@ use Rattle.std.specs.Prelude.{◌≡◌, ℕ, Result, Ok, Err}
 use Rattle.ua_c.specs.declared.bad_text.BadText.{BadText}
 
 -- a text by its number, with a status; it is no list of lines
-abbrev pub only : ℕ → ℕ → BadText
-only text status = record { status = status; text = text; index = 0 }
+abbrev pub bad_whole_text : ℕ → ℕ → BadText
+bad_whole_text text status = record { status = status; text = text; index = 0 }
 
 -- it is the text of this number, and the status is `P`
 abbrev pub IsBad : ℕ → (ℕ → Type 0) → BadText → Type 0

@@ -1,6 +1,6 @@
 -- The token policy that a client uses, from the endpoints in a response.
 use Rattle.std.specs.Prelude.{◌≡◌, ◌⊎◌, ℕ, List, Option, Some, None, Result, Ok, Err}
-use Rattle.ua_services.specs.Policy.{chosen_id, listed}
+use Rattle.ua_services.specs.Policy.{chosen_id, array_items}
 use Rattle.ua_services.specs.declared.response.Response.{Response}
 use Rattle.ua_structures.specs.declared.discovery.EndpointDescription.{EndpointDescription}
 use Rattle.ua_texts.specs.Replies.{endpoints_in}
@@ -12,7 +12,7 @@ use Rattle.ua_c.specs.Status.{no_memory, no_policy}
 pub record IsChosenAmong (endpoints : List EndpointDescription) (text : List ℕ) : Type 0 where
   pub id : Option (List ℕ)
   pub chosen : chosen_id endpoints ≡ Some id
-  pub is : text ≡ listed id
+  pub is : text ≡ array_items id
 
 -- an allocation failed, or no endpoint fits
 abbrev pub IsNotChosenAmong : List EndpointDescription → ℕ → Type 0
@@ -22,13 +22,13 @@ IsNotChosenAmong endpoints status = (status ≡ no_memory) ⊎ ((status ≡ no_p
 pub record IsPolicy (r : Response) (text : List ℕ) : Type 0 where
   pub list : Option (List EndpointDescription)
   pub given : endpoints_in r ≡ Some list
-  pub is : IsChosenAmong (listed list) text
+  pub is : IsChosenAmong (array_items list) text
 
 -- no endpoint of that list fits
 pub record HasNoPolicy (r : Response) : Type 0 where
   pub list : Option (List EndpointDescription)
   pub given : endpoints_in r ≡ Some list
-  pub none : chosen_id (listed list) ≡ None
+  pub none : chosen_id (array_items list) ≡ None
 
 -- why a response gives none, and the code of a service that failed
 abbrev pub ChoosesNone : Response → ℕ → ℕ → Type 0

@@ -21,7 +21,7 @@ use Rattle.ua_structures.specs.declared.attribute.WriteValue.{WriteValue}
 use Rattle.ua_c.specs.Handled.{OfShared, WhereNone}
 use Rattle.ua_c.specs.Limits.{AreEnough, AreThese}
 use Rattle.ua_c.specs.Making.{Seats}
-use Rattle.ua_c.specs.Serving.{Shows, nothing}
+use Rattle.ua_c.specs.Serving.{Shows, status_report}
 use Rattle.ua_c.specs.Status.{bad_limits, other_handle}
 use Rattle.ua_c.specs.Telling.{untold_in}
 use Rattle.ua_c.specs.declared.holding.Holding.{Holding}
@@ -91,7 +91,7 @@ MakesConnection limits channel old new status = IsMadeConnection limits channel 
 
 -- only a status is told, and nothing waits
 abbrev pub TellsOnly : ℕ → Report → ℕ → Type 0
-TellsOnly why report waiting = (report ≡ nothing why) × (waiting ≡ 0)
+TellsOnly why report waiting = (report ≡ status_report why) × (waiting ≡ 0)
 
 -- what is then to be told of Writes: what the step stored, and no longer what one before it did
 abbrev pub stored_after : Result Step StepFault → List WriteValue → List WriteValue → List WriteValue
@@ -114,7 +114,7 @@ pub record StepsConnection (old : ServedConnection) (shared : SharedNodes) (new 
 
 -- a step tells only a status, and the nodes are unchanged
 abbrev pub SaysOnly : Report → Holding → Holding → ℕ → Type 0
-SaysOnly report before after why = (report ≡ nothing why) × (after ≡ before)
+SaysOnly report before after why = (report ≡ status_report why) × (after ≡ before)
 
 -- what a step does with the contents of two handles
 abbrev pub StepsShared : Holding → Holding → Holding → Holding → List ℕ → DateTime → Report → Type 0

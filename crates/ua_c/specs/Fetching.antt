@@ -14,20 +14,20 @@ use Rattle.ua_c.specs.declared.holding.Machine.TheVariants as machine
 
 -- what `Server::held`, `ClientChannel::held` and `Connection::held` ensure of this count; nodes
 -- hold no bytes
-abbrev pub Holds : Machine → ℕ → Type 0
-Holds (machine.Server station) count =
+abbrev pub HoldsCount : Machine → ℕ → Type 0
+HoldsCount (machine.Server station) count =
     ((octets : List ℕ) (frames : List Frame) (rest : List ℕ) → ChannelStands (channel_in station.server) octets frames rest
     → count ≡ held_after (received frames) rest)
     × ((octets : List ℕ) (frames : List Frame) (rest : List ℕ) → ChannelStands (channel_in station.server) octets frames rest
     → count ≤ bound_after (limits_of (channel_in station.server)) (received frames))
     × (IsDone (channel_in station.server) → count ≡ 0)
-Holds (machine.Client client) count =
+HoldsCount (machine.Client client) count =
     ((asks : List Placed) (octets : List ℕ) (frames : List Frame) (rest : List ℕ) → ClientStands client asks octets frames rest
     → count ≡ held_octets frames rest)
     × ((asks : List Placed) (octets : List ℕ) (frames : List Frame) (rest : List ℕ) → ClientStands client asks octets frames rest → count ≤ client_bound client)
     × (IsClientDone client → count ≡ 0)
-Holds (machine.Nodes shared) count = count ≡ 0
-Holds (machine.Connection served) count =
+HoldsCount (machine.Nodes shared) count = count ≡ 0
+HoldsCount (machine.Connection served) count =
     ((octets : List ℕ) (frames : List Frame) (rest : List ℕ) → ChannelStands (channel_at served.connection) octets frames rest
     → count ≡ held_after (received frames) rest)
     × ((octets : List ℕ) (frames : List Frame) (rest : List ℕ) → ChannelStands (channel_at served.connection) octets frames rest
@@ -51,9 +51,9 @@ Bounds (machine.Connection served) count =
     × (count ≡ bound_of (channel_at served.connection))
 
 -- a count of what is held, which is 0 if nothing is
-abbrev pub Counts : (Holding → Type 0) → ℕ → Option Holding → Type 0
-Counts P count None = count ≡ 0
-Counts P count (Some holding) = P holding
+abbrev pub CountsHeld : (Holding → Type 0) → ℕ → Option Holding → Type 0
+CountsHeld P count None = count ≡ 0
+CountsHeld P count (Some holding) = P holding
 
 -- bytes that wait are moved into a buffer, and the machine is unchanged; or an allocation failed,
 -- and nothing changed

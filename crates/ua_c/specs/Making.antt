@@ -10,7 +10,7 @@ use Rattle.ua_server.specs.State.{fresh}
 use Rattle.ua_server.specs.declared.endpoint.Endpoint.{Endpoint}
 use Rattle.ua_c.specs.Asking.{IsNewClient}
 use Rattle.ua_c.specs.Limits.{AreEnough, AreThese}
-use Rattle.ua_c.specs.Serving.{IsFresh}
+use Rattle.ua_c.specs.Serving.{IsFreshServer}
 use Rattle.ua_c.specs.Status.{ok, no_memory, bad_limits, bad_nodes, bad_text, text_nodes}
 use Rattle.ua_c.specs.Texts.{IsNoString, IsStringOf}
 use Rattle.ua_c.specs.declared.holding.Holding.{Holding}
@@ -36,8 +36,8 @@ RefusesFile octets line reason status = ((status ≡ no_memory) × (line ≡ 0) 
     ⊎ ((status ≡ bad_nodes) × IsBadAt octets line reason)
 
 -- the same, if the reason is not told
-abbrev pub RefusesNodes : List ℕ → ℕ → ℕ → Type 0
-RefusesNodes octets line status = (reason : ℕ) × RefusesFile octets line reason status
+abbrev pub RefusesNodesUntold : List ℕ → ℕ → ℕ → Type 0
+RefusesNodesUntold octets line status = (reason : ℕ) × RefusesFile octets line reason status
 
 -- how a server describes itself: the application `ua`, at its URL
 abbrev pub endpoint_of : Option (List ℕ) → ℕ → Endpoint
@@ -72,12 +72,12 @@ pub record IsStation (nodes : List ℕ) (limits : Limits) (url : List ℕ) (chan
   pub written : WriteNodes (node_lines nodes) table
   pub is_url : IsStringOf url (Some url)
   pub services_is : station.services ≡ fresh table (endpoint_of (Some url) limits.max_message_size)
-  pub server_is : IsFresh limits channel station.server
+  pub server_is : IsFreshServer limits channel station.server
   pub limits_is : station.limits ≡ limits
 
 -- why there is none
 abbrev pub IsNoStation : List ℕ → List ℕ → ℕ → ℕ → Type 0
-IsNoStation nodes url line status = (IsNoString url status × (line ≡ 0)) ⊎ RefusesNodes nodes line status
+IsNoStation nodes url line status = (IsNoString url status × (line ≡ 0)) ⊎ RefusesNodesUntold nodes line status
 
 abbrev pub MakesStation : List ℕ → Limits → List ℕ → ℕ → ℕ → Result Station ℕ → Type 0
 MakesStation nodes limits url channel line (Ok station) = (line ≡ 0) × IsStation nodes limits url channel station

@@ -5,7 +5,7 @@ use Rattle.ua_builtin.specs.declared.date_time.DateTime.{DateTime}
 use Rattle.ua_builtin.specs.declared.node_id.NodeId.{NodeId}
 use Rattle.ua_builtin.specs.declared.status_code.StatusCode.{StatusCode}
 use Rattle.ua_nodes.specs.Set.{after_set, set_refusal}
-use Rattle.ua_nodes.specs.Table.{id_at, index_of_id, node_at}
+use Rattle.ua_nodes.specs.Table.{node_id_at, index_of_id, node_at}
 use Rattle.ua_nodes.specs.declared.fault.SetFault.{SetFault}
 use Rattle.ua_nodes.specs.declared.fault.SetFault.TheVariants.{Unknown, Mismatch, NotWritable}
 use Rattle.ua_nodes.specs.declared.node.Variable.{Variable}
@@ -18,7 +18,7 @@ use Rattle.ua_wire.specs.Format.{IsWhole}
 use Rattle.ua_c.specs.Handled.{OfNodes}
 use Rattle.ua_c.specs.Requests.{IsNoNode, IsNodeText}
 use Rattle.ua_c.specs.Status.{ok, no_memory, bad_octets, unknown, other_handle, mismatch, bad_reading}
-use Rattle.ua_c.specs.Texts.{IsEncodingOf, IsKept, Puts}
+use Rattle.ua_c.specs.Texts.{IsEncodingOf, IsBufferKept, Puts}
 use Rattle.ua_c.specs.declared.holding.Holding.{Holding}
 use Rattle.ua_c.specs.declared.holding.Machine.TheVariants as machine
 use Rattle.ua_c.specs.declared.readings.UaReading.{UaReading}
@@ -31,9 +31,9 @@ abbrev pub given_if : {A : Type 0} → ℕ → A → Option A
 given_if flag a = cond (nat_eq flag 0) None (Some a)
 
 -- the flag of what is present or absent
-abbrev pub flag_of : {A : Type 0} → Option A → ℕ
-flag_of None = 0
-flag_of (Some a) = 1
+abbrev pub flag_of_optional : {A : Type 0} → Option A → ℕ
+flag_of_optional None = 0
+flag_of_optional (Some a) = 1
 
 -- the value if present, otherwise 0
 abbrev pub ticks_or_none : Option DateTime → ℤ
@@ -77,10 +77,10 @@ reading_held v size = record {
   source_picoseconds = number_or_none v.source_picoseconds;
   server_picoseconds = 0;
   has_value = 1;
-  has_status = flag_of v.status;
-  has_source_time = flag_of v.source_time;
+  has_status = flag_of_optional v.status;
+  has_source_time = flag_of_optional v.source_time;
   has_server_time = 0;
-  has_source_picoseconds = flag_of v.source_picoseconds;
+  has_source_picoseconds = flag_of_optional v.source_picoseconds;
   has_server_picoseconds = 0;
 }
 
@@ -90,14 +90,14 @@ pub record HasPart (octets : List ℕ) (given : UaReading) : Type 0 where
   pub within : given.value_at + given.value_len ≤ length octets
 
 -- the bytes of its value
-abbrev pub part_of : List ℕ → UaReading → List ℕ
-part_of octets given = take given.value_len (drop given.value_at octets)
+abbrev pub value_octets_of : List ℕ → UaReading → List ℕ
+value_octets_of octets given = take given.value_len (drop given.value_at octets)
 
 -- what C passes is this reading: it has a value of nesting depth at most 100 that its bytes encode,
 -- and a source timestamp
 pub record IsReadingOf (octets : List ℕ) (given : UaReading) (reading : Reading) : Type 0 where
   pub part : HasPart octets given
-  pub value_is : IsWhole variant_format (part_of octets given) (Some reading.value)
+  pub value_is : IsWhole variant_format (value_octets_of octets given) (Some reading.value)
   pub timed : given.has_source_time ≢ 0
   pub source_time_is : reading.source_time ≡ record { ticks = given.source_time }
   pub status_is : reading.status ≡ given_if given.has_status (record { code = given.status })
@@ -110,12 +110,12 @@ LacksPart octets given = (given.has_source_time ≡ 0) ⊎ ¬ (HasPart octets gi
 -- an allocation failed, or it is none
 abbrev pub IsNoReading : List ℕ → UaReading → ℕ → Type 0
 IsNoReading octets given status =
-    (status ≡ no_memory) ⊎ ((status ≡ bad_reading) × LacksPart octets given) ⊎ ((status ≡ bad_octets) × IsWhole variant_format (part_of octets given) None)
+    (status ≡ no_memory) ⊎ ((status ≡ bad_reading) × LacksPart octets given) ⊎ ((status ≡ bad_octets) × IsWhole variant_format (value_octets_of octets given) None)
 
 -- ---- the place of a node
 
 -- the text names a node, with this index
-pub record IsFound (shared : SharedNodes) (text : List ℕ) (index : ℕ) : Type 0 where
+pub record IsNodeFound (shared : SharedNodes) (text : List ℕ) (index : ℕ) : Type 0 where
   pub id : NodeId
   pub named : IsNodeText text id
   pub at : index_of_id shared.services.nodes id ≡ Some index
@@ -127,7 +127,7 @@ pub record IsMissing (shared : SharedNodes) (text : List ℕ) : Type 0 where
   pub none : index_of_id shared.services.nodes id ≡ None
 
 abbrev pub FindsIn : SharedNodes → List ℕ → ℕ → ℕ → Type 0
-FindsIn shared text index status = ((status ≡ ok) × IsFound shared text index)
+FindsIn shared text index status = ((status ≡ ok) × IsNodeFound shared text index)
     ⊎ ((index ≡ 0) × (((status ≡ unknown) × IsMissing shared text) ⊎ IsNoNode text status))
 
 -- what finding a node does with the content of a handle: nothing
@@ -165,7 +165,7 @@ SetsAt (Some id) old new octets given status = SetsReading old new id octets giv
 pub record SetsHeld (shared : SharedNodes) (old new : Holding) (index : ℕ) (octets : List ℕ) (given : UaReading) (status : ℕ) : Type 0 where
   pub left : SharedNodes
   pub new_is : new ≡ record { machine = machine.Nodes left; waiting = old.waiting }
-  pub sets : SetsAt (id_at shared.services.nodes index) shared left octets given status
+  pub sets : SetsAt (node_id_at shared.services.nodes index) shared left octets given status
 
 abbrev pub SetsNode : Holding → Holding → ℕ → List ℕ → UaReading → ℕ → Type 0
 SetsNode old new index octets given status = OfNodes old.machine ((status ≡ other_handle) × (new ≡ old))
@@ -188,7 +188,7 @@ pub record GetsValue (node : Variable) (before after : List ℕ) (needed : ℕ) 
 
 -- nothing was written and nothing is told
 abbrev pub GetsNone : List ℕ → List ℕ → ℕ → UaReading → Type 0
-GetsNone before after needed reading = IsKept before after needed × (reading ≡ no_reading)
+GetsNone before after needed reading = IsBufferKept before after needed × (reading ≡ no_reading)
 
 -- what is told of the node at an index, if there is one
 abbrev pub GetsAt : Option Variable → List ℕ → List ℕ → ℕ → UaReading → ℕ → Type 0

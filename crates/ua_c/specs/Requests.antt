@@ -16,7 +16,7 @@ use Rattle.ua_variant.specs.declared.values.Variant.{Variant}
 use Rattle.ua_c.specs.BadText.{IsBad}
 use Rattle.ua_c.specs.Status.{no_memory, bad_text, text_node, text_nodes, text_policy, text_range, text_token}
 use Rattle.ua_c.specs.declared.bad_text.BadText.{BadText}
-use Rattle.ua_c.specs.Texts.{HasNoValueBy, IsKept, IsNoString, IsString, IsValueOf, Puts}
+use Rattle.ua_c.specs.Texts.{HasNoValueBy, IsBufferKept, IsNoString, IsString, IsValueOf, Puts}
 
 -- ---- the texts of NodeIds
 
@@ -46,8 +46,8 @@ abbrev pub lines : List ℕ → List (List ℕ)
 lines text = slice_split (λ b. nat_eq b 10) text
 
 -- the lines of a text name these NodeIds, each its own
-abbrev pub AreNamed : List ℕ → List NodeId → Type 0
-AreNamed text nodes = AllZip Names (lines text) nodes
+abbrev pub LinesNameNodes : List ℕ → List NodeId → Type 0
+LinesNameNodes text nodes = AllZip Names (lines text) nodes
 
 -- the line at an index is the first that names no NodeId
 pub record IsFirstNone (text : List ℕ) (index : ℕ) : Type 0 where
@@ -69,7 +69,7 @@ AreUnnamed text bad = IsBad text_nodes (λ status. status ≡ no_memory) bad ⊎
 -- bytes are UTF-8, and their lines the texts of NodeIds
 pub record AreNodeTexts (octets : List ℕ) (nodes : List NodeId) : Type 0 where
   pub utf8 : IsUtf8 octets
-  pub named : AreNamed octets nodes
+  pub named : LinesNameNodes octets nodes
 
 -- an allocation failed, or bytes are not UTF-8
 abbrev pub IsNoText : List ℕ → ℕ → Type 0
@@ -119,8 +119,8 @@ MakesActivation token policy moment handle (Ok r) = IsActivation token policy mo
 MakesActivation token policy moment handle (Err bad) = IsBad text_token (IsNoNode token) bad ⊎ IsBad text_policy (IsNoString policy) bad
 
 -- the items of a Read of the Values of nodes, or of the parts of them that an index range names
-abbrev pub items_of : Option (List ℕ) → List NodeId → List ReadValueId
-items_of part nodes = map (λ node. part_of_node node part) nodes
+abbrev pub items_of_read : Option (List ℕ) → List NodeId → List ReadValueId
+items_of_read part nodes = map (λ node. part_of_node node part) nodes
 
 -- a Read of the Values of the nodes that lines name, or of the parts of them that an index range
 -- names
@@ -131,7 +131,7 @@ pub record IsReadOf (token : List ℕ) (moment : DateTime) (handle : ℕ) (nodes
   pub are_nodes : AreNodeTexts nodes each
   pub part : Option (List ℕ)
   pub is_range : IsRangeText range part
-  pub is : r ≡ read id moment handle (items_of part each)
+  pub is : r ≡ read id moment handle (items_of_read part each)
 
 -- the same, or why there is none, and which text is bad
 abbrev pub MakesRead : List ℕ → DateTime → ℕ → List ℕ → List ℕ → Result Request BadText → Type 0
@@ -161,27 +161,27 @@ MakesWrite token moment handle node kind text (Err bad) = IsBad text_token (IsNo
 -- allocation failed, or it cannot be
 abbrev pub PutsBody : Request → List ℕ → List ℕ → ℕ → ℕ → Type 0
 PutsBody r before after needed status = (IsTrue (request.encodable r) × Puts (request.canonical r) before after needed status)
-    ⊎ (IsKept before after needed × ((status ≡ no_memory) ⊎ ((status ≡ bad_text) × IsFalse (request.encodable r))))
+    ⊎ (IsBufferKept before after needed × ((status ≡ no_memory) ⊎ ((status ≡ bad_text) × IsFalse (request.encodable r))))
 
 -- the same, or there is no request
 abbrev pub PutsMade : Result Request ℕ → List ℕ → List ℕ → ℕ → ℕ → Type 0
 PutsMade (Ok r) before after needed status = PutsBody r before after needed status
-PutsMade (Err why) before after needed status = IsKept before after needed × (status ≡ why)
+PutsMade (Err why) before after needed status = IsBufferKept before after needed × (status ≡ why)
 
 -- the same, and which text is bad is told; 0 if there is a request
 abbrev pub PutsTold : Result Request BadText → List ℕ → List ℕ → ℕ → ℕ → ℕ → Type 0
 PutsTold (Ok r) before after needed reason status = PutsBody r before after needed status × (reason ≡ 0)
-PutsTold (Err bad) before after needed reason status = IsKept before after needed × (status ≡ bad.status) × (reason ≡ bad.text)
+PutsTold (Err bad) before after needed reason status = IsBufferKept before after needed × (status ≡ bad.status) × (reason ≡ bad.text)
 
 -- a request is `P`, or there is none for a text that is `P`; its body is put into a buffer, and the
 -- text told
-pub record Tells (P : Result Request BadText → Type 0) (before after : List ℕ) (needed reason status : ℕ) : Type 0 where
+pub record MakesRequestBodyTelling (P : Result Request BadText → Type 0) (before after : List ℕ) (needed reason status : ℕ) : Type 0 where
   pub made : Result Request BadText
   pub is : P made
   pub puts : PutsTold made before after needed reason status
 
 -- a request is `P`, or there is none for a reason that is `P`; its body is put into a buffer
-pub record Makes (P : Result Request ℕ → Type 0) (before after : List ℕ) (needed status : ℕ) : Type 0 where
+pub record MakesRequestBody (P : Result Request ℕ → Type 0) (before after : List ℕ) (needed status : ℕ) : Type 0 where
   pub made : Result Request ℕ
   pub is : P made
   pub puts : PutsMade made before after needed status

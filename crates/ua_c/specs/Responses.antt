@@ -2,10 +2,10 @@
 use Rattle.std.specs.Prelude.{string_bytes, ◌≡◌, ◌≢◌, ◌⊎◌, ℕ, List, [], length, Option, Some, None, Result, Ok, Err, false}
 use Rattle.std.specs.declared.alloc.Global.{Global}
 use Rattle.std_alloc.specs.declared.string.String.{String}
-use Rattle.ua_builtin.specs.NodeText.{NamesNode, filled, node_text}
+use Rattle.ua_builtin.specs.NodeText.{NamesNode, with_empty_identifier, node_text}
 use Rattle.ua_builtin.specs.declared.node_id.NodeId.{NodeId}
 use Rattle.ua_opening.specs.Message.{IsBody, IsNoBody}
-use Rattle.ua_services.specs.Response.{header_of, kind_of, response, responses}
+use Rattle.ua_services.specs.Response.{header_of_response, kind_of_response, response, responses}
 use Rattle.ua_services.specs.declared.response.Response.{Response}
 use Rattle.ua_services.specs.declared.response.Response.TheVariants.{CreateSession}
 use Rattle.ua_texts.specs.Answers.{read_lines, write_lines}
@@ -16,14 +16,14 @@ use Rattle.ua_texts.specs.declared.fault.AnswerFault.TheVariants.{Service, Unkno
 use Rattle.ua_c.specs.Requests.{AreNoNodes, AreNodeTexts}
 use Rattle.ua_c.specs.Status.{ok, no_memory, bad_octets, service, unknown}
 use Rattle.ua_c.specs.declared.bad_text.BadText.{BadText}
-use Rattle.ua_c.specs.Texts.{IsKept, Puts}
+use Rattle.ua_c.specs.Texts.{IsBufferKept, Puts}
 
 -- ---- texts
 
 -- the bytes of a text, if there is one
-abbrev pub octets_in : Result (String Global) ℕ → Result (List ℕ) ℕ
-octets_in (Ok text) = Ok (string_bytes text)
-octets_in (Err status) = Err status
+abbrev pub octets_in_text : Result (String Global) ℕ → Result (List ℕ) ℕ
+octets_in_text (Ok text) = Ok (string_bytes text)
+octets_in_text (Err status) = Err status
 
 -- ---- responses
 
@@ -53,7 +53,7 @@ TellsNone IsOther r code status = ((status ≡ no_memory) × (code ≡ 0))
 -- the number of the binary encoding of a response (OPC 10000-6, A.3), and the ServiceResult in its
 -- header
 abbrev pub IsKindOf : Response → ℕ → ℕ → Type 0
-IsKindOf r kind service_result = (kind ≡ responses.number (kind_of r)) × (service_result ≡ (header_of r).service_result.code)
+IsKindOf r kind service_result = (kind ≡ responses.number (kind_of_response r)) × (service_result ≡ (header_of_response r).service_result.code)
 
 -- those of the response that bytes are the body of, or why there are none
 abbrev pub KindBy : List ℕ → ℕ → ℕ → ℕ → Type 0
@@ -63,26 +63,26 @@ KindBy body kind service_result status = ((status ≡ ok) × OfResponse body (λ
 -- ---- tokens
 
 -- the AuthenticationToken in a response to CreateSession
-abbrev pub token_in : Response → Option NodeId
-token_in (CreateSession m) = Some m.authentication_token
-token_in r = None
+abbrev pub token_in_response : Response → Option NodeId
+token_in_response (CreateSession m) = Some m.authentication_token
+token_in_response r = None
 
 -- a text is that of the token in a response, and names it, if an identifier that is null counts as
 -- empty
 pub record IsToken (r : Response) (text : List ℕ) : Type 0 where
   pub id : NodeId
-  pub given : token_in r ≡ Some id
+  pub given : token_in_response r ≡ Some id
   pub is : text ≡ node_text id
-  pub names : NamesNode (filled id) text
+  pub names : NamesNode (with_empty_identifier id) text
 
 -- a response has no token
-abbrev pub HasNoToken : Response → Type 0
-HasNoToken r = token_in r ≡ None
+abbrev pub BringsNoToken : Response → Type 0
+BringsNoToken r = token_in_response r ≡ None
 
 -- the text of the token in the response that bytes are, or why there is none
 abbrev pub TokenBy : List ℕ → ℕ → Result (List ℕ) ℕ → Type 0
 TokenBy body code (Ok text) = (code ≡ 0) × OfResponse body (λ r. IsToken r text)
-TokenBy body code (Err status) = (IsNoResponse body status × (code ≡ 0)) ⊎ OfResponse body (λ r. TellsNone HasNoToken r code status)
+TokenBy body code (Err status) = (IsNoResponse body status × (code ≡ 0)) ⊎ OfResponse body (λ r. TellsNone BringsNoToken r code status)
 
 -- ---- lines
 
@@ -117,16 +117,16 @@ pub record HasNoLinesFor (nodes : List ℕ) (r : Response) : Type 0 where
   pub none : HasNoLines (length each) r
 
 -- why no lines were appended
-abbrev pub IsRefusedFor : ℕ → Response → AnswerFault → Type 0
-IsRefusedFor asked r (Service code) = fault_in r ≡ Some code
-IsRefusedFor asked r Unknown = (fault_in r ≡ None) × HasNoLines asked r
-IsRefusedFor asked r OutOfMemory = Unit {0}
+abbrev pub AddsNoLinesFor : ℕ → Response → AnswerFault → Type 0
+AddsNoLinesFor asked r (Service code) = fault_in r ≡ Some code
+AddsNoLinesFor asked r Unknown = (fault_in r ≡ None) × HasNoLines asked r
+AddsNoLinesFor asked r OutOfMemory = Unit {0}
 
 -- the status of that, and the code
-abbrev pub IsTold : AnswerFault → ℕ → ℕ → Type 0
-IsTold (Service code) told status = (status ≡ service) × (told ≡ code.code)
-IsTold Unknown told status = (status ≡ unknown) × (told ≡ 0)
-IsTold OutOfMemory told status = (status ≡ no_memory) × (told ≡ 0)
+abbrev pub IsFaultStatus : AnswerFault → ℕ → ℕ → Type 0
+IsFaultStatus (Service code) told status = (status ≡ service) × (told ≡ code.code)
+IsFaultStatus Unknown told status = (status ≡ unknown) × (told ≡ 0)
+IsFaultStatus OutOfMemory told status = (status ≡ no_memory) × (told ≡ 0)
 
 -- an allocation failed, or the lines of bytes are not the texts of NodeIds
 abbrev pub HasNoNodes : List ℕ → ℕ → Type 0
@@ -144,10 +144,10 @@ LinesBy nodes body code (Err status) = ((HasNoNodes nodes status ⊎ IsNoRespons
 -- a text is put into a buffer, if there is one
 abbrev pub PutsReply : Result (List ℕ) ℕ → List ℕ → List ℕ → ℕ → ℕ → Type 0
 PutsReply (Ok text) before after needed status = Puts text before after needed status
-PutsReply (Err why) before after needed status = IsKept before after needed × (status ≡ why)
+PutsReply (Err why) before after needed status = IsBufferKept before after needed × (status ≡ why)
 
 -- a text is `P`, or there is none for a reason that is `P`; it is put into a buffer
-pub record Replies (P : Result (List ℕ) ℕ → Type 0) (before after : List ℕ) (needed status : ℕ) : Type 0 where
+pub record MakesReply (P : Result (List ℕ) ℕ → Type 0) (before after : List ℕ) (needed status : ℕ) : Type 0 where
   pub made : Result (List ℕ) ℕ
   pub is : P made
   pub puts : PutsReply made before after needed status

@@ -26,7 +26,7 @@ use Rattle.ua_c.specs.declared.station.Station.{Station}
 -- ---- a server
 
 -- what `Server::new` ensures of the server that it makes
-pub record IsFresh (limits : Limits) (channel : ℕ) (server : Server) : Type 0 where
+pub record IsFreshServer (limits : Limits) (channel : ℕ) (server : Server) : Type 0 where
   pub stands : (first : State) → ServerStands (channel_in server) [] [] first [] first
   pub history : (first : State) → StandsOver (channel_in server) [] [] first first
   pub holds : Holds (channel_in server) [] [] []
@@ -60,31 +60,31 @@ pub record StepsAs (server : Server) (services : State) (piece : List ℕ) (mome
 -- ---- what of that C is told
 
 -- the status of a step by how the connection ended, if it did
-abbrev pub status_of : Option End → ℕ
-status_of None = ok
-status_of (Some (ending.Refused code)) = refused
-status_of (Some ending.Closed) = ended
-status_of (Some ending.NoClose) = ended
-status_of (Some ending.Cut) = ended
+abbrev pub status_of_end : Option End → ℕ
+status_of_end None = ok
+status_of_end (Some (ending.Refused code)) = refused
+status_of_end (Some ending.Closed) = ended
+status_of_end (Some ending.NoClose) = ended
+status_of_end (Some ending.Cut) = ended
 
 -- the code of a rejection, and 0 if there is none
-abbrev pub code_of : Option End → ℕ
-code_of None = 0
-code_of (Some (ending.Refused code)) = code.code
-code_of (Some ending.Closed) = 0
-code_of (Some ending.NoClose) = 0
-code_of (Some ending.Cut) = 0
+abbrev pub code_of_end : Option End → ℕ
+code_of_end None = 0
+code_of_end (Some (ending.Refused code)) = code.code
+code_of_end (Some ending.Closed) = 0
+code_of_end (Some ending.NoClose) = 0
+code_of_end (Some ending.Cut) = 0
 
 -- only a status
-abbrev pub nothing : ℕ → Report
-nothing status = record { status = status; taken = 0; code = 0 }
+abbrev pub status_report : ℕ → Report
+status_report status = record { status = status; taken = 0; code = 0 }
 
 -- what C is told of an outcome, and which bytes then wait
 abbrev pub Shows : Result Step StepFault → Report → List ℕ → List ℕ → Type 0
-Shows (Ok step) report before waiting = (report ≡ record { status = status_of step.end; taken = step.taken; code = code_of step.end })
+Shows (Ok step) report before waiting = (report ≡ record { status = status_of_end step.end; taken = step.taken; code = code_of_end step.end })
     × (waiting ≡ step.out.items)
-Shows (Err step_fault.Closed) report before waiting = (report ≡ nothing closed) × (waiting ≡ before)
-Shows (Err step_fault.OutOfMemory) report before waiting = (report ≡ nothing no_memory) × (waiting ≡ before)
+Shows (Err step_fault.Closed) report before waiting = (report ≡ status_report closed) × (waiting ≡ before)
+Shows (Err step_fault.OutOfMemory) report before waiting = (report ≡ status_report no_memory) × (waiting ≡ before)
 
 -- ---- what a handle holds
 
@@ -92,7 +92,7 @@ Shows (Err step_fault.OutOfMemory) report before waiting = (report ≡ nothing n
 pub record HoldsFresh (limits : Limits) (channel : ℕ) (services : State) (new : Holding) : Type 0 where
   pub station : Station
   pub machine_is : new.machine ≡ machine.Server station
-  pub server_is : IsFresh limits channel station.server
+  pub server_is : IsFreshServer limits channel station.server
   pub services_is : station.services ≡ services
   pub limits_is : station.limits ≡ limits
   pub silent : new.waiting ≡ []
@@ -108,8 +108,8 @@ pub record StepsServer (old : Station) (new : Holding) (piece : List ℕ) (momen
 
 -- what a step does with the content of a handle
 abbrev pub StepsMachine : Holding → Holding → List ℕ → DateTime → Report → Type 0
-StepsMachine old new piece moment report = OfServer old.machine old new (λ why. report ≡ nothing why)
-    (λ station. WhereNone old new (λ why. report ≡ nothing why) (StepsServer station new piece moment report))
+StepsMachine old new piece moment report = OfServer old.machine old new (λ why. report ≡ status_report why)
+    (λ station. WhereNone old new (λ why. report ≡ status_report why) (StepsServer station new piece moment report))
 
 -- the next connection begins over the same services, without a session; what still waited is
 -- dropped

@@ -8,9 +8,9 @@ use Rattle.ua_variant.specs.Data.{VariantData}
 use Rattle.ua_variant.specs.Formats.{variant_format}
 use Rattle.ua_variant.specs.View.{variant_of}
 use Rattle.ua_variant.specs.declared.values.Variant.{Variant}
-use Rattle.ua_c.specs.BadText.{only}
+use Rattle.ua_c.specs.BadText.{bad_whole_text}
 use Rattle.ua_c.specs.Status.{no_memory, no_text, text_value}
-use Rattle.ua_c.specs.Texts.{HasNoValueBy, IsEncodingOf, IsKept, IsNoEncoding, IsNoValueEncoded, IsValueBy, Puts}
+use Rattle.ua_c.specs.Texts.{HasNoValueBy, IsEncodingOf, IsBufferKept, IsNoEncoding, IsNoValueEncoded, IsValueBy, Puts}
 use Rattle.ua_c.specs.declared.bad_text.BadText.{BadText}
 
 -- a value is wanted in the human-readable form: the number is not 0
@@ -74,7 +74,7 @@ LacksSpelling plain octets status = (status ≡ no_memory) ⊎ IsNoValueEncoded 
 
 abbrev pub SpellsTo : Bool → List ℕ → List ℕ → List ℕ → ℕ → ℕ → ℕ → Type 0
 SpellsTo plain octets before after needed name_size status =
-    PutsSpelling plain octets before after needed name_size status ⊎ (IsKept before after needed × (name_size ≡ 0) × LacksSpelling plain octets status)
+    PutsSpelling plain octets before after needed name_size status ⊎ (IsBufferKept before after needed × (name_size ≡ 0) × LacksSpelling plain octets status)
 
 -- ---- the other way
 
@@ -97,4 +97,4 @@ pub record CannotEncodeBy (plain : Bool) (kind text : List ℕ) (bad : BadText) 
 abbrev pub EncodesBy : Bool → List ℕ → List ℕ → List ℕ → List ℕ → ℕ → ℕ → ℕ → Type 0
 EncodesBy plain kind text before after needed reason status =
     (PutsValueBy plain kind text before after needed status × (reason ≡ 0))
-    ⊎ (IsKept before after needed × (HasNoValueBy plain kind text (only reason status) ⊎ CannotEncodeBy plain kind text (only reason status)))
+    ⊎ (IsBufferKept before after needed × (HasNoValueBy plain kind text (bad_whole_text reason status) ⊎ CannotEncodeBy plain kind text (bad_whole_text reason status)))

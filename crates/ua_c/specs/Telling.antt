@@ -78,15 +78,15 @@ abbrev pub IsUntellable : SharedNodes → WriteValue → ℕ → Type 0
 IsUntellable shared item why = ((why ≡ unknown) × (index_of_id shared.services.nodes item.node_id ≡ None)) ⊎ EncodesNone item.value.value why
 
 -- it is told, or not
-abbrev pub Tells : SharedNodes → WriteValue → List ℕ → List ℕ → ToldItem → Type 0
-Tells shared item before after told = TellsItem shared item before after told
+abbrev pub TellsWrite : SharedNodes → WriteValue → List ℕ → List ℕ → ToldItem → Type 0
+TellsWrite shared item before after told = TellsItem shared item before after told
     ⊎ (SaysNoItem before after told told.status × IsUntellable shared item told.status)
 
 -- the first of what is to be told is told, and is then no more to be told if its bytes did fit;
 -- otherwise it still is
 abbrev pub TellsFirst : SharedNodes → List WriteValue → List WriteValue → List ℕ → List ℕ → ToldItem → Type 0
 TellsFirst shared [] left before after told = SaysNoItem before after told no_more × (left ≡ [])
-TellsFirst shared (item ∷ items) left before after told = Tells shared item before after told
+TellsFirst shared (item ∷ items) left before after told = TellsWrite shared item before after told
     × (told.status ≡ ok → left ≡ items)
     × ((told.status ≡ ok → ⊥) → left ≡ item ∷ items)
 

@@ -5,7 +5,7 @@ use Rattle.ua_nodes.specs.TypeName.{type_denoted}
 use Rattle.ua_nodes.specs.ValueText.{value_denoted}
 use Rattle.ua_wire.specs.Counted.{text as counted_text}
 use Rattle.ua_wire.specs.Format.{IsWhole, Within, most_levels}
-use Rattle.ua_pair.specs.Dissected.{AreLines, plain}
+use Rattle.ua_pair.specs.Dissected.{AreLines, plain_of_side}
 use Rattle.ua_pair.specs.declared.side.Side.{Side}
 use Rattle.ua_pair.specs.declared.side.Side.TheVariants.{Client, Server}
 use Rattle.ua_texts.specs.PlainRead.{plain_denoted}
@@ -28,8 +28,8 @@ Puts octets before after needed status = (needed ≡ length octets)
     × (length before < length octets → (status ≡ too_small) × (after ≡ before))
 
 -- nothing was written
-abbrev pub IsKept : List ℕ → List ℕ → ℕ → Type 0
-IsKept before after needed = (needed ≡ 0) × (after ≡ before)
+abbrev pub IsBufferKept : List ℕ → List ℕ → ℕ → Type 0
+IsBufferKept before after needed = (needed ≡ 0) × (after ≡ before)
 
 -- ---- Strings
 
@@ -62,13 +62,13 @@ pub record PutsLines (octets : List ℕ) (number : ℕ) (before after : List ℕ
   pub side : Side
   pub side_is : IsSide number side
   pub lines : List ℕ
-  pub are : AreLines (plain side) octets lines
+  pub are : AreLines (plain_of_side side) octets lines
   pub puts : Puts lines before after needed status
 
 -- or there is no such side, or an allocation failed
 abbrev pub DissectsTo : List ℕ → ℕ → List ℕ → List ℕ → ℕ → ℕ → Type 0
 DissectsTo octets number before after needed status =
-    PutsLines octets number before after needed status ⊎ (IsKept before after needed × ((status ≡ no_memory) ⊎ ((status ≡ bad_side) × IsNoSide number)))
+    PutsLines octets number before after needed status ⊎ (IsBufferKept before after needed × ((status ≡ no_memory) ⊎ ((status ≡ bad_side) × IsNoSide number)))
 
 -- ---- values
 
@@ -136,10 +136,10 @@ pub record CannotEncode (kind text : List ℕ) (status : ℕ) : Type 0 where
 -- or there is none
 abbrev pub EncodesTo : List ℕ → List ℕ → List ℕ → List ℕ → ℕ → ℕ → Type 0
 EncodesTo kind text before after needed status =
-    PutsValue kind text before after needed status ⊎ (IsKept before after needed × (HasNoValue kind text status ⊎ CannotEncode kind text status))
+    PutsValue kind text before after needed status ⊎ (IsBufferKept before after needed × (HasNoValue kind text status ⊎ CannotEncode kind text status))
 
 -- the type and the text of the value of nesting depth at most 100 that bytes encode
-pub record IsTextOf (octets text : List ℕ) : Type 0 where
+pub record IsTypeAndText (octets text : List ℕ) : Type 0 where
   pub value : Variant
   pub encodes : Within variant_format.encodes variant_format.depth most_levels value octets
   pub is : text ≡ variant_text (variant_of value)
@@ -151,9 +151,9 @@ IsNoValueEncoded octets status = (status ≡ bad_octets) × IsWhole variant_form
 -- the type and the text were put into a buffer
 pub record PutsText (octets before after : List ℕ) (needed status : ℕ) : Type 0 where
   pub text : List ℕ
-  pub is : IsTextOf octets text
+  pub is : IsTypeAndText octets text
   pub puts : Puts text before after needed status
 
 abbrev pub DecodesTo : List ℕ → List ℕ → List ℕ → ℕ → ℕ → Type 0
 DecodesTo octets before after needed status =
-    PutsText octets before after needed status ⊎ (IsKept before after needed × ((status ≡ no_memory) ⊎ IsNoValueEncoded octets status))
+    PutsText octets before after needed status ⊎ (IsBufferKept before after needed × ((status ≡ no_memory) ⊎ IsNoValueEncoded octets status))

@@ -11,7 +11,7 @@ use Rattle.ua_variant.specs.Encoding.{EncodesVariant}
 use Rattle.ua_variant.specs.declared.values.DataValue.{DataValue}
 use Rattle.ua_wire.specs.declared.fault.ReadFault.{ReadFault}
 use Rattle.ua_wire.specs.declared.fault.ReadFault.TheVariants.{NoValue, OutOfMemory}
-use Rattle.ua_c.specs.Readings.{code_or_none, flag_of, number_or_none, ticks_or_none}
+use Rattle.ua_c.specs.Readings.{code_or_none, flag_of_optional, number_or_none, ticks_or_none}
 use Rattle.ua_c.specs.Responses.{IsNoResponse, OfResponse, TellsNone}
 use Rattle.ua_c.specs.Status.{ok, no_memory, bad_octets, too_small}
 use Rattle.ua_c.specs.declared.readings.UaReading.{UaReading}
@@ -34,25 +34,25 @@ reading_of d at size = record {
   status = code_or_none d.status;
   source_picoseconds = number_or_none d.source_picoseconds;
   server_picoseconds = number_or_none d.server_picoseconds;
-  has_value = flag_of d.value;
-  has_status = flag_of d.status;
-  has_source_time = flag_of d.source_timestamp;
-  has_server_time = flag_of d.server_timestamp;
-  has_source_picoseconds = flag_of d.source_picoseconds;
-  has_server_picoseconds = flag_of d.server_picoseconds;
+  has_value = flag_of_optional d.value;
+  has_status = flag_of_optional d.status;
+  has_source_time = flag_of_optional d.source_timestamp;
+  has_server_time = flag_of_optional d.server_timestamp;
+  has_source_picoseconds = flag_of_optional d.source_picoseconds;
+  has_server_picoseconds = flag_of_optional d.server_picoseconds;
 }
 
 -- this many bytes of a body from an offset on encode the value, if there is one
-abbrev pub StandsAt : List ℕ → Option VariantData → ℕ → ℕ → Type 0
-StandsAt body None at size = Unit {0}
-StandsAt body (Some v) at size = (at + size ≤ length body) × EncodesVariant v (take size (drop at body))
+abbrev pub EncodesAt : List ℕ → Option VariantData → ℕ → ℕ → Type 0
+EncodesAt body None at size = Unit {0}
+EncodesAt body (Some v) at size = (at + size ≤ length body) × EncodesVariant v (take size (drop at body))
 
 -- a reading has the content of a DataValue, and the offset of its encoded value in the body
 pub record IsView (body : List ℕ) (d : DataValue) (reading : UaReading) : Type 0 where
   pub at : ℕ
   pub size : ℕ
   pub is : reading ≡ reading_of d at size
-  pub stands : StandsAt body d.value at size
+  pub stands : EncodesAt body d.value at size
 
 -- each reading has the content of the DataValue at its index
 abbrev pub AreViews : List ℕ → List DataValue → List UaReading → Type 0
@@ -129,9 +129,9 @@ fields_size d = if_there d.status 4 + if_there d.source_timestamp 8 + if_there d
     + if_there d.server_picoseconds 2
 
 -- what is told of a fault
-abbrev pub status_of : ReadFault → ℕ
-status_of NoValue = bad_octets
-status_of OutOfMemory = no_memory
+abbrev pub status_of_read_fault : ReadFault → ℕ
+status_of_read_fault NoValue = bad_octets
+status_of_read_fault OutOfMemory = no_memory
 
 -- bytes begin with a NodeId that announces no response to a Read
 pub record AnnouncesOther (body : List ℕ) : Type 0 where

@@ -1,7 +1,7 @@
 -- How the library describes itself, and words for its numbers and those of the standard.
 use Rattle.std.specs.Prelude.{◌≡◌, ℕ, cond, nat_eq, List, Option, Some, None, codes}
 use Rattle.ua_c.specs.Status.{unknown}
-use Rattle.ua_c.specs.Texts.{IsKept, Puts}
+use Rattle.ua_c.specs.Texts.{IsBufferKept, Puts}
 
 -- the version 0.1.0: 65536 times the first number, 256 times the second, and the third
 abbrev pub version : ℕ
@@ -42,5 +42,5 @@ text_of_status k =
 
 -- a text is put into a buffer, if there is one; else nothing was written
 abbrev pub PutsWord : Option (List ℕ) → List ℕ → List ℕ → ℕ → ℕ → Type 0
-PutsWord None before after needed status = IsKept before after needed × (status ≡ unknown)
+PutsWord None before after needed status = IsBufferKept before after needed × (status ≡ unknown)
 PutsWord (Some text) before after needed status = Puts text before after needed status

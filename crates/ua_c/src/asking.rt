@@ -1,7 +1,7 @@
 //! A client for C.
 
 ghost use Rattle.std.specs.Prelude.{◌≡◌};
-ghost use Rattle.ua_c.specs.Asking.{AsksMachine, ClosesMachine, HelloMachine, RenewsMachine, TakesMachine, only};
+ghost use Rattle.ua_c.specs.Asking.{AsksMachine, ClosesMachine, HelloMachine, RenewsMachine, TakesMachine, status_told};
 ghost use Rattle.ua_c.specs.Handled.{OfHandle};
 ghost use Rattle.ua_c.specs.declared.told.Told.{Told as ToldOf};
 
@@ -126,7 +126,7 @@ pub extern "C" fn ua_client_take(
       id = id.new;
       code = code.new;
     } in
-        OfHandle h.old.value h.new.value (λ why. told ≡ only why)
+        OfHandle h.old.value h.new.value (λ why. told ≡ status_told why)
         (λ old new. TakesMachine old new piece.now (record { ticks = moment }) told) }
 {
     let told = match h.take(alloc) {

@@ -1,9 +1,9 @@
 //! The token policy that a client uses, of the endpoints in a response.
 
 ghost use Rattle.std.specs.Prelude.{◌≡◌, IfErr, IfOk, OnOk, string_bytes};
-ghost use Rattle.ua_services.specs.Policy.{listed};
+ghost use Rattle.ua_services.specs.Policy.{array_items};
 ghost use Rattle.ua_c.specs.Choosing.{ChoosesNone, IsChosenAmong, IsNotChosenAmong, IsPolicy, PolicyBy};
-ghost use Rattle.ua_c.specs.Responses.{Replies, octets_in};
+ghost use Rattle.ua_c.specs.Responses.{MakesReply, octets_in_text};
 ghost use Rattle.ua_c.specs.Status.{no_memory};
 
 use crate::responses::{put_text, response_of};
@@ -14,7 +14,7 @@ use ua_services::{EndpointDescription, Response, chosen_id};
 
 /// The text of a PolicyId, none if it is null, or a status.
 fn policy_text(alloc: Global, id: &UaString) -> Result<String, u32>
-    ensures text { IfOk result (λ text. string_bytes text ≡ listed id.now) }
+    ensures text { IfOk result (λ text. string_bytes text ≡ array_items id.now) }
     ensures fault { IfErr result (λ status. status ≡ no_memory) }
 {
     let mut text = String::new(alloc);
@@ -58,7 +58,7 @@ fn policy_in(alloc: Global, response: &Response, code: &mut u32) -> Result<Strin
 
 /// The text of the PolicyId that the response gives that the bytes encode.
 fn policy(alloc: Global, body: &[u8], code: &mut u32) -> Result<String, u32>
-    ensures { PolicyBy body.now code.new (octets_in result) }
+    ensures { PolicyBy body.now code.new (octets_in_text result) }
 {
     *code = 0;
     let response = match response_of(alloc, body) {
@@ -80,7 +80,7 @@ pub extern "C" fn ua_choose_policy(
     needed: &mut usize,
     code: &mut u32,
 ) -> u32
-    ensures { Replies (λ made. PolicyBy body.now code.new made) buffer.old buffer.new needed.new result }
+    ensures { MakesReply (λ made. PolicyBy body.now code.new made) buffer.old buffer.new needed.new result }
 {
     let made = policy(alloc, body, code);
     put_text(made, buffer, needed)

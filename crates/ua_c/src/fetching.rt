@@ -1,7 +1,7 @@
 //! The calls on any handle: how many bytes it holds, and those that wait.
 
 ghost use Rattle.std.specs.Prelude.{◌≡◌, length};
-ghost use Rattle.ua_c.specs.Fetching.{Bounds, Counts, FetchesHandle, Holds};
+ghost use Rattle.ua_c.specs.Fetching.{Bounds, CountsHeld, FetchesHandle, HoldsCount};
 
 use crate::handle::UaHandle;
 use crate::holding::{Holding, Machine};
@@ -10,7 +10,7 @@ use std::alloc::Global;
 
 impl Holding {
     fn held(&self) -> usize
-        ensures { Holds self.now.machine result }
+        ensures { HoldsCount self.now.machine result }
     {
         match &self.machine {
             Machine::Server(station) => station.server.held(),
@@ -35,7 +35,7 @@ impl Holding {
 /// How many bytes of unfinished frames and messages are held; 0 where the handle holds nothing.
 #[unsafe(no_mangle)]
 pub extern "C" fn ua_held(alloc: Global, h: &mut UaHandle) -> usize
-    ensures held { Counts (λ holding. Holds holding.machine result) result h.old.value }
+    ensures held { CountsHeld (λ holding. HoldsCount holding.machine result) result h.old.value }
     ensures same { h.new.value ≡ h.old.value }
 {
     let Some(held) = h.take(alloc) else {
@@ -49,7 +49,7 @@ pub extern "C" fn ua_held(alloc: Global, h: &mut UaHandle) -> usize
 /// The most bytes that may be held; 0 where the handle holds nothing.
 #[unsafe(no_mangle)]
 pub extern "C" fn ua_bound(alloc: Global, h: &mut UaHandle) -> usize
-    ensures bound { Counts (λ holding. Bounds holding.machine result) result h.old.value }
+    ensures bound { CountsHeld (λ holding. Bounds holding.machine result) result h.old.value }
     ensures same { h.new.value ≡ h.old.value }
 {
     let Some(held) = h.take(alloc) else {
@@ -63,7 +63,7 @@ pub extern "C" fn ua_bound(alloc: Global, h: &mut UaHandle) -> usize
 /// How many bytes wait to be fetched; 0 where the handle holds nothing.
 #[unsafe(no_mangle)]
 pub extern "C" fn ua_waiting(alloc: Global, h: &mut UaHandle) -> usize
-    ensures waiting { Counts (λ holding. result ≡ length holding.waiting) result h.old.value }
+    ensures waiting { CountsHeld (λ holding. result ≡ length holding.waiting) result h.old.value }
     ensures same { h.new.value ≡ h.old.value }
 {
     let Some(held) = h.take(alloc) else {

@@ -4,7 +4,7 @@ ghost use Rattle.std.specs.Prelude.{◌≡◌, ◌⊎◌, [], Some, IsTrue, IfOk
 ghost use Rattle.std.specs.declared.option.Option.{Option as Maybe};
 ghost use Rattle.std.specs.Str.{IsUtf8};
 ghost use Rattle.ua_nodes.specs.NodeFile.{WriteNodes, node_lines};
-ghost use Rattle.ua_nodes.specs.Sound.{IsSound};
+ghost use Rattle.ua_nodes.specs.Sound.{AreNodesSound};
 ghost use Rattle.ua_wire.specs.Counted.{text};
 ghost use Rattle.ua_server.specs.State.{fresh};
 ghost use Rattle.ua_c.specs.Making.{MakesClient, MakesServer, MakesStation, RefusesFile, Seats, endpoint_of};
@@ -75,7 +75,7 @@ pub(crate) fn nodes_of(
 ) -> Result<NodeTable, u32>
     ensures nodes { IfOk result (λ nodes. WriteNodes (node_lines octets.now) nodes) }
     ensures utf8 { OnOk result (IsUtf8 octets.now) }
-    ensures sound { IfOk result (λ nodes. IsSound nodes) }
+    ensures sound { IfOk result (λ nodes. AreNodesSound nodes) }
     ensures fault { IfErr result (λ status. RefusesFile octets.now line.new reason.new status) }
     ensures none { OnOk result ((line.new ≡ 0) × (reason.new ≡ 0)) }
 {
@@ -120,7 +120,7 @@ fn services(
     url: UaString,
     message_limit: u32,
 ) -> Result<Services, AllocError>
-    requires sound { IsSound nodes }
+    requires sound { AreNodesSound nodes }
     requires writable { IsTrue (text.encodable url) }
     ensures { IfOk result (λ s. s ≡ fresh nodes (endpoint_of url message_limit)) }
 {

@@ -2,12 +2,12 @@
 
 ghost use Rattle.std.specs.Prelude.{◌≡◌, None, Some, IfOk, IfErr, IfSome, MatchOption, MatchResult};
 ghost use Rattle.std.specs.Option.{option_copied};
-ghost use Rattle.ua_nodes.specs.Sound.{IsSound};
-ghost use Rattle.ua_nodes.specs.Table.{id_at, index_of_id};
+ghost use Rattle.ua_nodes.specs.Sound.{AreNodesSound};
+ghost use Rattle.ua_nodes.specs.Table.{node_id_at, index_of_id};
 ghost use Rattle.ua_c.specs.Handled.{OfHandle};
 ghost use Rattle.ua_c.specs.Readings.{FindsIn, FindsNode, GetsAt, GetsNode, GetsNone, HasPart};
 ghost use Rattle.ua_c.specs.Readings.{IsNoReading, IsReadingOf, SetsAt, SetsNode, given_if};
-ghost use Rattle.ua_c.specs.Readings.{no_reading, node_at_index, part_of, reading_held, status_of_set};
+ghost use Rattle.ua_c.specs.Readings.{no_reading, node_at_index, value_octets_of, reading_held, status_of_set};
 ghost use Rattle.ua_c.specs.Status.{ok};
 
 use crate::handle::{UaHandle, UaNodes};
@@ -94,7 +94,7 @@ impl UaReading {
     /// The bytes of the value, where the reading has one that lies within these bytes.
     fn value_in<'a>(&self, octets: &'a [u8]) -> Option<&'a [u8]>
         ensures part { MatchOption result (¬ (HasPart octets.now self.now)) (λ part. HasPart octets.now self.now) }
-        ensures octets { IfSome result (λ part. part.now ≡ part_of octets.now self.now) }
+        ensures octets { IfSome result (λ part. part.now ≡ value_octets_of octets.now self.now) }
     {
         if self.has_value == 0 || self.value_at > octets.len() {
             return None;
@@ -192,7 +192,7 @@ impl SharedNodes {
 
     /// Sets what the node at a place holds.
     fn set(&mut self, alloc: Global, index: usize, octets: &[u8], given: &UaReading) -> u32
-        ensures { SetsAt (id_at self.old.services.nodes index) self.old self.new octets.now given.now result }
+        ensures { SetsAt (node_id_at self.old.services.nodes index) self.old self.new octets.now given.now result }
     {
         if self.services.nodes().get_index(index).is_none() {
             return UNKNOWN;
@@ -206,7 +206,7 @@ impl SharedNodes {
     /// The node at a place.
     fn node(&self, index: usize) -> Option<&Variable>
         ensures node { option_copied result ≡ node_at_index self.now index }
-        ensures sound { IsSound self.now.services.nodes }
+        ensures sound { AreNodesSound self.now.services.nodes }
     {
         let (_, node) = self.services.nodes().get_index(index)?;
         Some(node)

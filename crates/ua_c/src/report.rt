@@ -2,7 +2,7 @@
 
 ghost use Rattle.std.specs.Prelude.{◌≡◌};
 ghost use Rattle.ua_c.specs.Connecting.{stored_after};
-ghost use Rattle.ua_c.specs.Serving.{Shows, nothing, code_of, status_of};
+ghost use Rattle.ua_c.specs.Serving.{Shows, status_report, code_of_end, status_of_end};
 ghost use Rattle.ua_c.specs.Telling.{untold_in};
 
 use crate::status::{CLOSED, ENDED, NO_MEMORY, OK, REFUSED};
@@ -22,7 +22,7 @@ pub struct Report {
 impl Report {
     /// Only a status: nothing was taken.
     pub(crate) fn only(status: u32) -> Report
-        ensures { result ≡ nothing status }
+        ensures { result ≡ status_report status }
     {
         Report {
             status,
@@ -33,7 +33,7 @@ impl Report {
 
     /// The result of a step that took this many bytes, and ended the connection or not.
     fn from_end(taken: usize, end: Option<End>) -> Report
-        ensures { result ≡ record { status = status_of end; taken = taken; code = code_of end } }
+        ensures { result ≡ record { status = status_of_end end; taken = taken; code = code_of_end end } }
     {
         let (status, code) = match end {
             None => (OK, 0),

@@ -2,9 +2,9 @@
 
 ghost use Rattle.std.specs.Prelude.{◌≡◌, IfOk, IfErr};
 ghost use Rattle.ua_services.specs.SessionRequests.{activate_session, close_session, create_session, get_endpoints};
-ghost use Rattle.ua_c.specs.Requests.{AreNamed, AreNoNodes, AreNodeTexts, AreUnnamed, IsNoNode, IsNoText, IsNodeText};
-ghost use Rattle.ua_c.specs.Requests.{IsRangeText, IsUnnamed, Makes, MakesActivation, MakesOfUrl, MakesRead};
-ghost use Rattle.ua_c.specs.Requests.{MakesUnder, MakesWrite, Names, PutsBody, PutsMade, PutsTold, Tells, items_of};
+ghost use Rattle.ua_c.specs.Requests.{LinesNameNodes, AreNoNodes, AreNodeTexts, AreUnnamed, IsNoNode, IsNoText, IsNodeText};
+ghost use Rattle.ua_c.specs.Requests.{IsRangeText, IsUnnamed, MakesRequestBody, MakesActivation, MakesOfUrl, MakesRead};
+ghost use Rattle.ua_c.specs.Requests.{MakesUnder, MakesWrite, Names, PutsBody, PutsMade, PutsTold, MakesRequestBodyTelling, items_of_read};
 ghost use Rattle.ua_c.specs.BadText.{index_in};
 ghost use Rattle.ua_c.specs.Status.{text_node};
 
@@ -59,7 +59,7 @@ fn bad_line(index: usize, status: u32) -> BadText
 
 /// The NodeIds that the lines of a text name, or the first line that names none.
 fn nodes_named(alloc: Global, text: &str) -> Result<Vec<NodeId>, BadText>
-    ensures nodes { IfOk result (λ nodes. AreNamed text.now nodes.items) }
+    ensures nodes { IfOk result (λ nodes. LinesNameNodes text.now nodes.items) }
     ensures fault { IfErr result (λ bad. AreUnnamed text.now bad) }
 {
     let mut nodes = Vec::new(alloc);
@@ -219,7 +219,7 @@ fn items_of(
     nodes: &[NodeId],
     range: &UaString,
 ) -> Result<Vec<ReadValueId>, AllocError>
-    ensures { IfOk result (λ items. items.items ≡ items_of range.now nodes.now) }
+    ensures { IfOk result (λ items. items.items ≡ items_of_read range.now nodes.now) }
 {
     let mut items = Vec::with_capacity(alloc, nodes.len())?;
     for node in nodes {
@@ -299,7 +299,7 @@ pub extern "C" fn ua_get_endpoints_request(
     buffer: &mut [u8],
     needed: &mut usize,
 ) -> u32
-    ensures { Makes (λ made. MakesOfUrl (λ u. get_endpoints u (record { ticks = moment }) handle) url.now made)
+    ensures { MakesRequestBody (λ made. MakesOfUrl (λ u. get_endpoints u (record { ticks = moment }) handle) url.now made)
         buffer.old buffer.new needed.new result }
 {
     let made = match string_of(alloc, url) {
@@ -319,7 +319,7 @@ pub extern "C" fn ua_create_session_request(
     buffer: &mut [u8],
     needed: &mut usize,
 ) -> u32
-    ensures { Makes (λ made. MakesOfUrl (λ u. create_session u (record { ticks = moment }) handle) url.now made)
+    ensures { MakesRequestBody (λ made. MakesOfUrl (λ u. create_session u (record { ticks = moment }) handle) url.now made)
         buffer.old buffer.new needed.new result }
 {
     let made = creating(alloc, url, DateTime { ticks: moment }, handle);
@@ -336,7 +336,7 @@ pub extern "C" fn ua_activate_session_request(
     buffer: &mut [u8],
     needed: &mut usize,
 ) -> u32
-    ensures { Makes (λ made. MakesUnder (λ id. activate_session id (record { ticks = moment }) handle) token.now made)
+    ensures { MakesRequestBody (λ made. MakesUnder (λ id. activate_session id (record { ticks = moment }) handle) token.now made)
         buffer.old buffer.new needed.new result }
 {
     let made = activating(alloc, token, DateTime { ticks: moment }, handle);
@@ -356,7 +356,7 @@ pub extern "C" fn ua_activate_session_request_as(
     needed: &mut usize,
     reason: &mut u32,
 ) -> u32
-    ensures { Tells (λ made. MakesActivation token.now policy.now (record { ticks = moment }) handle made) buffer.old
+    ensures { MakesRequestBodyTelling (λ made. MakesActivation token.now policy.now (record { ticks = moment }) handle made) buffer.old
         buffer.new needed.new reason.new result }
 {
     let made = activating_as(alloc, token, policy, DateTime { ticks: moment }, handle);
@@ -373,7 +373,7 @@ pub extern "C" fn ua_close_session_request(
     buffer: &mut [u8],
     needed: &mut usize,
 ) -> u32
-    ensures { Makes (λ made. MakesUnder (λ id. close_session id (record { ticks = moment }) handle) token.now made)
+    ensures { MakesRequestBody (λ made. MakesUnder (λ id. close_session id (record { ticks = moment }) handle) token.now made)
         buffer.old buffer.new needed.new result }
 {
     let made = match node_of(alloc, token) {
@@ -398,7 +398,7 @@ pub extern "C" fn ua_read_request(
     reason: &mut u32,
     index: &mut usize,
 ) -> u32
-    ensures { Tells (λ made. MakesRead token.now (record { ticks = moment }) handle nodes.now range.now made
+    ensures { MakesRequestBodyTelling (λ made. MakesRead token.now (record { ticks = moment }) handle nodes.now range.now made
         × (index.new ≡ index_in made)) buffer.old buffer.new needed.new reason.new result }
 {
     let made = reading(
@@ -427,7 +427,7 @@ pub extern "C" fn ua_write_request(
     needed: &mut usize,
     reason: &mut u32,
 ) -> u32
-    ensures { Tells (λ made. MakesWrite token.now (record { ticks = moment }) handle node.now kind.now text.now made)
+    ensures { MakesRequestBodyTelling (λ made. MakesWrite token.now (record { ticks = moment }) handle node.now kind.now text.now made)
         buffer.old buffer.new needed.new reason.new result }
 {
     let made = writing(

@@ -1,9 +1,9 @@
 //! Responses as texts.
 
 ghost use Rattle.std.specs.Prelude.{◌≡◌, [], length, string_bytes, IfOk, IfErr, OnOk};
-ghost use Rattle.ua_c.specs.Responses.{AddsFor, HasNoLines, HasNoToken, IsKindOf, IsNoResponse};
-ghost use Rattle.ua_c.specs.Responses.{IsRefusedFor, IsResponse, IsToken, IsTold, KindBy, LinesBy};
-ghost use Rattle.ua_c.specs.Responses.{PutsReply, Replies, TellsNone, TokenBy, octets_in};
+ghost use Rattle.ua_c.specs.Responses.{AddsFor, HasNoLines, BringsNoToken, IsKindOf, IsNoResponse};
+ghost use Rattle.ua_c.specs.Responses.{AddsNoLinesFor, IsResponse, IsToken, IsFaultStatus, KindBy, LinesBy};
+ghost use Rattle.ua_c.specs.Responses.{PutsReply, MakesReply, TellsNone, TokenBy, octets_in_text};
 
 use crate::requests::nodes_of;
 use crate::status::{BAD_OCTETS, NO_MEMORY, OK, SERVICE, UNKNOWN};
@@ -40,7 +40,7 @@ fn kind_of(response: &Response) -> (u32, u32)
 /// service.
 fn token_in(alloc: Global, response: &Response, code: &mut u32) -> Result<String, u32>
     ensures token { IfOk result (λ text. IsToken response.now (string_bytes text)) }
-    ensures fault { IfErr result (λ status. TellsNone HasNoToken response.now code.new status) }
+    ensures fault { IfErr result (λ status. TellsNone BringsNoToken response.now code.new status) }
     ensures none { OnOk result (code.new ≡ 0) }
 {
     *code = 0;
@@ -59,7 +59,7 @@ fn token_in(alloc: Global, response: &Response, code: &mut u32) -> Result<String
 
 /// The text of the token in the response that bytes encode.
 fn token(alloc: Global, body: &[u8], code: &mut u32) -> Result<String, u32>
-    ensures { TokenBy body.now code.new (octets_in result) }
+    ensures { TokenBy body.now code.new (octets_in_text result) }
 {
     *code = 0;
     let response = match response_of(alloc, body) {
@@ -79,7 +79,7 @@ fn push_lines(
     response: &Response,
 ) -> Result<(), AnswerFault>
     ensures lines { OnOk result (AddsFor nodes.now response.now (string_bytes out.old) (string_bytes out.new)) }
-    ensures faults { IfErr result (IsRefusedFor (length nodes.now) response.now) }
+    ensures faults { IfErr result (AddsNoLinesFor (length nodes.now) response.now) }
 {
     match response {
         Response::Write(_) => push_write_answers(
@@ -96,7 +96,7 @@ fn push_lines(
 
 /// The status for lines that were not made, and the code of a failed service.
 fn status_of(fault: AnswerFault, code: &mut u32) -> u32
-    ensures { IsTold fault code.new result }
+    ensures { IsFaultStatus fault code.new result }
 {
     *code = 0;
     match fault {
@@ -130,7 +130,7 @@ fn lines_in(
 
 /// The lines of the response that bytes encode, to what was asked of the nodes that lines name.
 fn lines(alloc: Global, nodes: &[u8], body: &[u8], code: &mut u32) -> Result<String, u32>
-    ensures { LinesBy nodes.now body.now code.new (octets_in result) }
+    ensures { LinesBy nodes.now body.now code.new (octets_in_text result) }
 {
     *code = 0;
     let nodes = match nodes_of(alloc, nodes) {
@@ -148,7 +148,7 @@ fn lines(alloc: Global, nodes: &[u8], body: &[u8], code: &mut u32) -> Result<Str
 
 /// Puts a text into a buffer, if there is one.
 pub(crate) fn put_text(made: Result<String, u32>, buffer: &mut [u8], needed: &mut usize) -> u32
-    ensures { PutsReply (octets_in made) buffer.old buffer.new needed.new result }
+    ensures { PutsReply (octets_in_text made) buffer.old buffer.new needed.new result }
 {
     match made {
         Ok(text) => put(text.as_bytes(), buffer, needed),
@@ -192,7 +192,7 @@ pub extern "C" fn ua_session_token(
     needed: &mut usize,
     code: &mut u32,
 ) -> u32
-    ensures { Replies (λ made. TokenBy body.now code.new made) buffer.old buffer.new needed.new result }
+    ensures { MakesReply (λ made. TokenBy body.now code.new made) buffer.old buffer.new needed.new result }
 {
     let made = token(alloc, body, code);
     put_text(made, buffer, needed)
@@ -209,7 +209,7 @@ pub extern "C" fn ua_response_text(
     needed: &mut usize,
     code: &mut u32,
 ) -> u32
-    ensures { Replies (λ made. LinesBy nodes.now body.now code.new made) buffer.old buffer.new needed.new result }
+    ensures { MakesReply (λ made. LinesBy nodes.now body.now code.new made) buffer.old buffer.new needed.new result }
 {
     let made = lines(alloc, nodes, body, code);
     put_text(made, buffer, needed)

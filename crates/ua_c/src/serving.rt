@@ -2,7 +2,7 @@
 
 ghost use Rattle.std.specs.Prelude.{◌≡◌, length};
 ghost use Rattle.ua_c.specs.Handled.{OfHandle};
-ghost use Rattle.ua_c.specs.Serving.{NextMachine, StepsMachine, nothing};
+ghost use Rattle.ua_c.specs.Serving.{NextMachine, StepsMachine, status_report};
 ghost use Rattle.ua_c.specs.declared.report.Report.{Report as Reported};
 
 use crate::handle::UaHandle;
@@ -24,7 +24,7 @@ pub extern "C" fn ua_server_step(
     code: &mut u32,
 ) -> u32
     ensures { let report : Reported = record { status = result; taken = taken.new; code = code.new } in
-        OfHandle h.old.value h.new.value (λ why. (report ≡ nothing why) × (waiting.new ≡ 0))
+        OfHandle h.old.value h.new.value (λ why. (report ≡ status_report why) × (waiting.new ≡ 0))
         (λ old new. StepsMachine old new piece.now (record { ticks = moment }) report
         × (waiting.new ≡ length new.waiting)) }
 {

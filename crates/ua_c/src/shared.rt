@@ -2,7 +2,7 @@
 
 ghost use Rattle.std.specs.Prelude.{◌≡◌, ◌+◌, IfOk, IfErr, OnOk};
 ghost use Rattle.ua_nodes.specs.NodeFile.{place};
-ghost use Rattle.ua_server.specs.Endpoint.{Fits};
+ghost use Rattle.ua_server.specs.Endpoint.{IsEndpointEncodable};
 ghost use Rattle.ua_c.specs.Shared.{IsAbout, IsNoAbout, MakesNodes, MakesShared};
 ghost use Rattle.ua_c.specs.Texts.{IsNoString, IsStringOf};
 
@@ -73,7 +73,7 @@ fn about(
     reason: &mut u32,
 ) -> Result<Endpoint, u32>
     ensures endpoint { IfOk result (λ e. IsAbout url.now application_uri.now name.now max_message_size e) }
-    ensures fits { IfOk result (λ e. Fits e) }
+    ensures fits { IfOk result (λ e. IsEndpointEncodable e) }
     ensures fault { IfErr result (λ status. IsNoAbout url.now application_uri.now name.now reason.new status) }
 {
     Ok(Endpoint {

@@ -2,7 +2,7 @@
 
 ghost use Rattle.std.specs.Prelude.{◌≡◌};
 ghost use Rattle.ua_server.specs.State.{begun};
-ghost use Rattle.ua_c.specs.Serving.{IsFresh, StepsAs};
+ghost use Rattle.ua_c.specs.Serving.{IsFreshServer, StepsAs};
 
 use std::alloc::Global;
 use ua_builtin::DateTime;
@@ -20,7 +20,7 @@ pub struct Station {
 impl Station {
     /// A server of these services that waits for a client.
     pub(crate) fn new(alloc: Global, services: Services, limits: Limits, channel: u32) -> Station
-        ensures server { IsFresh limits channel result.server }
+        ensures server { IsFreshServer limits channel result.server }
         ensures services { result.services ≡ services }
         ensures limits { result.limits ≡ limits }
     {
@@ -33,7 +33,7 @@ impl Station {
 
     /// Waits for the next client: a new channel over the same services, without a session.
     pub(crate) fn next(&mut self, alloc: Global, channel: u32)
-        ensures server { IsFresh self.old.limits channel self.new.server }
+        ensures server { IsFreshServer self.old.limits channel self.new.server }
         ensures services { self.new.services ≡ begun self.old.services }
         ensures limits { self.new.limits ≡ self.old.limits }
     {

@@ -2,7 +2,7 @@
 
 ghost use Rattle.std.specs.Prelude.{◌≡◌, ℕ, List, IfOk, IfErr};
 ghost use Rattle.ua_c.specs.Handled.{OfHandles};
-ghost use Rattle.ua_c.specs.Telling.{EncodesHeld, EncodesNone, SaysNoItem, Tells, TellsNext, TellsWritten, untold_in};
+ghost use Rattle.ua_c.specs.Telling.{EncodesHeld, EncodesNone, SaysNoItem, TellsWrite, TellsNext, TellsWritten, untold_in};
 ghost use Rattle.ua_c.specs.declared.holding.Machine.TheVariants as machine;
 ghost use Rattle.ua_c.specs.declared.untold.ToldItem.{ToldItem as ToldItemOf};
 
@@ -37,7 +37,7 @@ fn encoding_in(alloc: Global, value: &DataValue) -> Result<Vec<u8>, u32>
 impl SharedNodes {
     /// Tells one item.
     fn tell(&self, alloc: Global, item: &WriteValue, buffer: &mut [u8]) -> ToldItem
-        ensures { Tells self.now item.now buffer.old buffer.new result }
+        ensures { TellsWrite self.now item.now buffer.old buffer.new result }
     {
         let Some(index) = self.index_of(&item.node_id) else {
             return ToldItem::only(UNKNOWN);

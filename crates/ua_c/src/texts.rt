@@ -2,12 +2,12 @@
 
 ghost use Rattle.std.specs.Prelude.{◌≡◌, ◌⊎◌, IfOk, IfErr, IsErrOf, MatchOption, None, Some, string_bytes};
 ghost use Rattle.ua_nodes.specs.declared.fault.ValueFault.TheVariants.{NotValue};
-ghost use Rattle.ua_pair.specs.Dissected.{AreLines, plain};
+ghost use Rattle.ua_pair.specs.Dissected.{AreLines, plain_of_side};
 ghost use Rattle.ua_variant.specs.View.{variant_of};
 ghost use Rattle.ua_c.specs.Status.{no_memory};
 ghost use Rattle.ua_c.specs.Texts.{DecodesTo, DissectsTo, EncodesTo, HasNoValue, HasNoValueBy};
 ghost use Rattle.ua_c.specs.Texts.{IsEncodingOf, IsNoEncoding, IsNoSide, IsNoString, IsNoValueEncoded};
-ghost use Rattle.ua_c.specs.Texts.{IsSide, IsStringOf, IsTextOf, IsValueBy, IsValueOf, Puts, denoted_by};
+ghost use Rattle.ua_c.specs.Texts.{IsSide, IsStringOf, IsTypeAndText, IsValueBy, IsValueOf, Puts, denoted_by};
 
 use crate::bad_text::BadText;
 use crate::status::{
@@ -65,7 +65,7 @@ fn side_of(number: u32) -> Option<Side>
 
 /// The dissector's lines for the bytes that one side sent.
 fn lines_of(alloc: Global, octets: &[u8], side: Side) -> Result<String, AllocError>
-    ensures { IfOk result (λ text. AreLines (plain side) octets.now (string_bytes text)) }
+    ensures { IfOk result (λ text. AreLines (plain_of_side side) octets.now (string_bytes text)) }
 {
     let mut text = String::new(alloc);
     dissect(alloc, octets, side, &mut text)?;
@@ -190,7 +190,7 @@ pub extern "C" fn ua_encode_value(
 
 /// The type and the text of the value that bytes encode, or a status.
 fn text_of(alloc: Global, octets: &[u8]) -> Result<String, u32>
-    ensures text { IfOk result (λ text. IsTextOf octets.now (string_bytes text)) }
+    ensures text { IfOk result (λ text. IsTypeAndText octets.now (string_bytes text)) }
     ensures fault { IfErr result (λ status. (status ≡ no_memory) ⊎ IsNoValueEncoded octets.now status) }
 {
     let value = match Variant::read_whole(alloc, octets) {

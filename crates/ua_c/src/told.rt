@@ -1,7 +1,7 @@
 //! The events and answers of a client's channel, for C.
 
 ghost use Rattle.std.specs.Prelude.{◌≡◌};
-ghost use Rattle.ua_c.specs.Asking.{ShowsAsk, ShowsEvent, ShowsClose, ShowsTake, only, status_for};
+ghost use Rattle.ua_c.specs.Asking.{ShowsAsk, ShowsEvent, ShowsClose, ShowsTake, status_told, status_for};
 
 use crate::status::{
     CLOSED, EXHAUSTED, NO_MEMORY, NOT_OPEN, OK, REFUSED, RENEW_PENDING, TOO_LARGE,
@@ -42,7 +42,7 @@ pub struct Told {
 impl Told {
     /// Only a status: nothing was taken.
     pub(crate) fn only(status: u32) -> Told
-        ensures { result ≡ only status }
+        ensures { result ≡ status_told status }
     {
         Told::event(status, 0, EVENT_NEED_MORE, 0, 0)
     }

@@ -12,7 +12,7 @@ use Rattle.ua_chunk.specs.declared.fault.AssembleFault.{AssembleFault}
 use Rattle.ua_chunk.specs.declared.fault.AssembleFault.TheVariants.{Sequence, Unreadable, TooManyOpen, MessageTooLarge, TooManyChunks, OutOfMemory, Closed}
 use Rattle.ua_channel.proofs.MessageParts.{ends_in}
 use Rattle.ua_channel.specs.inside.ClientParts.{IsStopFor, Judged, why_of, refused_reasons, unasked_reasons}
-use Rattle.ua_channel.specs.inside.ClientParts.{known_reasons, IsAccepted, IsDeliveredWith, IsTakenWith, left_behind}
+use Rattle.ua_channel.specs.inside.ClientParts.{known_reasons, IsChunkAccepted, IsDeliveredWith, IsTakenWith, left_behind}
 use Rattle.ua_channel.specs.ClientEvents.{event_parts}
 use Rattle.ua_channel.specs.inside.EndFaults.{of_chunk_fault}
 use Rattle.ua_channel.specs.ClientTokens.{from_last}
@@ -52,7 +52,7 @@ refuses rs Closed h = h
 
 -- ---- both
 
-module _ (old mid new : Talking) (cs : List Chunk) (c : Chunk) (d : Option Delivered) (acc : IsAccepted old cs c mid d) where
+module _ (old mid new : Talking) (cs : List Chunk) (c : Chunk) (d : Option Delivered) (acc : IsChunkAccepted old cs c mid d) where
   module _ (e : Option Event) (h : IsDeliveredWith mid c.request c.token (ends c) d new e) where
     same_assembler : new.assembler ≡ mid.assembler
     same_assembler = ap (λ (t : Talking). t.assembler) h.new_is

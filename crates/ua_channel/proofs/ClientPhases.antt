@@ -8,7 +8,7 @@ use Rattle.ua_channel.specs.Asks.{Asking}
 use Rattle.ua_channel.specs.Client.{InPhase, client_bound_behind}
 use Rattle.ua_channel.specs.inside.ClientAsking.{client_phase_gate}
 use Rattle.ua_channel.specs.ClientAsks.{Talks}
-use Rattle.ua_channel.specs.inside.ClientParts.{Judged, TookFrame, IsOpenedBy, TakesFrame, greeted}
+use Rattle.ua_channel.specs.inside.ClientParts.{Judged, TookFrame, IsOpenedBy, ClientTakesFrame, greeted}
 use Rattle.ua_channel.specs.ClientTable.{client_gate, client_reasons, gate_agreed, answer_gate, reply_gate}
 use Rattle.ua_channel.specs.Content.{Content, content}
 use Rattle.ua_channel.specs.Received.{Received, after}
@@ -78,12 +78,12 @@ module _ (limits : Limits) (p : Phase) (before : Received) (asked : List Asking)
 
   pub open_judged : (t u : Talking) → p ≡ Open t → q ≡ Open u → bound ≡ client_bound_behind limits before.ack
       → (Talks limits t before asked → LetsIn (reply_gate t.agreed.ack.send_buffer_size) f
-      → Judged (client_reasons limits before asked (content f)) (TakesFrame limits before asked (content f) u) r)
+      → Judged (client_reasons limits before asked (content f)) (ClientTakesFrame limits before asked (content f) u) r)
       → Judged (client_reasons limits before asked (content f)) (TookFrame limits before asked (content f) q bound) r
   open_judged t u is now bound_is h =
       let here : InPhase limits (Open t) before asked = subst (λ (w : Phase). InPhase limits w before asked) is in_phase in
       judged_same (client_reasons limits before asked (content f)) (client_reasons limits before asked (content f))
-      (TakesFrame limits before asked (content f) u) (TookFrame limits before asked (content f) q bound) r refl
+      (ClientTakesFrame limits before asked (content f) u) (TookFrame limits before asked (content f) q bound) r refl
       (λ e none w.
       record {
         tells = w.tells;

@@ -13,11 +13,11 @@ use Rattle.ua_opening.specs.declared.secure_channel.OpenResponse.{OpenResponse}
 use Rattle.ua_channel.specs.Asks.{Asking, Placed, asked_in, next_id, pending_calls, pending_renewals}
 use Rattle.ua_channel.specs.Client.{InPhase, IsCall, IsClosing, IsNotOpen, IsRenewal, ClientStands, ask_refusal}
 use Rattle.ua_channel.specs.Client.{close_refusal, client_limits, phase_of, refusal_in, renew_refusal, talking_in}
-use Rattle.ua_channel.specs.ClientAsks.{Calls, IsCalled, IsClosed, IsRenewed, JudgesBy, Renews, Talks, ask_reasons, call_reasons, closing_octets}
+use Rattle.ua_channel.specs.ClientAsks.{Calls, IsCalled, IsCloseWith, IsRenewalWith, JudgesBy, AsksRenewal, Talks, ask_reasons, call_reasons, closing_octets}
 use Rattle.ua_channel.specs.ClientAsks.{closing_reasons, has_no_channel, is_too_large, reasons_of_call, reasons_of_renewal, renew_reasons, renewing_reasons}
 use Rattle.ua_channel.specs.ClientSends.{close_frame}
 use Rattle.ua_channel.specs.ClientTable.{of_ack}
-use Rattle.ua_channel.specs.ClientTokens.{channel_in, held_tokens, opened_ids, responses}
+use Rattle.ua_channel.specs.ClientTokens.{first_channel, held_tokens, opened_ids, open_responses}
 use Rattle.ua_channel.specs.Received.{Received, has_some, listed, received}
 use Rattle.ua_channel.specs.declared.client.channel.ClientChannel.{ClientChannel}
 use Rattle.ua_channel.specs.declared.client.fault.AskFault.{AskFault}
@@ -69,13 +69,13 @@ module _ (limits : Limits) (before : Received) (asked : List Asking) where
 
   pub renewal_sent : (p : Phase) (number : ℕ) (moment : DateTime) (id : ℕ) (out : List ℕ) (next : ℕ) → InPhase limits p before asked
       → IsRenewal p number moment id out next
-      → IsRenewed before asked number moment id out next
+      → IsRenewalWith before asked number moment id out next
   renewal_sent p number moment id out next h c =
-      let o = open_sends p (λ (t : Talking). Renews t number moment id out next) h c in
+      let o = open_sends p (λ (t : Talking). AsksRenewal t number moment id out next) h c in
       record { channel = o.0.channel; channel_is = o.1.channel_is; id_is = o.2.id_is ∙ o.1.next_is; out_is = o.2.out_is; next_is = o.2.next_is }
 
   pub close_sent : (p : Phase) (number : ℕ) (moment : DateTime) (out : List ℕ) → InPhase limits p before asked → IsClosing p number moment out
-      → IsClosed before asked number moment out
+      → IsCloseWith before asked number moment out
   close_sent p number moment out h c =
       let o = open_sends p (λ (t : Talking). out ≡ closing_octets t number moment) h c in
       record {
@@ -87,14 +87,14 @@ module _ (limits : Limits) (before : Received) (asked : List Asking) where
       }
 
   -- why nothing is sent: by what runs, and by what was received and asked
-  shut_there : (reasons : List (AskFault × Bool)) → responses before.openings ≡ [] → Some NotOpen ≡ first_reason ((NotOpen, has_no_channel before) ∷ reasons)
-  shut_there reasons none = sym (first_set NotOpen (has_no_channel before) reasons (ap (λ (rs : List OpenResponse). is_none (channel_in rs)) none))
+  shut_there : (reasons : List (AskFault × Bool)) → open_responses before.openings ≡ [] → Some NotOpen ≡ first_reason ((NotOpen, has_no_channel before) ∷ reasons)
+  shut_there reasons none = sym (first_set NotOpen (has_no_channel before) reasons (ap (λ (rs : List OpenResponse). is_none (first_channel rs)) none))
 
   judged_by : (p : Phase) (kept : Talking → List (AskFault × Bool)) (reasons : List (AskFault × Bool)) → InPhase limits p before asked
       → ((t : Talking) → Talks limits t before asked → first_reason (kept t) ≡ first_reason reasons)
       → refusal_in (talking_in p) kept ≡ first_reason ((NotOpen, has_no_channel before) ∷ reasons)
-  judged_by Waiting kept reasons h same = shut_there reasons (ap (λ (b : Received). responses b.openings) h.0 ∙ no_responses)
-  judged_by (Agreed a) kept reasons h same = shut_there reasons (ap (λ (b : Received). responses b.openings) h.0 ∙ no_responses)
+  judged_by Waiting kept reasons h same = shut_there reasons (ap (λ (b : Received). open_responses b.openings) h.0 ∙ no_responses)
+  judged_by (Agreed a) kept reasons h same = shut_there reasons (ap (λ (b : Received). open_responses b.openings) h.0 ∙ no_responses)
   judged_by (Open t) kept reasons h same = same t h ∙ sym (first_skip NotOpen (has_no_channel before) reasons (ap is_none h.channel_is))
   judged_by Done kept reasons h same = absurd h
 
@@ -191,8 +191,8 @@ module _ (x : ClientChannel) (asks : List Placed) (octets : List ℕ) (frames : 
     pub renewal_at : first_reason (renew_reasons t) ≡ first_reason (renewing_reasons (received frames) (asked_in asks))
     renewal_at = renewal_judged (client_limits x) (received frames) (asked_in asks) (Open t) at_open
 
-    pub renewed_at : (number : ℕ) (moment : DateTime) (id : ℕ) (out : List ℕ) (next : ℕ) → Renews t number moment id out next
-        → IsRenewed (received frames) (asked_in asks) number moment id out next
+    pub renewed_at : (number : ℕ) (moment : DateTime) (id : ℕ) (out : List ℕ) (next : ℕ) → AsksRenewal t number moment id out next
+        → IsRenewalWith (received frames) (asked_in asks) number moment id out next
     renewed_at number moment id out next c = renewal_sent (client_limits x) (received frames) (asked_in asks) (Open t) number moment id out next at_open c
 
 -- what is judged of a length, for another reason that is the same

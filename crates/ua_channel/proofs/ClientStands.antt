@@ -11,7 +11,7 @@ use Rattle.ua_channel.specs.Client.{client_side, ClientStands, InPhase, client_l
 use Rattle.ua_channel.specs.ClientAsks.{Talks}
 use Rattle.ua_channel.specs.inside.ClientAsking.{AsBefore}
 use Rattle.ua_channel.specs.ClientTable.{client_gate, client_rules, client_gate_behind, gate_agreed, reply_gate, ack_gate}
-use Rattle.ua_channel.specs.ClientTokens.{responses, channel_in}
+use Rattle.ua_channel.specs.ClientTokens.{open_responses, first_channel}
 use Rattle.ua_opening.specs.declared.secure_channel.OpenResponse.{OpenResponse}
 use Rattle.ua_channel.specs.Received.{Received, received}
 use Rattle.ua_channel.specs.declared.client.channel.ClientChannel.{ClientChannel}
@@ -70,12 +70,12 @@ module _ (x y : ClientChannel) (t u : Talking) (asks : List Placed) (octets : Li
 
 -- ---- an open channel's gate
 
-pub gate_some : (size n : ℕ) (rs : List OpenResponse) → channel_in rs ≡ Some n → gate_agreed size rs ≡ reply_gate size
+pub gate_some : (size n : ℕ) (rs : List OpenResponse) → first_channel rs ≡ Some n → gate_agreed size rs ≡ reply_gate size
 gate_some size n [] e = absurd cc
 gate_some size n (r ∷ rs) e = refl
 
 pub gate_talking : (limits : Limits) (t : Talking) (before : Received) (asked : List Asking) → Talks limits t before asked
     → client_gate before ≡ reply_gate t.agreed.ack.send_buffer_size
 gate_talking limits t before asked h =
-    ap (λ (o : Option Ack). client_gate_behind o (responses before.openings)) h.ack_is
-    ∙ gate_some t.agreed.ack.send_buffer_size t.channel (responses before.openings) h.channel_is
+    ap (λ (o : Option Ack). client_gate_behind o (open_responses before.openings)) h.ack_is
+    ∙ gate_some t.agreed.ack.send_buffer_size t.channel (open_responses before.openings) h.channel_is

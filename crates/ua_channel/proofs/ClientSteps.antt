@@ -4,7 +4,7 @@ use Rattle.ua_builtin.specs.declared.date_time.DateTime.{DateTime}
 use Rattle.ua_frame.specs.declared.limits.Limits.{Limits}
 use Rattle.ua_channel.specs.Asks.{Placed}
 use Rattle.ua_channel.specs.Client.{client_side, ClientGoesTelling, ClientStarvedAt, IsClientDone, client_limits}
-use Rattle.ua_channel.specs.inside.ClientParts.{AnswersEvent, counted, failure_of}
+use Rattle.ua_channel.specs.inside.ClientParts.{AnswersEvent, outcome_counted, failure_of_step}
 use Rattle.ua_channel.specs.inside.Ends.{EndNexts}
 use Rattle.ua_channel.specs.ClientAnswers.{ClientAnswers}
 use Rattle.ua_channel.specs.ClientTold.{ClientTold}
@@ -38,7 +38,7 @@ starved_event moment mid d asks octets told e answer limits g h is = starved_beh
 -- an event
 pub answers_event : (moment : DateTime) (piece : List ℕ) (n : ℕ) (answer : Result ClientEvent ClientTakeFault) (new : ClientChannel) (asks : List Placed)
     (octets : List ℕ) (told : List ClientTold) → AnswersEvent moment answer new asks (octets ++ take n piece) told
-    → ClientAnswers moment piece (counted n answer) new asks octets told
+    → ClientAnswers moment piece (outcome_counted n answer) new asks octets told
 answers_event moment piece n (Ok client_event.NeedMore) new asks octets told h = absurd h
 answers_event moment piece n (Ok (client_event.Send sent)) new asks octets told h = h
 answers_event moment piece n (Ok client_event.Open) new asks octets told h = h
@@ -52,14 +52,14 @@ answers_event moment piece n (Err take_fault.Closed) new asks octets told h = h
 -- a fault
 pub answers_fault : (moment : DateTime) (piece : List ℕ) (n : ℕ) (fault : EndFault) (new : ClientChannel) (asks : List Placed) (octets : List ℕ)
     (told : List ClientTold) → EndNexts client_side piece n (Err fault) new.end asks octets told
-    → ClientAnswers moment piece (counted n (failure_of fault)) new asks octets told
+    → ClientAnswers moment piece (outcome_counted n (failure_of_step fault)) new asks octets told
 answers_fault moment piece n (Refused code) new asks octets told h = h.1
 answers_fault moment piece n (Peer code) new asks octets told h = h.1
 answers_fault moment piece n OutOfMemory new asks octets told h = h.1.done
 answers_fault moment piece n Closed new asks octets told h = absurd h.1
 
 pub starved_fault : (piece : List ℕ) (n : ℕ) (fault : EndFault) (new : ClientChannel) (asks : List Placed) (octets : List ℕ) (told : List ClientTold)
-    → EndNexts client_side piece n (Err fault) new.end asks octets told → failure_of fault ≡ Err take_fault.OutOfMemory
+    → EndNexts client_side piece n (Err fault) new.end asks octets told → failure_of_step fault ≡ Err take_fault.OutOfMemory
     → ClientStarvedAt new asks (octets ++ take n piece) told
 starved_fault piece n (Refused code) new asks octets told h is = absurd cc
 starved_fault piece n (Peer code) new asks octets told h is = absurd cc

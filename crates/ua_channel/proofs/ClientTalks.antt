@@ -22,12 +22,12 @@ use Rattle.ua_opening.specs.declared.secure_channel.OpenResponse.{OpenResponse}
 use Rattle.ua_channel.specs.Asks.{Asking, is_in, calls, renewals, pending_calls, pending_renewals}
 use Rattle.ua_channel.specs.ClientAsks.{Talks}
 use Rattle.ua_channel.specs.inside.Parts.{MayEndIn}
-use Rattle.ua_channel.specs.inside.ClientParts.{why_of, IsStopFor, Judged, IsOpenedBy, TellsRenewal, TakesFrame, told_by_frame}
+use Rattle.ua_channel.specs.inside.ClientParts.{why_of, IsStopFor, Judged, IsOpenedBy, TellsRenewal, ClientTakesFrame, told_by_frame}
 use Rattle.ua_channel.specs.inside.ClientParts.{IsAnswerOf, IsOpenedWith, IsRenewedWith, IsTakenWith, answer_reasons}
-use Rattle.ua_channel.specs.inside.ClientParts.{first_reasons, renewal_reasons, chunk_reasons, greeted, left_pending}
+use Rattle.ua_channel.specs.inside.ClientParts.{first_reasons, kept_renewal_reasons, chunk_reasons, greeted, left_pending}
 use Rattle.ua_channel.specs.ClientEvents.{event_parts}
 use Rattle.ua_channel.specs.ClientTable.{client_reasons, is_awaited}
-use Rattle.ua_channel.specs.ClientTokens.{answer_in, response_listed, id_listed, responses, opened_ids, channel_in, tokens_of, from_last, held_by, held_tokens}
+use Rattle.ua_channel.specs.ClientTokens.{answer_in, response_listed, id_listed, open_responses, opened_ids, first_channel, tokens_of, from_last, held_by, held_tokens}
 use Rattle.ua_channel.specs.ClientTold.{ClientTold, ClientTold as told, ours, client_tells, told_response}
 use Rattle.ua_channel.specs.Content.{Opening, Content, content, opening_of}
 use Rattle.ua_channel.specs.Content.Content.{Opens, Sends}
@@ -45,8 +45,8 @@ use Rattle.ua_channel.proofs.HeldTokens.{held_by-used, held_by-push, latest-push
 
 -- ---- what one opening adds
 
-pub responses-push : (os : List Opening) (o : Opening) (r : OpenResponse) → answer_in o ≡ Some (Open r) → responses (os ++ o ∷ []) ≡ responses os ++ r ∷ []
-unfolding responses
+pub responses-push : (os : List Opening) (o : Opening) (r : OpenResponse) → answer_in o ≡ Some (Open r) → open_responses (os ++ o ∷ []) ≡ open_responses os ++ r ∷ []
+unfolding open_responses
 responses-push os o r is = flat_map-append (λ (p : Opening). response_listed (answer_in p)) os (o ∷ [])
     ∙ ap (λ (a : Option OpenAnswer). flat_map (λ (p : Opening). response_listed (answer_in p)) os ++ (response_listed a ++ [])) is
 
@@ -59,14 +59,14 @@ pub tokens_of-push : (rs : List OpenResponse) (r : OpenResponse) → tokens_of (
 unfolding tokens_of
 tokens_of-push rs r = map-append (λ (q : OpenResponse). q.token_id) rs (r ∷ [])
 
-pub channel_in-push : (rs : List OpenResponse) (r : OpenResponse) (n : ℕ) → channel_in rs ≡ Some n → channel_in (rs ++ r ∷ []) ≡ Some n
+pub channel_in-push : (rs : List OpenResponse) (r : OpenResponse) (n : ℕ) → first_channel rs ≡ Some n → first_channel (rs ++ r ∷ []) ≡ Some n
 channel_in-push [] r n e = absurd cc
 channel_in-push (q ∷ rs) r n e = e
 
 -- ---- the first answer
 
-pub no_responses : responses [] ≡ []
-unfolding responses
+pub no_responses : open_responses [] ≡ []
+unfolding open_responses
 no_responses = refl
 
 pub no_ids : opened_ids [] ≡ []
@@ -94,7 +94,7 @@ is_first true n is e = omega (arith, eqb-true n 1 is)
 is_first false n is e = absurd cc
 
 module _ (limits : Limits) (g : Agreed) (a : Answer) (t : Talking) (o : Opening) (h : IsOpenedWith limits g a t) (ans : IsAnswerOf o a) where
-  one_response : responses (o ∷ []) ≡ ans.response ∷ []
+  one_response : open_responses (o ∷ []) ≡ ans.response ∷ []
   one_response = responses-push [] o ans.response ans.answer_is ∙ ap (λ (rs : List OpenResponse). rs ++ ans.response ∷ []) no_responses
 
   one_id : opened_ids (o ∷ []) ≡ a.request ∷ []
@@ -112,7 +112,7 @@ module _ (limits : Limits) (g : Agreed) (a : Answer) (t : Talking) (o : Opening)
   pub opened_talks : first_reason (first_reasons a) ≡ None → Talks limits t (after (greeted g) (Opens o)) []
   opened_talks none = record {
     ack_is = ap (λ (z : Agreed). Some z.ack) (sym h.agreed_is);
-    channel_is = ap channel_in one_response ∙ ap (λ (n : ℕ). Some n) (ans.channel_is ∙ sym h.channel_is);
+    channel_is = ap first_channel one_response ∙ ap (λ (n : ℕ). Some n) (ans.channel_is ∙ sym h.channel_is);
     tokens_are = h.tokens_are ∙ sym one_token;
     newest_is = ap latest one_token ∙ ap (λ (n : ℕ). Some n) (sym h.newest_is);
     pending_are = h.pending_are ∙ sym (nothing_pending []);
@@ -141,21 +141,21 @@ one_of None n e = absurd cc
 one_of (Some m) n e = same_one m n (eqb m n) refl e
 
 -- an opening that comes after another is awaited where it answers the renewal
-pub awaited_later : (rs : List OpenResponse) (opened : List ℕ) (asked : List Asking) (id n : ℕ) → channel_in rs ≡ Some n
+pub awaited_later : (rs : List OpenResponse) (opened : List ℕ) (asked : List Asking) (id n : ℕ) → first_channel rs ≡ Some n
     → is_awaited rs opened asked id ≡ is_in id (pending_renewals opened asked)
 awaited_later [] opened asked id n e = absurd cc
 awaited_later (r ∷ rs) opened asked id n e = refl
 
-pub later_tells : (rs : List OpenResponse) (r : OpenResponse) (n : ℕ) → channel_in rs ≡ Some n → told_response rs r ≡ told.Renewed r.token_id
+pub later_tells : (rs : List OpenResponse) (r : OpenResponse) (n : ℕ) → first_channel rs ≡ Some n → told_response rs r ≡ told.Renewed r.token_id
 later_tells [] r n e = absurd cc
 later_tells (q ∷ rs) r n e = refl
 
 module _ (limits : Limits) (t : Talking) (before : Received) (asked : List Asking) (a : Answer) (h : Talks limits t before asked) where
-  pub later_remain : first_reason (answer_reasons before asked a) ≡ first_reason (renewal_reasons t a)
+  pub later_remain : first_reason (answer_reasons before asked a) ≡ first_reason (kept_renewal_reasons t a)
   later_remain =
       rw (
         h.channel_is,
-        awaited_later (responses before.openings) (opened_ids before.openings) asked a.request t.channel h.channel_is,
+        awaited_later (open_responses before.openings) (opened_ids before.openings) asked a.request t.channel h.channel_is,
         sym h.tokens_are,
         h.last_is,
         sym h.renewal_is,
@@ -164,20 +164,20 @@ module _ (limits : Limits) (t : Talking) (before : Received) (asked : List Askin
   module _ (new : Talking) (o : Opening) (n : IsRenewedWith t a before.messages new) (ans : IsAnswerOf o a) where
     pub renewed_tells : client_tells before (Opens o) ≡ told.Renewed a.token ∷ []
     renewed_tells =
-        rw ans.answer_is (ap (λ (e : ClientTold). e ∷ []) (later_tells (responses before.openings) ans.response t.channel h.channel_is
+        rw ans.answer_is (ap (λ (e : ClientTold). e ∷ []) (later_tells (open_responses before.openings) ans.response t.channel h.channel_is
         ∙ ap (λ (k : ℕ). told.Renewed k) ans.token_is))
 
-    more_responses : responses (before.openings ++ o ∷ []) ≡ responses before.openings ++ ans.response ∷ []
+    more_responses : open_responses (before.openings ++ o ∷ []) ≡ open_responses before.openings ++ ans.response ∷ []
     more_responses = responses-push before.openings o ans.response ans.answer_is
 
     more_ids : opened_ids (before.openings ++ o ∷ []) ≡ opened_ids before.openings ++ a.request ∷ []
     more_ids = opened_ids-push before.openings o (a.sequence, a.request) ans.numbers_are
 
-    unfold_held : held_tokens before ≡ held_by before.used (tokens_of (responses before.openings))
+    unfold_held : held_tokens before ≡ held_by before.used (tokens_of (open_responses before.openings))
     unfolding held_tokens
     unfold_held = refl
 
-    unfold_more : held_tokens (after before (Opens o)) ≡ held_by before.used (tokens_of (responses (before.openings ++ o ∷ [])))
+    unfold_more : held_tokens (after before (Opens o)) ≡ held_by before.used (tokens_of (open_responses (before.openings ++ o ∷ [])))
     unfolding held_tokens
     unfold_more = refl
 
@@ -185,9 +185,9 @@ module _ (limits : Limits) (t : Talking) (before : Received) (asked : List Askin
     more_tokens fresh =
         unfold_more
         ∙ (ap (λ (rs : List OpenResponse). held_by before.used (tokens_of rs)) more_responses
-        ∙ (ap (held_by before.used) (tokens_of-push (responses before.openings) ans.response
-        ∙ ap (λ (k : ℕ). tokens_of (responses before.openings) ++ k ∷ []) ans.token_is)
-        ∙ (held_by-push before.used a.token t.newest (tokens_of (responses before.openings)) (ap latest (sym unfold_held) ∙ h.newest_is)
+        ∙ (ap (held_by before.used) (tokens_of-push (open_responses before.openings) ans.response
+        ∙ ap (λ (k : ℕ). tokens_of (open_responses before.openings) ++ k ∷ []) ans.token_is)
+        ∙ (held_by-push before.used a.token t.newest (tokens_of (open_responses before.openings)) (ap latest (sym unfold_held) ∙ h.newest_is)
         (ap (is_in a.token) (sym (h.tokens_are ∙ unfold_held)) ∙ fresh)
         ∙ ap (λ (ts : List ℕ). ts ++ a.token ∷ []) (sym unfold_held))))
 
@@ -198,7 +198,7 @@ module _ (limits : Limits) (t : Talking) (before : Received) (asked : List Askin
         (ap (is_in a.request) (sym h.renewal_is) ∙ awaited) in
         subst (λ (u : Talking). Talks limits u (after before (Opens o)) asked) (sym n.new_is) (record {
           ack_is = h.ack_is;
-          channel_is = ap channel_in more_responses ∙ channel_in-push (responses before.openings) ans.response t.channel h.channel_is;
+          channel_is = ap first_channel more_responses ∙ channel_in-push (open_responses before.openings) ans.response t.channel h.channel_is;
           tokens_are = n.tokens_are ∙ (ap (λ (ts : List ℕ). ts ++ a.token ∷ []) h.tokens_are ∙ sym (more_tokens fresh));
           newest_is = ap latest (more_tokens fresh) ∙ latest-push (held_tokens before) a.token;
           pending_are = h.pending_are;
@@ -237,18 +237,18 @@ module _ (limits : Limits) (t : Talking) (before : Received) (asked : List Askin
   chunk_remain = rw (h.channel_is, sym h.tokens_are, h.last_is, h.octets, h.chunks, sym h.pending_are) refl
 
   module _ (new : Talking) (e : Option Event) (n : IsTakenWith t before.messages c new e) where
-    unfold_used : held_tokens (after before (Sends c)) ≡ held_by (Some c.token) (tokens_of (responses before.openings))
+    unfold_used : held_tokens (after before (Sends c)) ≡ held_by (Some c.token) (tokens_of (open_responses before.openings))
     unfolding held_tokens
     unfold_used = refl
 
-    unfold_was : held_tokens before ≡ held_by before.used (tokens_of (responses before.openings))
+    unfold_was : held_tokens before ≡ held_by before.used (tokens_of (open_responses before.openings))
     unfolding held_tokens
     unfold_was = refl
 
     used_tokens : is_in c.token t.tokens.items ≡ true → held_tokens (after before (Sends c)) ≡ from_last c.token (held_tokens before)
     used_tokens has =
         unfold_used
-        ∙ (held_by-used before.used c.token (tokens_of (responses before.openings)) (ap (is_in c.token) (sym (h.tokens_are ∙ unfold_was)) ∙ has)
+        ∙ (held_by-used before.used c.token (tokens_of (open_responses before.openings)) (ap (is_in c.token) (sym (h.tokens_are ∙ unfold_was)) ∙ has)
         ∙ ap (from_last c.token) (sym unfold_was))
 
     pub taken_talks : is_in c.token t.tokens.items ≡ true → is_in c.request t.pending.items ≡ true → Talks limits new (after before (Sends c)) asked
@@ -306,8 +306,8 @@ stopped_opn limits before asked f stop is h = subst (λ (c : Content). IsStopFor
     (h limits before asked)
 
 module _ (limits : Limits) (t : Talking) (before : Received) (asked : List Asking) (new : Talking) (h : Talks limits t before asked) where
-  renewal_taken : (a : Answer) (o : Opening) (e : Option Event) → IsAnswerOf o a → first_reason (renewal_reasons t a) ≡ None
-      → TellsRenewal t a before.messages new e → TakesFrame limits before asked (Opens o) new e
+  renewal_taken : (a : Answer) (o : Opening) (e : Option Event) → IsAnswerOf o a → first_reason (kept_renewal_reasons t a) ≡ None
+      → TellsRenewal t a before.messages new e → ClientTakesFrame limits before asked (Opens o) new e
   renewal_taken a o e ans none w =
       let second = first_tail (ours 0x807F_0000) (not (eqb a.channel t.channel))
       ((ours 0x8087_0000, is_in a.token t.tokens.items) ∷ (ours 0x8088_0000, not (may_follow (last_number t.assembler) a.sequence))
@@ -330,17 +330,17 @@ module _ (limits : Limits) (t : Talking) (before : Received) (asked : List Askin
       }
 
   pub renewal_judged : (f : Frame) (a : Answer) (r : Result (Option Event) EndFault) → f.kind ≡ Opn → IsAnswerOf (opening_of f.body) a
-      → Judged (renewal_reasons t a) (TellsRenewal t a before.messages new) r
-      → Judged (client_reasons limits before asked (content f)) (TakesFrame limits before asked (content f) new) r
+      → Judged (kept_renewal_reasons t a) (TellsRenewal t a before.messages new) r
+      → Judged (client_reasons limits before asked (content f)) (ClientTakesFrame limits before asked (content f) new) r
   renewal_judged f a r is ans j =
-      subst (λ (c : Content). Judged (client_reasons limits before asked c) (TakesFrame limits before asked c new) r) (sym (content_opn f is))
-      (judged_same (renewal_reasons t a) (client_reasons limits before asked (Opens (opening_of f.body))) (TellsRenewal t a before.messages new)
-      (TakesFrame limits before asked (Opens (opening_of f.body)) new) r
+      subst (λ (c : Content). Judged (client_reasons limits before asked c) (ClientTakesFrame limits before asked c new) r) (sym (content_opn f is))
+      (judged_same (kept_renewal_reasons t a) (client_reasons limits before asked (Opens (opening_of f.body))) (TellsRenewal t a before.messages new)
+      (ClientTakesFrame limits before asked (Opens (opening_of f.body)) new) r
       (ans.remain limits before asked ∙ later_remain limits t before asked a h)
       (λ e none w. renewal_taken a (opening_of f.body) e ans none w) j)
 
   chunk_taken : (c : Chunk) (e : Option Event) → first_reason (chunk_reasons t before.messages c) ≡ None → IsTakenWith t before.messages c new e
-      → TakesFrame limits before asked (Sends c) new e
+      → ClientTakesFrame limits before asked (Sends c) new e
   chunk_taken c e none w =
       let refused = map (renamed_reason why_of) (reasons (octet_limit t.assembler) (chunk_limit t.assembler) (last_number t.assembler) before.messages c) in
       let second = first_tail (ours 0x807F_0000) (not (eqb c.channel t.channel))
@@ -360,10 +360,10 @@ module _ (limits : Limits) (t : Talking) (before : Received) (asked : List Askin
 
   pub chunk_judged : (f : Frame) (c : Chunk) (r : Result (Option Event) EndFault) → f.kind ≡ Msg → chunk_in f ≡ Some c
       → Judged (chunk_reasons t before.messages c) (IsTakenWith t before.messages c new) r
-      → Judged (client_reasons limits before asked (content f)) (TakesFrame limits before asked (content f) new) r
+      → Judged (client_reasons limits before asked (content f)) (ClientTakesFrame limits before asked (content f) new) r
   chunk_judged f c r is found j =
-      subst (λ (d : Content). Judged (client_reasons limits before asked d) (TakesFrame limits before asked d new) r) (sym (content_msg f c is found))
+      subst (λ (d : Content). Judged (client_reasons limits before asked d) (ClientTakesFrame limits before asked d new) r) (sym (content_msg f c is found))
       (judged_same (chunk_reasons t before.messages c) (client_reasons limits before asked (Sends c)) (IsTakenWith t before.messages c new)
-      (TakesFrame limits before asked (Sends c) new) r
+      (ClientTakesFrame limits before asked (Sends c) new) r
       (chunk_remain limits t before asked c h)
       (λ e none w. chunk_taken c e none w) j)

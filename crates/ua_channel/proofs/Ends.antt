@@ -19,7 +19,7 @@ use Rattle.ua_channel.specs.declared.end_core.EndCore.{EndCore}
 use Rattle.ua_channel.specs.declared.end_fault.EndFault.{EndFault}
 use Rattle.ua_channel.specs.declared.end_fault.EndFault.TheVariants.{Refused, Peer, Closed, OutOfMemory}
 use Rattle.ua_channel.specs.Ends.{Side, EndDone, EndGoes, EndStands, EndStarves, EndStops, EndTells, HandsOutParts, rules_by}
-use Rattle.ua_channel.specs.inside.Ends.{ComesBy, ComesNext, EndNexts, EndSteps, EndTook, FailsBy, IsBehind}
+use Rattle.ua_channel.specs.inside.Ends.{ComesBy, ComesNext, EndNexts, EndSteps, EndTook, EndFailsBy, IsBehind}
 use Rattle.ua_channel.specs.inside.Ends.{JudgesWhole, MovesBy, RefusedBy, SameEnd, TakenBy, TakesWhole, closes_by}
 use Rattle.ua_channel.specs.inside.Parts.{MayEndIn, IsWithinPiece}
 use Rattle.ua_channel.specs.inside.EndFaults.{least_at, of_frame_fault}
@@ -164,7 +164,7 @@ module _ {R P E : Type 0} (S : Side R P E) where
         by_peer (Some why) is done bound = refused why is done bound
 
         fails : (fault : EndFault) → RefusedBy S x.rules k g.frames f fault → EndDone S (end_with x z p b) → b ≡ S.bound x.rules g.frames
-            → FailsBy S (end_with x z p b) k (octets ++ take n piece) told fault
+            → EndFailsBy S (end_with x z p b) k (octets ++ take n piece) told fault
         fails (Refused code) is done bound = refused ((rules_by S x k).of_header code.code) is done bound
         fails (Peer code) is done bound = by_peer (S.peer code.code) is done bound
         fails OutOfMemory is done bound =
@@ -315,7 +315,7 @@ module _ (piece : List ℕ) (taken n : ℕ) (room : taken < length piece) where
         → EndNexts S piece (taken + n) (Err fault) next k octets told
     fails_by fault is k octets told g = (
       fewer_there (Option E) fault (moved (Err fault) is),
-      shifted (λ (z : List ℕ). FailsBy S next k z told fault) octets
+      shifted (λ (z : List ℕ). EndFailsBy S next k z told fault) octets
           (there (Err fault) is k octets told g),
     )
 

@@ -29,7 +29,7 @@ use Rattle.ua_channel.specs.ServerRules.{opening_gate}
 use Rattle.ua_channel.specs.ServerTold.{Told as told, server_tells}
 use Rattle.ua_frame.specs.declared.gate.Gate.{Gate}
 use Rattle.ua_channel.specs.inside.Parts.{MayEndIn}
-use Rattle.ua_channel.specs.ServerEvents.{parts_of, told_of}
+use Rattle.ua_channel.specs.ServerEvents.{parts_of_event, server_told_of_event}
 use Rattle.ua_channel.specs.ServerStands.{server_side}
 use Rattle.ua_channel.specs.inside.Ends.{ComesNext, IsBehind, JudgesNext, TakenBy, closes_by, parts_by, told_if}
 use Rattle.ua_channel.specs.Received.{received}
@@ -132,19 +132,19 @@ open_before limits Done before h = absurd h
 last_is : (limits : Limits) (before : Received) (c : Content) (e : Option Event) → server_tells limits before c ≡ told_list e → before.closed ≡ false
     → (after before c).closed ≡ closes_by server_side e
 last_is limits before c None tells goes = silent_open limits before c tells goes
-last_is limits before c (Some (event.Agreed a)) tells goes = telling_open limits before c (told_of (event.Agreed a)) tells (λ z. absurd cc) goes
+last_is limits before c (Some (event.Agreed a)) tells goes = telling_open limits before c (server_told_of_event (event.Agreed a)) tells (λ z. absurd cc) goes
 last_is limits before c (Some (event.Opened id handle token lifetime)) tells goes =
-    telling_open limits before c (told_of (event.Opened id handle token lifetime)) tells (λ z. absurd cc) goes
-last_is limits before c (Some (event.Asked id token message)) tells goes = telling_open limits before c (told_of (event.Asked id token message)) tells
+    telling_open limits before c (server_told_of_event (event.Opened id handle token lifetime)) tells (λ z. absurd cc) goes
+last_is limits before c (Some (event.Asked id token message)) tells goes = telling_open limits before c (server_told_of_event (event.Asked id token message)) tells
     (λ z. absurd cc) goes
-last_is limits before c (Some (event.Aborted id)) tells goes = telling_open limits before c (told_of (event.Aborted id)) tells (λ z. absurd cc) goes
+last_is limits before c (Some (event.Aborted id)) tells goes = telling_open limits before c (server_told_of_event (event.Aborted id)) tells (λ z. absurd cc) goes
 last_is limits before c (Some event.Closed) tells goes = closing limits before c tells
 
 list_is : (e : Option Event) → told_list e ≡ told_if server_side e
 list_is None = refl
 list_is (Some e) = refl
 
-parts_are : (cs : List Chunk) (c : Content) (e : Option Event) → MayEndIn cs c (parts_of e) → MayEndIn cs c (parts_by server_side e)
+parts_are : (cs : List Chunk) (c : Content) (e : Option Event) → MayEndIn cs c (parts_of_event e) → MayEndIn cs c (parts_by server_side e)
 parts_are cs c None h = tt
 parts_are cs c (Some e) h = h
 

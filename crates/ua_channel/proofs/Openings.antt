@@ -13,7 +13,7 @@ use Rattle.ua_chunk.specs.declared.open_chunk.OpenChunk.{OpenChunk}
 use Rattle.ua_chunk.specs.declared.fault.OpenFault.{OpenFault}
 use Rattle.ua_chunk.specs.declared.fault.OpenFault.TheVariants.{Unreadable, Policy, OutOfMemory}
 use Rattle.ua_chunk.specs.Layout.{sequence_header}
-use Rattle.ua_chunk.specs.Opening.{SecurityHeader, channel_of, policy_of, policy_header, is_none_policy, opening_behind}
+use Rattle.ua_chunk.specs.Opening.{SecurityHeader, channel_of_header, policy_of, policy_header, is_none_policy, opening_behind}
 use Rattle.ua_chunk.specs.Opening.{opening_with, opening_in, sequence_fault, headers_fault, open_refusal}
 use Rattle.ua_chunk.specs.Sequence.{may_follow}
 use Rattle.ua_channel.specs.declared.end_fault.EndFault.{EndFault}
@@ -98,19 +98,19 @@ judges_headers channel count body fault e h is = subst (λ (x : EndFault). Judge
 -- the body of an OPN has headers under the policy None, and behind them these octets
 pub record HasHeaders (body : List ℕ) (on sequence request : ℕ) (behind : List ℕ) : Type 0 where
   pub header : SecurityHeader
-  pub on_is : channel_of header ≡ on
+  pub on_is : channel_of_header header ≡ on
   pub policy : is_none_policy (policy_of header) ≡ true
   pub opening_is : opening_of body ≡ record { security = Some header; numbers = Some (sequence, request); body = behind }
 
 abbrev found_chunk : SecurityHeader → (ℕ × ℕ) × List ℕ → OpenChunk
-found_chunk header found = record { channel = channel_of header; sequence = found.0.0; request = found.0.1; body = found.1 }
+found_chunk header found = record { channel = channel_of_header header; sequence = found.0.0; request = found.0.1; body = found.1 }
 
 abbrev opening_with_chunk : SecurityHeader → OpenChunk → Opening
 opening_with_chunk header c = record { security = Some header; numbers = Some (c.sequence, c.request); body = c.body }
 
 headers_behind : (header : SecurityHeader) (octets : List ℕ) (found : Option ((ℕ × ℕ) × List ℕ)) (b : Bool) (c : OpenChunk)
-    → is_none_policy (policy_of header) ≡ b → opening_behind b (channel_of header) found ≡ Some c
-    → (b ≡ true) × (channel_of header ≡ c.channel)
+    → is_none_policy (policy_of header) ≡ b → opening_behind b (channel_of_header header) found ≡ Some c
+    → (b ≡ true) × (channel_of_header header ≡ c.channel)
     × (opening_numbered header octets found ≡ record { security = Some header; numbers = Some (c.sequence, c.request); body = c.body })
 headers_behind header octets found false c e h = absurd cc
 headers_behind header octets None true c e h = absurd cc

@@ -14,10 +14,10 @@ use Rattle.ua_chunk.specs.Assembling.{SameLimits, last_number, octet_limit, chun
 use Rattle.ua_chunk.specs.Assembling as assembling
 use Rattle.ua_chunk.specs.Delivered.{given}
 use Rattle.ua_chunk.specs.Gathered.{bodies, gathered}
-use Rattle.ua_chunk.specs.Refusal.{IsFor, reasons, refusal}
+use Rattle.ua_chunk.specs.Refusal.{IsFor, reasons, chunk_refusal}
 use Rattle.ua_chunk.specs.Sequence.{may_follow}
 use Rattle.ua_channel.specs.declared.running.Running.{Running}
-use Rattle.ua_chunk.specs.View.{items_of, HasParts}
+use Rattle.ua_chunk.specs.View.{delivered_items, HasParts}
 use Rattle.ua_channel.specs.declared.server_event.Event.{Event}
 use Rattle.ua_channel.specs.declared.server_event.Event.TheVariants as event
 use Rattle.ua_channel.specs.declared.end_fault.EndFault.{EndFault}
@@ -28,7 +28,7 @@ use Rattle.ua_channel.specs.Content.{Content, Opening, opening_of}
 use Rattle.ua_channel.specs.Content.Content.{Opens, Sends, Closes}
 use Rattle.ua_channel.specs.Received.{Received, number_or, after}
 use Rattle.ua_channel.specs.inside.Parts.{MayEndIn, parts_in}
-use Rattle.ua_channel.specs.ServerEvents.{told_of, parts_of}
+use Rattle.ua_channel.specs.ServerEvents.{server_told_of_event, parts_of_event}
 use Rattle.ua_channel.specs.inside.EndFaults.{fault_code, of_chunk_fault}
 use Rattle.ua_channel.specs.inside.ServerParts.{IsRefusalFor, IsRefused, JudgesOpening, OpensSo, TakesSo, ids_reasons, told_list}
 use Rattle.ua_channel.specs.ServerStands.{HasGreeted, Stays}
@@ -56,15 +56,15 @@ module _ (limits : Limits) (r : Running) (before : Received) (channel : ℕ) (c 
   ids_as = ap (λ (n : ℕ). ids_reasons c channel n (issued before)) stays.used_is ∙ ap (ids_reasons c channel r.used) stays.issued_is
 
   -- its ids are good
-  refusal_as : refusal (octet_limit r.assembler) (chunk_limit r.assembler) (last_number r.assembler) before.messages c
-      ≡ refusal limits.max_message_size limits.max_chunk_count before.last before.messages c
+  refusal_as : chunk_refusal (octet_limit r.assembler) (chunk_limit r.assembler) (last_number r.assembler) before.messages c
+      ≡ chunk_refusal limits.max_message_size limits.max_chunk_count before.last before.messages c
   refusal_as =
-      ap (λ (n : ℕ). refusal n (chunk_limit r.assembler) (last_number r.assembler) before.messages c) stays.octets
-      ∙ (ap (λ (n : ℕ). refusal limits.max_message_size n (last_number r.assembler) before.messages c) stays.chunks
-      ∙ ap (λ (o : Option ℕ). refusal limits.max_message_size limits.max_chunk_count o before.messages c) (sym stays.last_is))
+      ap (λ (n : ℕ). chunk_refusal n (chunk_limit r.assembler) (last_number r.assembler) before.messages c) stays.octets
+      ∙ (ap (λ (n : ℕ). chunk_refusal limits.max_message_size n (last_number r.assembler) before.messages c) stays.chunks
+      ∙ ap (λ (o : Option ℕ). chunk_refusal limits.max_message_size limits.max_chunk_count o before.messages c) (sym stays.last_is))
 
   pub sends_judged : first_reason (ids_reasons c channel r.used r.issued) ≡ None → first_reason (server_reasons limits channel before (Sends c))
-      ≡ option_map refused_code (refusal (octet_limit r.assembler) (chunk_limit r.assembler) (last_number r.assembler) before.messages c)
+      ≡ option_map refused_code (chunk_refusal (octet_limit r.assembler) (chunk_limit r.assembler) (last_number r.assembler) before.messages c)
   sends_judged e =
       judged_sends limits channel before c
       ∙ (first_behind (ids_reasons c channel (last_used before) (issued before))
@@ -77,16 +77,16 @@ module _ (limits : Limits) (r : Running) (before : Received) (channel : ℕ) (c 
 
   -- a chunk that is taken
   pub takes_message : (d : Option Delivered) (e : Option Event) (new : Assembler) → first_reason (ids_reasons c channel r.used r.issued) ≡ None
-      → refusal (octet_limit r.assembler) (chunk_limit r.assembler) (last_number r.assembler) before.messages c ≡ None
-      → given before.messages c ≡ items_of d → HasParts d (bodies (gathered before.messages c)) → told_list e ≡ map (told_under c.token) (items_of d)
-      → parts_of e ≡ parts_in d → assembling.Stands new (before.messages ++ c ∷ []) → last_number new ≡ Some c.sequence → SameLimits r.assembler new
+      → chunk_refusal (octet_limit r.assembler) (chunk_limit r.assembler) (last_number r.assembler) before.messages c ≡ None
+      → given before.messages c ≡ delivered_items d → HasParts d (bodies (gathered before.messages c)) → told_list e ≡ map (told_under c.token) (delivered_items d)
+      → parts_of_event e ≡ parts_in d → assembling.Stands new (before.messages ++ c ∷ []) → last_number new ≡ Some c.sequence → SameLimits r.assembler new
       → TakesSo limits channel before (Sends c) e × Stays limits (record r { assembler = new; used = c.token }) (after before (Sends c))
   takes_message d e new ids good items parts event same_parts stands last same = (
     record {
       accepted = sends_judged ids ∙ ap (option_map refused_code) good;
       tells = ap (map (told_under c.token)) items
           ∙ sym event;
-      parts = ends_in before.messages c d (parts_of e) same_parts parts;
+      parts = ends_in before.messages c d (parts_of_event e) same_parts parts;
     },
     record {
       hello = stays.hello;
@@ -105,7 +105,7 @@ module _ (limits : Limits) (r : Running) (before : Received) (channel : ℕ) (c 
   )
 
   judged_fault : (fault : AssembleFault) → first_reason (ids_reasons c channel r.used r.issued) ≡ None
-      → IsFor (refusal (octet_limit r.assembler) (chunk_limit r.assembler) (last_number r.assembler) before.messages c) fault
+      → IsFor (chunk_refusal (octet_limit r.assembler) (chunk_limit r.assembler) (last_number r.assembler) before.messages c) fault
       → IsRefusalFor (IsRefused limits channel before (Sends c)) (of_chunk_fault 0x80B8_0000 fault)
   judged_fault Sequence ids h = sends_judged ids ∙ ap (option_map refused_code) h
   judged_fault Unreadable ids h = sends_judged ids ∙ ap (option_map refused_code) h
@@ -117,7 +117,7 @@ module _ (limits : Limits) (r : Running) (before : Received) (channel : ℕ) (c 
 
   -- a chunk that is refused
   pub refuses_message : (fault : AssembleFault) (e : EndFault) → first_reason (ids_reasons c channel r.used r.issued) ≡ None
-      → IsFor (refusal (octet_limit r.assembler) (chunk_limit r.assembler) (last_number r.assembler) before.messages c) fault
+      → IsFor (chunk_refusal (octet_limit r.assembler) (chunk_limit r.assembler) (last_number r.assembler) before.messages c) fault
       → e ≡ of_chunk_fault 0x80B8_0000 fault
       → IsRefusalFor (IsRefused limits channel before (Sends c)) e
   refuses_message fault e ids h is = subst (IsRefusalFor (IsRefused limits channel before (Sends c))) (sym is) (judged_fault fault ids h)
@@ -126,7 +126,7 @@ module _ (limits : Limits) (r : Running) (before : Received) (channel : ℕ) (c 
 
 -- an event that a token was issued hands no message out
 opened_in : (before : List Chunk) (c : Content) (e : Option Event) (id handle token lifetime : ℕ) → told_list e ≡ told.Opened id handle token lifetime ∷ []
-    → MayEndIn before c (parts_of e)
+    → MayEndIn before c (parts_of_event e)
 opened_in before c None id handle token lifetime is = tt
 opened_in before c (Some (event.Agreed a)) id handle token lifetime is = tt
 opened_in before c (Some (event.Opened i h t l)) id handle token lifetime is = tt
@@ -204,7 +204,7 @@ module _ (limits : Limits) (r : Running) (before : Received) (channel : ℕ) (bo
 
 -- the first OPN
 pub takes_first : (limits : Limits) (channel : ℕ) (before : Received) (a : Agreement) (body : List ℕ) (o : Opened) (e : Event) (new : Assembler)
-    → HasGreeted limits a before → OpensSo channel 0 body o → told_of e ≡ told.Opened o.request o.handle 1 o.lifetime
+    → HasGreeted limits a before → OpensSo channel 0 body o → server_told_of_event e ≡ told.Opened o.request o.handle 1 o.lifetime
     → assembling.Stands new [] → last_number new ≡ Some o.sequence → octet_limit new ≡ limits.max_message_size → chunk_limit new ≡ limits.max_chunk_count
     → TakesSo limits channel before (Opens (opening_of body)) (Some e) × Stays limits (record { agreement = a; assembler = new; issued = 1; used = 1 })
     (after before (Opens (opening_of body)))

@@ -9,11 +9,11 @@ use Rattle.ua_frame.specs.declared.limits.Limits.{Limits}
 use Rattle.ua_frame.specs.Run.{Rules}
 use Rattle.ua_chunk.specs.Open.{open_octets}
 use Rattle.ua_channel.specs.Asks.{Asking, Placed, asked_in}
-use Rattle.ua_channel.specs.ClientAsks.{Talks, ask_reasons, renew_reasons, Calls, JudgesBy, Renews, closing_octets}
+use Rattle.ua_channel.specs.ClientAsks.{Talks, ask_reasons, renew_reasons, Calls, JudgesBy, AsksRenewal, closing_octets}
 use Rattle.ua_channel.specs.ClientTable.{client_rules}
 use Rattle.ua_channel.specs.ClientTold.{ClientTold, Why, peers}
 use Rattle.ua_channel.specs.Ends.{Side, EndDone, EndGoes, EndStands, EndStarves, EndStops, EndTells}
-use Rattle.ua_channel.specs.ClientEvents.{event_parts, told_by}
+use Rattle.ua_channel.specs.ClientEvents.{event_parts, client_told_of_event}
 use Rattle.ua_channel.specs.declared.client.event.Event.{Event}
 use Rattle.ua_channel.specs.declared.client.rules.ClientRules.{ClientRules}
 use Rattle.ua_channel.specs.Received.{Received, received, nothing_received}
@@ -84,7 +84,7 @@ client_side = record {
   holds = λ r asks p frames. InPhase r.limits p (received frames) (asked_in asks);
   bound = λ r frames. client_bound_behind r.limits (received frames).ack;
   done = λ p. p ≡ Done;
-  tells = told_by;
+  tells = client_told_of_event;
   closes = λ e. false;
   parts = λ e. event_parts (Some e);
   peer = λ code. Some (peers code);
@@ -153,7 +153,7 @@ renew_refusal p = refusal_in (talking_in p) renew_reasons
 
 -- the bytes of a renewal, its RequestId, and the number that is sent next
 abbrev pub IsRenewal : Phase → ℕ → DateTime → ℕ → List ℕ → ℕ → Type 0
-IsRenewal p number moment id out next = MatchOption (talking_in p) ⊥ (λ (t : Talking). Renews t number moment id out next)
+IsRenewal p number moment id out next = MatchOption (talking_in p) ⊥ (λ (t : Talking). AsksRenewal t number moment id out next)
 
 -- why a channel is not closed in this phase
 abbrev pub close_refusal : Phase → Option AskFault

@@ -22,25 +22,25 @@ pub record SendsOpen (moment : DateTime) (sent : List ℕ) (new : ClientChannel)
   pub goes : ClientGoesTelling new asks octets before (told.Agreed ack)
 
 -- the channel is open
-pub record IsOpened (new : ClientChannel) (asks : List Placed) (octets : List ℕ) (before : List ClientTold) : Type 0 where
+pub record IsChannelOpened (new : ClientChannel) (asks : List Placed) (octets : List ℕ) (before : List ClientTold) : Type 0 where
   pub channel : ℕ
   pub token : ℕ
   pub goes : ClientGoesTelling new asks octets before (told.Opened channel token)
 
 -- the outcome for an event, if the bytes end with its frame and the frames before it told this
-abbrev pub Tells : DateTime → ClientEvent → ClientChannel → List Placed → List ℕ → List ClientTold → Type 0
-Tells moment event.NeedMore new asks octets before = ⊥
-Tells moment (event.Send sent) new asks octets before = SendsOpen moment sent.items new asks octets before
-Tells moment event.Open new asks octets before = IsOpened new asks octets before
-Tells moment (event.Answered id message) new asks octets before = ClientGoesTelling new asks octets before (told.Answered id (concat message))
-Tells moment (event.Aborted id code) new asks octets before = ClientGoesTelling new asks octets before (told.GaveUp id code)
-Tells moment (event.Failed code peer) new asks octets before = ClientEnded new asks octets before (record { code = code.code; peer = peer })
-Tells moment (event.Renewed token) new asks octets before = ClientGoesTelling new asks octets before (told.Renewed token)
+abbrev pub TellsOfEvent : DateTime → ClientEvent → ClientChannel → List Placed → List ℕ → List ClientTold → Type 0
+TellsOfEvent moment event.NeedMore new asks octets before = ⊥
+TellsOfEvent moment (event.Send sent) new asks octets before = SendsOpen moment sent.items new asks octets before
+TellsOfEvent moment event.Open new asks octets before = IsChannelOpened new asks octets before
+TellsOfEvent moment (event.Answered id message) new asks octets before = ClientGoesTelling new asks octets before (told.Answered id (concat message))
+TellsOfEvent moment (event.Aborted id code) new asks octets before = ClientGoesTelling new asks octets before (told.GaveUp id code)
+TellsOfEvent moment (event.Failed code peer) new asks octets before = ClientEnded new asks octets before (record { code = code.code; peer = peer })
+TellsOfEvent moment (event.Renewed token) new asks octets before = ClientGoesTelling new asks octets before (told.Renewed token)
 
 -- the outcome for a fragment, after operations and bytes that told this
 abbrev pub ClientAnswers : DateTime → List ℕ → Result (ℕ × ClientEvent) ClientTakeFault → ClientChannel → List Placed → List ℕ → List ClientTold → Type 0
 ClientAnswers moment piece (Ok (n, event.NeedMore)) new asks octets before = (n ≡ length piece) × ClientGoes new asks (octets ++ piece) before
-ClientAnswers moment piece (Ok (n, e)) new asks octets before = Tells moment e new asks (octets ++ take n piece) before
+ClientAnswers moment piece (Ok (n, e)) new asks octets before = TellsOfEvent moment e new asks (octets ++ take n piece) before
 ClientAnswers moment piece (Err OutOfMemory) new asks octets before = IsClientDone new
 ClientAnswers moment piece (Err Closed) new asks octets before = ⊥
 

@@ -16,7 +16,7 @@ use Rattle.ua_channel.specs.Agreement.{headers_size}
 use Rattle.ua_channel.specs.Asks.{Asking, id_of, next_id, pending_calls, pending_renewals}
 use Rattle.ua_channel.specs.ClientSends.{renewal_frame, close_frame}
 use Rattle.ua_channel.specs.ClientTable.{of_ack}
-use Rattle.ua_channel.specs.ClientTokens.{responses, opened_ids, channel_in, held_tokens}
+use Rattle.ua_channel.specs.ClientTokens.{open_responses, opened_ids, first_channel, held_tokens}
 use Rattle.ua_channel.specs.Received.{Received, has_some, latest, listed}
 use Rattle.ua_channel.specs.declared.client.fault.AskFault.{AskFault}
 use Rattle.ua_channel.specs.declared.client.fault.AskFault.TheVariants.{NotOpen, TooManyPending, RenewPending, TooManyTokens}
@@ -75,12 +75,12 @@ reasons_of_renewal pending tokens next = (RenewPending, pending) ∷ reasons_of_
 -- this is the newest token
 pub record IsOpenOn (before : Received) (a : Ack) (channel newest : ℕ) : Type 0 where
   pub ack_is : before.ack ≡ Some a
-  pub channel_is : channel_in (responses before.openings) ≡ Some channel
+  pub channel_is : first_channel (open_responses before.openings) ≡ Some channel
   pub newest_is : latest (held_tokens before) ≡ Some newest
 
 -- no channel is open: no good response came yet
 abbrev pub has_no_channel : Received → Bool
-has_no_channel before = is_none (channel_in (responses before.openings))
+has_no_channel before = is_none (first_channel (open_responses before.openings))
 
 -- a call with this body, with this SequenceNumber first: the next RequestId, the chunks of the
 -- body, and the number after them
@@ -94,18 +94,18 @@ pub record IsCalled (before : Received) (asked : List Asking) (number : ℕ) (bo
   pub next_is : next ≡ number_after number (pieces (room_of ack) body)
 
 -- a renewal with this SequenceNumber: the next RequestId, the OPN, and the number after it
-pub record IsRenewed (before : Received) (asked : List Asking) (number : ℕ) (moment : DateTime) (id : ℕ) (out : List ℕ) (next : ℕ) : Type 0 where
+pub record IsRenewalWith (before : Received) (asked : List Asking) (number : ℕ) (moment : DateTime) (id : ℕ) (out : List ℕ) (next : ℕ) : Type 0 where
   pub channel : ℕ
-  pub channel_is : channel_in (responses before.openings) ≡ Some channel
+  pub channel_is : first_channel (open_responses before.openings) ≡ Some channel
   pub id_is : id ≡ next_id asked
   pub out_is : out ≡ frame_octets (renewal_frame channel number id moment)
   pub next_is : next ≡ next_number number
 
 -- a close with this SequenceNumber: the CLO under the newest token and the next RequestId
-pub record IsClosed (before : Received) (asked : List Asking) (number : ℕ) (moment : DateTime) (out : List ℕ) : Type 0 where
+pub record IsCloseWith (before : Received) (asked : List Asking) (number : ℕ) (moment : DateTime) (out : List ℕ) : Type 0 where
   pub channel : ℕ
   pub newest : ℕ
-  pub channel_is : channel_in (responses before.openings) ≡ Some channel
+  pub channel_is : first_channel (open_responses before.openings) ≡ Some channel
   pub newest_is : latest (held_tokens before) ≡ Some newest
   pub out_is : out ≡ frame_octets (close_frame channel newest number (next_id asked) moment)
 
@@ -131,7 +131,7 @@ closing_reasons before = (NotOpen, has_no_channel before) ∷ []
 -- the state of an open channel is that after these bytes and operations
 pub record Talks (limits : Limits) (t : Talking) (before : Received) (asked : List Asking) : Type 0 where
   pub ack_is : before.ack ≡ Some t.agreed.ack
-  pub channel_is : channel_in (responses before.openings) ≡ Some t.channel
+  pub channel_is : first_channel (open_responses before.openings) ≡ Some t.channel
   pub tokens_are : t.tokens.items ≡ held_tokens before
   pub newest_is : latest (held_tokens before) ≡ Some t.newest
   pub pending_are : t.pending.items ≡ pending_calls before.messages asked
@@ -165,7 +165,7 @@ abbrev pub renew_reasons : Talking → List (AskFault × Bool)
 renew_reasons t = reasons_of_renewal (is_some t.renewal) (length t.tokens.items) t.next
 
 -- the bytes of a renewal, its RequestId, and the number that is sent next
-pub record Renews (t : Talking) (number : ℕ) (moment : DateTime) (id : ℕ) (out : List ℕ) (next : ℕ) : Type 0 where
+pub record AsksRenewal (t : Talking) (number : ℕ) (moment : DateTime) (id : ℕ) (out : List ℕ) (next : ℕ) : Type 0 where
   pub id_is : id ≡ t.next
   pub out_is : out ≡ frame_octets (renewal_frame t.channel number id moment)
   pub next_is : next ≡ next_number number
@@ -177,19 +177,19 @@ closing_octets t number moment = frame_octets (close_frame t.channel t.newest nu
 -- ---- faults
 
 -- the fault is this reason, or an allocation failed if there is no reason
-abbrev pub IsFor : Option AskFault → AskFault → Type 0
-IsFor reason NotOpen = reason ≡ Some NotOpen
-IsFor reason TooManyPending = reason ≡ Some TooManyPending
-IsFor reason RenewPending = reason ≡ Some RenewPending
-IsFor reason TooManyTokens = reason ≡ Some TooManyTokens
-IsFor reason Exhausted = reason ≡ Some Exhausted
-IsFor reason RequestTooLarge = reason ≡ Some RequestTooLarge
-IsFor reason OutOfMemory = reason ≡ None
+abbrev pub IsAskFaultFor : Option AskFault → AskFault → Type 0
+IsAskFaultFor reason NotOpen = reason ≡ Some NotOpen
+IsAskFaultFor reason TooManyPending = reason ≡ Some TooManyPending
+IsAskFaultFor reason RenewPending = reason ≡ Some RenewPending
+IsAskFaultFor reason TooManyTokens = reason ≡ Some TooManyTokens
+IsAskFaultFor reason Exhausted = reason ≡ Some Exhausted
+IsAskFaultFor reason RequestTooLarge = reason ≡ Some RequestTooLarge
+IsAskFaultFor reason OutOfMemory = reason ≡ None
 
 -- the outcome, by why the operation may be refused
 abbrev pub AnswersFor : {A : Type 0} → Option AskFault → Result A AskFault → Type 0
 AnswersFor reason (Ok found) = reason ≡ None
-AnswersFor reason (Err fault) = IsFor reason fault
+AnswersFor reason (Err fault) = IsAskFaultFor reason fault
 
 -- the judgement of any body of this length, by why a call with a body may be refused
 abbrev pub JudgesBy : (List ℕ → Option AskFault) → ℕ → Result (Unit {0}) AskFault → Type 0

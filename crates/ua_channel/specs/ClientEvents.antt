@@ -6,12 +6,12 @@ use Rattle.ua_channel.specs.declared.client.event.Event.{Event}
 use Rattle.ua_channel.specs.declared.client.event.Event.TheVariants as event
 
 -- an event as what a frame tells: the bytes of a message are its parts, joined
-abbrev pub told_by : Event → ClientTold
-told_by (event.Agreed ack) = told.Agreed ack
-told_by (event.Opened channel token) = told.Opened channel token
-told_by (event.Answered id message) = told.Answered id (concat message)
-told_by (event.Aborted id code) = told.GaveUp id code
-told_by (event.Renewed token) = told.Renewed token
+abbrev pub client_told_of_event : Event → ClientTold
+client_told_of_event (event.Agreed ack) = told.Agreed ack
+client_told_of_event (event.Opened channel token) = told.Opened channel token
+client_told_of_event (event.Answered id message) = told.Answered id (concat message)
+client_told_of_event (event.Aborted id code) = told.GaveUp id code
+client_told_of_event (event.Renewed token) = told.Renewed token
 
 -- the parts of the message of an event, if it has one
 abbrev pub event_parts : Option Event → Option (List (List ℕ))

@@ -12,7 +12,7 @@ use Rattle.ua_opening.specs.declared.open.OpenAnswer.{OpenAnswer}
 use Rattle.ua_opening.specs.declared.open.OpenAnswer.TheVariants.{Open, Fault}
 use Rattle.ua_opening.specs.declared.secure_channel.OpenResponse.{OpenResponse}
 use Rattle.ua_channel.specs.Asks.{Asking, Placed, asked_before, end_of, is_in, pending_calls, pending_renewals}
-use Rattle.ua_channel.specs.ClientTokens.{answer_in, responses, opened_ids, channel_in, held_tokens}
+use Rattle.ua_channel.specs.ClientTokens.{answer_in, open_responses, opened_ids, first_channel, held_tokens}
 use Rattle.ua_channel.specs.ClientTold.{ClientTold, Why, ours, peers, client_tells}
 use Rattle.ua_channel.specs.Content.{Content, content}
 use Rattle.ua_channel.specs.Content.Content.{Acks, Fails, Opens, Sends}
@@ -79,14 +79,14 @@ opening_code (Opens o) = result_of (answer_in o)
 opening_code other = 0
 
 -- the response is a ServiceFault, or its ServiceResult has its top bit set (OPC 10000-4, 7.39)
-abbrev pub is_bad : Option OpenAnswer → Bool
-is_bad None = false
-is_bad (Some (Open r)) = is_bad_code r.response_header.service_result
-is_bad (Some (Fault f)) = true
+abbrev pub is_bad_answer : Option OpenAnswer → Bool
+is_bad_answer None = false
+is_bad_answer (Some (Open r)) = is_bad_code r.response_header.service_result
+is_bad_answer (Some (Fault f)) = true
 
 -- an OPN with such a response
 abbrev pub has_bad_answer : Content → Bool
-has_bad_answer (Opens o) = is_bad (answer_in o)
+has_bad_answer (Opens o) = is_bad_answer (answer_in o)
 has_bad_answer other = false
 
 -- there is a channel, and it is another one than this
@@ -96,8 +96,8 @@ is_other (Some n) channel = not (channel == n)
 
 -- a MSG on another channel, or an OPN whose response names another one
 abbrev pub is_on_other_channel_for_client : Received → Content → Bool
-is_on_other_channel_for_client before (Opens o) = of_response (λ r. is_other (channel_in (responses before.openings)) r.channel_id) (answer_in o)
-is_on_other_channel_for_client before (Sends c) = is_other (channel_in (responses before.openings)) c.channel
+is_on_other_channel_for_client before (Opens o) = of_response (λ r. is_other (first_channel (open_responses before.openings)) r.channel_id) (answer_in o)
+is_on_other_channel_for_client before (Sends c) = is_other (first_channel (open_responses before.openings)) c.channel
 is_on_other_channel_for_client before other = false
 
 -- a MSG under a token that is not held, or an OPN that brings one that is held already
@@ -114,18 +114,18 @@ is_awaited (r ∷ rs) opened asked id = is_in id (pending_renewals opened asked)
 
 -- the RequestId is not pending after these operations
 abbrev pub is_unasked : Received → List Asking → Content → Bool
-is_unasked before asked (Opens o) = of_numbers (λ n. not (is_awaited (responses before.openings) (opened_ids before.openings) asked n.1)) o.numbers
+is_unasked before asked (Opens o) = of_numbers (λ n. not (is_awaited (open_responses before.openings) (opened_ids before.openings) asked n.1)) o.numbers
 is_unasked before asked (Sends c) = not (is_in c.request (pending_calls before.messages asked))
 is_unasked before asked other = false
 
 -- the code of an Error
-abbrev pub code_in : Option ErrorFrame → ℕ
-code_in None = 0
-code_in (Some e) = e.error.code
+abbrev pub code_in_error : Option ErrorFrame → ℕ
+code_in_error None = 0
+code_in_error (Some e) = e.error.code
 
 -- the code of an ERR
 abbrev pub error_code : Content → ℕ
-error_code (Fails error) = code_in error
+error_code (Fails error) = code_in_error error
 error_code other = 0
 
 -- an ERR
@@ -183,7 +183,7 @@ client_gate_behind (Some a) rs = gate_agreed a.send_buffer_size rs
 -- an ACK first, then an OPN, then OPN and MSG, and ERR always; after the ACK of at most the size
 -- that the server sends
 abbrev pub client_gate : Received → Gate
-client_gate before = client_gate_behind before.ack (responses before.openings)
+client_gate before = client_gate_behind before.ack (open_responses before.openings)
 
 -- the rules of a client with these limits and operations
 abbrev pub client_rules : Limits → List Placed → Rules ClientTold Why

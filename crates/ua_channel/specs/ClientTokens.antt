@@ -32,8 +32,8 @@ id_listed None = []
 id_listed (Some numbers) = numbers.1 ∷ []
 
 -- the responses of these openings, each of which brings a token
-unfoldable pub responses : List Opening → List OpenResponse
-responses os = flat_map (λ o. response_listed (answer_in o)) os
+unfoldable pub open_responses : List Opening → List OpenResponse
+open_responses os = flat_map (λ o. response_listed (answer_in o)) os
 
 -- the RequestIds of these openings
 unfoldable pub opened_ids : List Opening → List ℕ
@@ -42,9 +42,9 @@ opened_ids os = flat_map (λ o. id_listed o.numbers) os
 -- ---- the channel and its tokens
 
 -- the channel of the first response
-abbrev pub channel_in : List OpenResponse → Option ℕ
-channel_in [] = None
-channel_in (r ∷ rs) = Some r.channel_id
+abbrev pub first_channel : List OpenResponse → Option ℕ
+first_channel [] = None
+first_channel (r ∷ rs) = Some r.channel_id
 
 -- the tokens of these responses, in order
 unfoldable pub tokens_of : List OpenResponse → List ℕ
@@ -63,4 +63,4 @@ held_by (Some n) tokens = from_last n tokens
 -- the tokens that are held, in the order in which they were received: from the last one that the
 -- server used to the newest
 unfoldable pub held_tokens : Received → List ℕ
-held_tokens before = held_by before.used (tokens_of (responses before.openings))
+held_tokens before = held_by before.used (tokens_of (open_responses before.openings))

@@ -6,7 +6,7 @@ use Rattle.ua_chunk.specs.Delivered.{given}
 use Rattle.ua_chunk.specs.Item.{Item}
 use Rattle.ua_chunk.specs.Item.Item.{Whole, Aborted}
 use Rattle.ua_opening.specs.declared.secure_channel.OpenResponse.{OpenResponse}
-use Rattle.ua_channel.specs.ClientTokens.{answer_in, response_listed, responses}
+use Rattle.ua_channel.specs.ClientTokens.{answer_in, response_listed, open_responses}
 use Rattle.ua_channel.specs.Content.{Content}
 use Rattle.ua_channel.specs.Content.Content.{Acks, Opens, Sends}
 use Rattle.ua_channel.specs.Received.{Received}
@@ -51,6 +51,6 @@ told_ack (Some a) = Agreed a ∷ []
 -- what a frame with this content tells after what was received
 abbrev pub client_tells : Received → Content → List ClientTold
 client_tells before (Acks ack) = told_ack ack
-client_tells before (Opens o) = map (told_response (responses before.openings)) (response_listed (answer_in o))
+client_tells before (Opens o) = map (told_response (open_responses before.openings)) (response_listed (answer_in o))
 client_tells before (Sends c) = map told_item (given before.messages c)
 client_tells before other = []

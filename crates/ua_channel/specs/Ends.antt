@@ -6,7 +6,7 @@ use Rattle.ua_frame.specs.Frames.{frames_octets, header_fault, size_of}
 use Rattle.ua_frame.specs.Reader.{open_reader}
 use Rattle.ua_frame.specs.Run.{Rules, Run, Fits, events, Going, Stopped, Over}
 use Rattle.ua_channel.specs.Content.{content}
-use Rattle.ua_channel.specs.MessageParts.{EndsIn}
+use Rattle.ua_channel.specs.MessageParts.{EndsMessageIn}
 use Rattle.ua_channel.specs.Received.{received}
 use Rattle.ua_channel.specs.Stops.{StopsAt}
 use Rattle.ua_channel.specs.declared.end_core.EndCore.{EndCore}
@@ -76,7 +76,7 @@ pub record EndMessage {R P E : Type 0} (S : Side R P E) (x : EndCore R P) (k : S
   pub frames : List Frame
   pub frame : Frame
   pub stands : EndStands S x k octets (frames ++ frame ∷ []) []
-  pub ends : EndsIn (received frames).messages (content frame) parts
+  pub ends : EndsMessageIn (received frames).messages (content frame) parts
 
 -- the end ended at the last byte of these, that of the last frame, and their frames told this
 pub record EndOver {R P E : Type 0} (S : Side R P E) (x : EndCore R P) (k : S.Key) (octets : List ℕ) (told : List S.Told) : Type 0 where

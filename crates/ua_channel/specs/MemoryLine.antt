@@ -17,8 +17,8 @@ pub record Stored : Type 0 where
   pub written : List ℕ
 
 -- the same as those of any transport
-abbrev pub traffic_of : Stored → Traffic
-traffic_of s = record { coming = λ (more : List ℕ). s.coming; written = s.written }
+abbrev pub traffic_of_stored : Stored → Traffic
+traffic_of_stored s = record { coming = λ (more : List ℕ). s.coming; written = s.written }
 
 -- an in-memory transport: its bytes, its failures so far, and the paces of its reads and of its
 -- writes

@@ -7,7 +7,7 @@ use Rattle.ua_channel.specs.Content.Content.{Sends}
 
 -- a frame with this content, after these chunks, ends a message in these parts: the bodies of its
 -- chunks that are not empty, in order
-pub record EndsIn (before : List Chunk) (c : Content) (parts : List (List ℕ)) : Type 0 where
+pub record EndsMessageIn (before : List Chunk) (c : Content) (parts : List (List ℕ)) : Type 0 where
   pub chunk : Chunk
   pub carries : c ≡ Sends chunk
   pub parts_are : parts ≡ bodies (gathered before chunk)

@@ -3,9 +3,9 @@ use Rattle.std.specs.Prelude.{◌≡◌, ℤ, pos, List, [], ◌∷◌}
 
 -- these timestamps were given, in this order: their steps lead from the source before to the source
 -- after
-abbrev pub Gives : {M : Type 0} → (M → ℤ → M → Type 0) → M → List ℤ → M → Type 0
-Gives step before [] after = before ≡ after
-Gives {M = M} step before (moment ∷ moments) after = (next : M) × step before moment next × Gives step next moments after
+abbrev pub GivesTimes : {M : Type 0} → (M → ℤ → M → Type 0) → M → List ℤ → M → Type 0
+GivesTimes step before [] after = before ≡ after
+GivesTimes {M = M} step before (moment ∷ moments) after = (next : M) × step before moment next × GivesTimes step next moments after
 
 -- the first of a list of timestamps, 0 if it is empty
 abbrev pub first_moment : List ℤ → ℤ

@@ -6,7 +6,7 @@ use Rattle.ua_frame.specs.declared.limits.Limits.{Limits}
 use Rattle.ua_frame.specs.Agreement.{is_url_long, is_buffer_small}
 use Rattle.ua_frame.specs.Hello.{is_so}
 use Rattle.ua_opening.specs.declared.secure_channel.OpenRequest.{OpenRequest}
-use Rattle.ua_chunk.specs.Opening.{channel_of}
+use Rattle.ua_chunk.specs.Opening.{channel_of_header}
 use Rattle.ua_channel.specs.Content.{Content}
 use Rattle.ua_channel.specs.Content.Content.{Greets, Opens, Sends, Closes}
 use Rattle.ua_channel.specs.Received.{Received}
@@ -77,7 +77,7 @@ has_other_mode other = false
 
 -- a MSG, a CLO or a later OPN on another channel
 abbrev pub is_on_other_channel : ℕ → Received → Content → Bool
-is_on_other_channel channel before (Opens o) = nat_lt 0 (issued before) && of_header (λ h. not (channel_of h == channel)) o.security
+is_on_other_channel channel before (Opens o) = nat_lt 0 (issued before) && of_header (λ h. not (channel_of_header h == channel)) o.security
 is_on_other_channel channel before (Sends c) = not (c.channel == channel)
 is_on_other_channel channel before (Closes c) = not (c.channel == channel)
 is_on_other_channel channel before other = false

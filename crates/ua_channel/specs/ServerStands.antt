@@ -13,7 +13,7 @@ use Rattle.ua_channel.specs.Received.{Received, nothing_received, received}
 use Rattle.ua_channel.specs.ServerRules.{receive_size, server_rules}
 use Rattle.ua_channel.specs.ServerTold.{Told, issued}
 use Rattle.ua_channel.specs.Ends.{Side, EndDone, EndGoes, EndOver, EndStands, EndStarves, EndStops, EndTells}
-use Rattle.ua_channel.specs.ServerEvents.{is_closed, parts_of, told_of}
+use Rattle.ua_channel.specs.ServerEvents.{is_closed, parts_of_event, server_told_of_event}
 use Rattle.ua_channel.specs.declared.server_event.Event.{Event}
 use Rattle.ua_channel.specs.declared.server_rules.ServerRules.{ServerRules}
 use Rattle.ua_chunk.specs.Assembling.{last_number, octet_limit, chunk_limit}
@@ -80,9 +80,9 @@ server_side = record {
   holds = λ r k p frames. InServerPhase r.limits p (received frames);
   bound = λ r frames. bound_after r.limits (received frames);
   done = λ p. p ≡ Done;
-  tells = told_of;
+  tells = server_told_of_event;
   closes = is_closed;
-  parts = λ e. parts_of (Some e);
+  parts = λ e. parts_of_event (Some e);
   peer = λ code. None;
 }
 

@@ -2,7 +2,7 @@
 
 ghost use Rattle.std.specs.Prelude.{◌≡◌, ◌≤◌, ◌<◌, [], Some, Option, length, drop, min, IfOk, Ok};
 ghost use Rattle.ua_channel.specs.Line.{HandsOut, WriteTakes, failures_after};
-ghost use Rattle.ua_channel.specs.MemoryLine.{Pace as Calls, Memory, moves, after_call, traffic_of};
+ghost use Rattle.ua_channel.specs.MemoryLine.{Pace as Calls, Memory, moves, after_call, traffic_of_stored};
 
 use crate::line::{Line, LineFault};
 use std::alloc::Global;
@@ -115,14 +115,14 @@ impl MemoryLine {
 }
 
 impl Line for MemoryLine {
-    ghost traffic = { λ l. Some (traffic_of l.traffic) };
+    ghost traffic = { λ l. Some (traffic_of_stored l.traffic) };
 
     ghost failures = { λ l. l.failures };
 
     fn read(&mut self, buffer: &mut [u8]) -> Result<usize, LineFault>
         ensures within { IfOk result (λ n. n ≤ length buffer.new) }
         ensures failed { self.new.failures ≡ failures_after self.old.failures result }
-        ensures octets { HandsOut result buffer.new (traffic_of self.old.traffic) (traffic_of self.new.traffic) }
+        ensures octets { HandsOut result buffer.new (traffic_of_stored self.old.traffic) (traffic_of_stored self.new.traffic) }
         ensures paced { result ≡ moves self.old.reads (min (length self.old.traffic.coming) (length buffer.old)) }
         ensures reads { self.new.reads ≡ after_call self.old.reads }
         ensures writes { self.new.writes ≡ self.old.writes }
@@ -146,7 +146,7 @@ impl Line for MemoryLine {
         ensures within { IfOk result (λ n. n ≤ length octets.now) }
         ensures some { 0 < length octets.now → IfOk result (λ n. 0 < n) }
         ensures failed { self.new.failures ≡ failures_after self.old.failures result }
-        ensures octets { WriteTakes result octets.now (traffic_of self.old.traffic) (traffic_of self.new.traffic) }
+        ensures octets { WriteTakes result octets.now (traffic_of_stored self.old.traffic) (traffic_of_stored self.new.traffic) }
         ensures paced { IfOk result (λ n. Ok n ≡ moves self.old.writes (length octets.now)) }
         ensures writes { self.new.writes ≡ after_call self.old.writes }
         ensures reads { self.new.reads ≡ self.old.reads }

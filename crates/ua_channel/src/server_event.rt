@@ -44,17 +44,17 @@ pub enum Event {
 
 impl Event {
     ghost use Rattle.std.specs.Prelude.{map};
-    ghost use Rattle.ua_chunk.specs.View.{items_of};
+    ghost use Rattle.ua_chunk.specs.View.{delivered_items};
     ghost use Rattle.ua_channel.specs.inside.Parts.{parts_in};
     ghost use Rattle.ua_channel.specs.ServerTold.{told_under};
-    ghost use Rattle.ua_channel.specs.ServerEvents.{parts_of};
+    ghost use Rattle.ua_channel.specs.ServerEvents.{parts_of_event};
     ghost use Rattle.ua_channel.specs.inside.ServerParts.{told_list};
 
     /// What a chunk under this token delivers, as an event.
     #[inline(always)]
     pub(crate) fn from_delivered(token: u32, delivered: Option<Delivered>) -> Option<Event>
-        ensures tells { told_list result ≡ map (told_under token) (items_of delivered) }
-        ensures parts { parts_of result ≡ parts_in delivered }
+        ensures tells { told_list result ≡ map (told_under token) (delivered_items delivered) }
+        ensures parts { parts_of_event result ≡ parts_in delivered }
     {
         match delivered {
             None => None,

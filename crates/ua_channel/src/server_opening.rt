@@ -2,7 +2,7 @@
 
 ghost use Rattle.std.specs.Prelude.{◌≡◌, option_map};
 ghost use Rattle.ua_builtin.specs.Reasons.{first_reason};
-ghost use Rattle.ua_channel.specs.inside.ServerParts.{AsksFor, ReadsAsked, asked_reasons, JudgesOpening};
+ghost use Rattle.ua_channel.specs.inside.ServerParts.{AreContentsOfRequest, ReadsAsked, asked_reasons, JudgesOpening};
 
 use crate::end_fault::EndFault;
 use crate::server_event::Event;
@@ -43,12 +43,12 @@ pub struct Opened {
 }
 
 impl Opened {
-    ghost use Rattle.ua_channel.specs.ServerEvents.{told_of};
+    ghost use Rattle.ua_channel.specs.ServerEvents.{server_told_of_event};
     ghost use Rattle.ua_channel.specs.ServerTold.{Told as told};
 
     /// The event of this opening, with the token that it has issued.
     pub(crate) fn event(self, token: u32) -> Event
-        ensures { told_of result ≡ told.Opened self.request self.handle token self.lifetime }
+        ensures { server_told_of_event result ≡ told.Opened self.request self.handle token self.lifetime }
     {
         Event::Opened {
             request: self.request,
@@ -61,7 +61,7 @@ impl Opened {
 
 /// What a request asks for.
 fn asked_by(request: &OpenRequest) -> Asked
-    ensures { AsksFor request.now result }
+    ensures { AreContentsOfRequest request.now result }
 {
     let asked = request.requested_lifetime;
     Asked {

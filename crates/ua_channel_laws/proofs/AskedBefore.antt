@@ -16,7 +16,7 @@ use Rattle.ua_channel.specs.Asks.{is_in, next_id, pending_calls, pending_renewal
 use Rattle.ua_channel_laws.specs.ClientConversation.{ClientConversation, MayCarryBack}
 use Rattle.ua_channel_laws.specs.ClientReads.{AtClient, ClientReads}
 use Rattle.ua_channel.specs.ClientTable.{client_rules, is_awaited}
-use Rattle.ua_channel.specs.ClientTokens.{opened_ids, responses, channel_in, held_tokens}
+use Rattle.ua_channel.specs.ClientTokens.{opened_ids, open_responses, first_channel, held_tokens}
 use Rattle.ua_channel.specs.ClientTold.{ClientTold}
 use Rattle.ua_channel.specs.Content.{Content, content}
 use Rattle.ua_channel.specs.Content.Content.{Greets, Acks, Fails, Opens, Sends, Closes, Nothing}
@@ -131,10 +131,10 @@ module _ (limits : Limits) (earlier asks : List Placed) (are : AreEarlier earlie
   may_earlier b place (Acks ack) h = h
   may_earlier b place (Fails error) h = h
   may_earlier b place (Opens o) h =
-      response_as (channel_in (responses b.openings)) (channel_in (responses b.openings)) (held_tokens b) (held_tokens b)
-      (is_awaited (responses b.openings) (opened_ids b.openings) (asked_before place asks))
-      (is_awaited (responses b.openings) (opened_ids b.openings) (asked_before place earlier)) o refl refl
-      (λ id e. awaited_earlier (responses b.openings) (opened_ids b.openings) id place earlier asks are e) h
+      response_as (first_channel (open_responses b.openings)) (first_channel (open_responses b.openings)) (held_tokens b) (held_tokens b)
+      (is_awaited (open_responses b.openings) (opened_ids b.openings) (asked_before place asks))
+      (is_awaited (open_responses b.openings) (opened_ids b.openings) (asked_before place earlier)) o refl refl
+      (λ id e. awaited_earlier (open_responses b.openings) (opened_ids b.openings) id place earlier asks are e) h
   may_earlier b place (Sends c) h = record { on = h.on; held = h.held; awaited = pending_earlier b.messages c.request place earlier asks are h.awaited }
   may_earlier b place (Closes c) h = h
   may_earlier b place Nothing h = h

@@ -27,15 +27,15 @@ use Rattle.ua_opening.specs.declared.secure_channel.OpenResponse.{OpenResponse}
 use Rattle.ua_chunk.specs.declared.chunk.Chunk.{Chunk}
 use Rattle.ua_chunk.specs.Layout.{chunk_in}
 use Rattle.ua_chunk.specs.Opening.{is_none_policy, policy_of}
-use Rattle.ua_chunk.specs.Refusal.{message_refusal, reasons, refusal, TakesMessages}
+use Rattle.ua_chunk.specs.Refusal.{message_refusal, reasons, chunk_refusal, TakesMessages}
 use Rattle.ua_chunk.specs.Sequence.{may_follow}
 use Rattle.ua_chunk.proofs.Numbers.{apart}
 use Rattle.ua_channel.specs.Asks.{Asking, Placed, asked_before, end_of, is_in, pending_calls}
 use Rattle.ua_channel_laws.specs.ClientConversation.{ClientConversation, ClientContinues, IsClientConversation, IsClientOrder, IsGoodReply}
 use Rattle.ua_channel_laws.specs.ClientConversation.{IsGoodResponse, IsOrderAgreed, IsClientOrderOpen, MayCarryBack, largest_taken}
 use Rattle.ua_channel.specs.inside.ClientParts.{why_of}
-use Rattle.ua_channel.specs.ClientTable.{client_gate, client_reasons, client_rules, client_gate_behind, is_awaited, is_bad, is_other, of_numbers, of_response}
-use Rattle.ua_channel.specs.ClientTokens.{answer_behind, answer_in, channel_in, held_tokens, opened_ids, responses}
+use Rattle.ua_channel.specs.ClientTable.{client_gate, client_reasons, client_rules, client_gate_behind, is_awaited, is_bad_answer, is_other, of_numbers, of_response}
+use Rattle.ua_channel.specs.ClientTokens.{answer_behind, answer_in, first_channel, held_tokens, opened_ids, open_responses}
 use Rattle.ua_channel.specs.ClientTold.{Why, ours}
 use Rattle.ua_channel.specs.Content.{Content, Opening, content, content_by, opening_of, sends}
 use Rattle.ua_channel.specs.Content.Content.{Greets, Acks, Fails, Opens, Sends, Closes, Nothing}
@@ -52,7 +52,7 @@ use Rattle.ua_channel_laws.proofs.PairedCalls.{none_holds}
 
 -- ---- an OPN
 
-good_answer : (a : OpenAnswer) → is_bad (Some a) ≡ false → (r : OpenResponse) × (a ≡ Open r) × (leb 0x8000_0000 r.response_header.service_result.code ≡ false)
+good_answer : (a : OpenAnswer) → is_bad_answer (Some a) ≡ false → (r : OpenResponse) × (a ≡ Open r) × (leb 0x8000_0000 r.response_header.service_result.code ≡ false)
 good_answer (Open r) e = (r, refl, e)
 good_answer (Fault f) e = absurd cc
 
@@ -83,17 +83,17 @@ response_as n m ts us awaits more o p q wait g = record {
 
 module _ (limits : Limits) (asked : List Asking) (b : Received) where
   abbrev IsResponse : Opening → Type 0
-  IsResponse o = IsGoodResponse (channel_in (responses b.openings)) (held_tokens b) (is_awaited (responses b.openings) (opened_ids b.openings) asked) o
+  IsResponse o = IsGoodResponse (first_channel (open_responses b.openings)) (held_tokens b) (is_awaited (open_responses b.openings) (opened_ids b.openings) asked) o
 
   abbrev IsReply : Chunk → Type 0
-  IsReply c = IsGoodReply (channel_in (responses b.openings)) (held_tokens b) (pending_calls b.messages asked) c
+  IsReply c = IsGoodReply (first_channel (open_responses b.openings)) (held_tokens b) (pending_calls b.messages asked) c
 
   response_good : (o : Opening) → first_reason (client_reasons limits b asked (Opens o)) ≡ None → IsResponse o
   response_good o e =
       let all = none_holds (client_reasons limits b asked (Opens o)) e in
       let header = some_there o.security all.0 in
       let answer = some_there (answer_in o) all.1.1.1.0 in
-      let found = good_answer answer.0 (ap is_bad (sym answer.1) ∙ all.1.1.1.1.0) in
+      let found = good_answer answer.0 (ap is_bad_answer (sym answer.1) ∙ all.1.1.1.1.0) in
       let is : answer_in o ≡ Some (Open found.0) = answer.1 ∙ ap (λ (a : OpenAnswer). Some a) found.1 in
       let numbers = numbers_there o (Open found.0) is in
       record {
@@ -103,13 +103,13 @@ module _ (limits : Limits) (asked : List Asking) (b : Received) where
         response = found.0;
         answer_is = is;
         good = found.2;
-        on = ap (of_response (λ r. is_other (channel_in (responses b.openings)) r.channel_id)) (sym is) ∙ all.1.1.1.1.1.0;
+        on = ap (of_response (λ r. is_other (first_channel (open_responses b.openings)) r.channel_id)) (sym is) ∙ all.1.1.1.1.1.0;
         fresh = ap (of_response (λ r. is_in r.token_id (held_tokens b))) (sym is) ∙ all.1.1.1.1.1.1.0;
         numbered = numbers.0;
         numbers_are = numbers.1;
         awaited =
-            not-false (is_awaited (responses b.openings) (opened_ids b.openings) asked numbers.0.1)
-            (ap (of_numbers (λ n. not (is_awaited (responses b.openings) (opened_ids b.openings) asked n.1))) (sym numbers.1) ∙ all.1.1.1.1.1.1.1.1.1.1.1.1.0);
+            not-false (is_awaited (open_responses b.openings) (opened_ids b.openings) asked numbers.0.1)
+            (ap (of_numbers (λ n. not (is_awaited (open_responses b.openings) (opened_ids b.openings) asked n.1))) (sym numbers.1) ∙ all.1.1.1.1.1.1.1.1.1.1.1.1.0);
       }
 
   response_follows : (o : Opening) → first_reason (client_reasons limits b asked (Opens o)) ≡ None → AreOrdered b.last (number_listed o.numbers)
@@ -118,15 +118,15 @@ module _ (limits : Limits) (asked : List Asking) (b : Received) where
   response_taken : (o : Opening) → IsResponse o → AreOrdered b.last (number_listed o.numbers) → first_reason (client_reasons limits b asked (Opens o)) ≡ None
   unfolding answer_in
   response_taken o g follow =
-      let waited : of_numbers (λ n. not (is_awaited (responses b.openings) (opened_ids b.openings) asked n.1)) o.numbers ≡ false =
-      ap (of_numbers (λ n. not (is_awaited (responses b.openings) (opened_ids b.openings) asked n.1))) g.numbers_are
-      ∙ not_from_true (is_awaited (responses b.openings) (opened_ids b.openings) asked g.numbered.1) g.awaited in
+      let waited : of_numbers (λ n. not (is_awaited (open_responses b.openings) (opened_ids b.openings) asked n.1)) o.numbers ≡ false =
+      ap (of_numbers (λ n. not (is_awaited (open_responses b.openings) (opened_ids b.openings) asked n.1))) g.numbers_are
+      ∙ not_from_true (is_awaited (open_responses b.openings) (opened_ids b.openings) asked g.numbered.1) g.awaited in
       rw (g.security_is, g.policy, g.answer_is, g.good, g.on, g.fresh, follow_numbers b.last o.numbers follow, waited) refl
 
   -- ---- a chunk
 
   abbrev ids_of : Chunk → List (Why × Bool)
-  ids_of c = (ours 0x807F_0000, is_other (channel_in (responses b.openings)) c.channel) ∷ (ours 0x8087_0000, not (is_in c.token (held_tokens b))) ∷ []
+  ids_of c = (ours 0x807F_0000, is_other (first_channel (open_responses b.openings)) c.channel) ∷ (ours 0x8087_0000, not (is_in c.token (held_tokens b))) ∷ []
 
   abbrev rows_of : Chunk → List (Why × Bool)
   rows_of c = map (renamed_reason why_of) (reasons limits.max_message_size limits.max_chunk_count b.last b.messages c)
@@ -150,7 +150,7 @@ module _ (limits : Limits) (asked : List Asking) (b : Received) where
   reply_apart c e =
       let all = sym (judged_reply limits asked b c) ∙ e in
       (apart limits.max_message_size limits.max_chunk_count b.last b.messages c).0
-      (none_named why_of (refusal limits.max_message_size limits.max_chunk_count b.last b.messages c)
+      (none_named why_of (chunk_refusal limits.max_message_size limits.max_chunk_count b.last b.messages c)
       (sym (first_reason-map why_of (reasons limits.max_message_size limits.max_chunk_count b.last b.messages c))
       ∙ none_first (rows_of c) (unasked_of c) (none_then (ids_of c) (rows_of c ++ unasked_of c) all)))
 
@@ -212,13 +212,13 @@ order_by (Some a) [] ks = IsOrderAgreed ks
 order_by (Some a) (r ∷ rs) ks = IsClientOrderOpen ks
 
 abbrev Order : Received → List Kind → Type 0
-Order b ks = order_by b.ack (responses b.openings) ks
+Order b ks = order_by b.ack (open_responses b.openings) ks
 
 -- responses come behind an Acknowledge
 abbrev pub IsPlaced : Received → Type 0
-IsPlaced b = b.ack ≡ None → responses b.openings ≡ []
+IsPlaced b = b.ack ≡ None → open_responses b.openings ≡ []
 
-order_is : (b : Received) (ks : List Kind) (o : Option Ack) (rs : List OpenResponse) → b.ack ≡ o → responses b.openings ≡ rs → Order b ks ↔ order_by o rs ks
+order_is : (b : Received) (ks : List Kind) (o : Option Ack) (rs : List OpenResponse) → b.ack ≡ o → open_responses b.openings ≡ rs → Order b ks ↔ order_by o rs ks
 order_is b ks o rs q r = subst (λ (t : Option Ack). Order b ks ↔ order_by t rs ks) q
     (subst (λ (t : List OpenResponse). Order b ks ↔ order_by b.ack t ks) r (λ h. h, λ h. h))
 
@@ -227,22 +227,22 @@ nil_by None rs = tt
 nil_by (Some a) [] = tt
 nil_by (Some a) (r ∷ rs) = tt
 
-some_open : (a : Ack) (rs : List OpenResponse) (n : ℕ) (ks : List Kind) → channel_in rs ≡ Some n → IsClientOrderOpen ks → order_by (Some a) rs ks
+some_open : (a : Ack) (rs : List OpenResponse) (n : ℕ) (ks : List Kind) → first_channel rs ≡ Some n → IsClientOrderOpen ks → order_by (Some a) rs ks
 some_open a [] n ks e order = absurd cc
 some_open a (r ∷ rs) n ks e order = order
 
 module _ (limits : Limits) (asked : List Asking) (b : Received) (f : Frame) (ks : List Kind) where
-  more_responses : (rs : List OpenResponse) (g : IsResponse limits asked b (opening_of f.body)) → responses b.openings ≡ rs
-      → responses (b.openings ++ opening_of f.body ∷ []) ≡ rs ++ g.response ∷ []
+  more_responses : (rs : List OpenResponse) (g : IsResponse limits asked b (opening_of f.body)) → open_responses b.openings ≡ rs
+      → open_responses (b.openings ++ opening_of f.body ∷ []) ≡ rs ++ g.response ∷ []
   more_responses rs g r = responses-push b.openings (opening_of f.body) g.response g.answer_is ∙ ap (λ (t : List OpenResponse). t ++ g.response ∷ []) r
 
-  msg_order : (found : Option Chunk) (o : Option Ack) (rs : List OpenResponse) → b.ack ≡ o → responses b.openings ≡ rs
+  msg_order : (found : Option Chunk) (o : Option Ack) (rs : List OpenResponse) → b.ack ≡ o → open_responses b.openings ≡ rs
       → Order (after b (sends found)) ks ↔ order_by o rs ks
   msg_order None o rs q r = order_is b ks o rs q r
   msg_order (Some c) o rs q r = order_is (after b (Sends c)) ks o rs q r
 
   -- a frame comes in order exactly where it is let in
-  order_here : (o : Option Ack) (rs : List OpenResponse) (k : Kind) → b.ack ≡ o → responses b.openings ≡ rs → IsPlaced b
+  order_here : (o : Option Ack) (rs : List OpenResponse) (k : Kind) → b.ack ≡ o → open_responses b.openings ≡ rs → IsPlaced b
       → MayCarryBack limits b asked (content_by k f) → InOrder (client_gate_behind o rs) k (Order (after b (content_by k f)) ks) (order_by o rs (k ∷ ks))
   order_here None rs Hel q r placed may = out_of_order (λ e. cc) (λ e. e)
   order_here None rs kind.Ack q r placed may =
@@ -280,8 +280,8 @@ gate_largest (Some a) [] = refl
 gate_largest (Some a) (r ∷ rs) = refl
 
 -- where responses come behind an Acknowledge, they do so with a frame more
-chunk_placed : (b : Received) (found : Option Chunk) → (b.ack ≡ None → responses b.openings ≡ []) → (after b (sends found)).ack ≡ None
-    → responses (after b (sends found)).openings ≡ []
+chunk_placed : (b : Received) (found : Option Chunk) → (b.ack ≡ None → open_responses b.openings ≡ []) → (after b (sends found)).ack ≡ None
+    → open_responses (after b (sends found)).openings ≡ []
 chunk_placed b None placed none = placed none
 chunk_placed b (Some c) placed none = placed none
 
@@ -294,8 +294,8 @@ placed_more b f Hel placed kind none = placed none
 placed_more b f kind.Ack placed kind none = placed (before_none b.ack (whole_of ack f.body) none)
 placed_more b f kind.Err placed kind none = placed none
 placed_more b f Msg placed kind none = chunk_placed b (chunk_in f) placed none
-placed_more b f Opn placed kind none = absurd (opn_some b.ack (responses b.openings) kind none)
-placed_more b f Clo placed kind none = absurd (no_close b.ack (responses b.openings) kind)
+placed_more b f Opn placed kind none = absurd (opn_some b.ack (open_responses b.openings) kind none)
+placed_more b f Clo placed kind none = absurd (no_close b.ack (open_responses b.openings) kind)
 
 module _ (limits : Limits) (asks : List Placed) where
   pub placed_next : (start : List Frame) (f : Frame) → IsPlaced (received start) → IsTrue (lets_in (client_gate (received start)) f.kind)
@@ -307,14 +307,14 @@ module _ (limits : Limits) (asks : List Placed) where
       → InOrder (client_gate b) f.kind (Order (after b (content f)) ks) (Order b (f.kind ∷ ks))
   order_frame asked b f ks placed =
       subst (λ (c : Content). MayCarryBack limits b asked c → InOrder (client_gate b) f.kind (Order (after b c) ks) (Order b (f.kind ∷ ks)))
-      (sym (content_kind f)) (order_here limits asked b f ks b.ack (responses b.openings) f.kind refl refl placed)
+      (sym (content_kind f)) (order_here limits asked b f ks b.ack (open_responses b.openings) f.kind refl refl placed)
 
   rules_converse : Converses (client_rules limits asks) limits (λ (f : Frame). f.kind) Order IsPlaced (λ b. largest_taken b.ack)
       (λ before f. MayCarryBack limits (received before) (asked_before (end_of before f) asks) (content f))
   rules_converse = record {
-    order_nil = λ b. nil_by b.ack (responses b.openings);
+    order_nil = λ b. nil_by b.ack (open_responses b.openings);
     goes_on = λ start f later order. refl;
-    largest = λ start. gate_largest (received start).ack (responses (received start).openings);
+    largest = λ start. gate_largest (received start).ack (open_responses (received start).openings);
     placed = placed_next;
     in_order = λ start f later on. order_frame (asked_before (end_of start f) asks) (received start) f later;
     good = λ start f. good limits (asked_before (end_of start f) asks) (received start) (content f);
@@ -322,7 +322,7 @@ module _ (limits : Limits) (asks : List Placed) where
   }
 
   -- frames that come in order behind others where a channel is open, as they may come there, are taken
-  pub taken_open : (a : Ack) (n : ℕ) (start fs : List Frame) → (received start).ack ≡ Some a → channel_in (responses (received start).openings) ≡ Some n
+  pub taken_open : (a : Ack) (n : ℕ) (start fs : List Frame) → (received start).ack ≡ Some a → first_channel (open_responses (received start).openings) ≡ Some n
       → IsClientOrderOpen (map (λ (f : Frame). f.kind) fs)
       → AllByRecursion IsFramed fs → AllFrom (λ us f. frame_size f ≤ largest_taken (received us).ack) start fs
       → AllFrom (λ us f. MayCarryBack limits (received us) (asked_before (end_of us f) asks) (content f)) start fs
@@ -335,8 +335,8 @@ module _ (limits : Limits) (asks : List Placed) where
       (λ none. let never : Some a ≡ None = sym said ∙ none in absurd cc)
       (record {
         order =
-            (order_is (received start) (map (λ (f : Frame). f.kind) fs) (Some a) (responses (received start).openings) said refl).1
-            (some_open a (responses (received start).openings) n (map (λ (f : Frame). f.kind) fs) there order);
+            (order_is (received start) (map (λ (f : Frame). f.kind) fs) (Some a) (open_responses (received start).openings) said refl).1
+            (some_open a (open_responses (received start).openings) n (map (λ (f : Frame). f.kind) fs) there order);
         framed = framed;
         fits = fits;
         carries = carries;
@@ -344,8 +344,8 @@ module _ (limits : Limits) (asks : List Placed) where
         messages_fit = fit;
       })
 
-  nothing_there : responses (received []).openings ≡ []
-  nothing_there = ap (λ (b : Received). responses b.openings) received-nil ∙ no_responses
+  nothing_there : open_responses (received []).openings ≡ []
+  nothing_there = ap (λ (b : Received). open_responses b.openings) received-nil ∙ no_responses
 
   pub nothing_placed : IsPlaced (received [])
   nothing_placed none = nothing_there

@@ -35,7 +35,7 @@ use Rattle.ua_channel.specs.Asks.{is_finished, is_in, next_id, pending_calls, pe
 use Rattle.ua_channel_laws.specs.ClientConversation.{IsClientOrderOpen, IsGoodReply, IsGoodResponse, MayCarryBack, largest_taken}
 use Rattle.ua_channel_laws.specs.ClientReads.{AtClient, ClientReads}
 use Rattle.ua_channel.specs.ClientTable.{client_rules, is_awaited, is_other}
-use Rattle.ua_channel.specs.ClientTokens.{answer_in, channel_in, from_last, held_by, held_tokens, id_listed, opened_ids, response_listed, responses, tokens_of}
+use Rattle.ua_channel.specs.ClientTokens.{answer_in, first_channel, from_last, held_by, held_tokens, id_listed, opened_ids, response_listed, open_responses, tokens_of}
 use Rattle.ua_channel.specs.ClientTold.{ClientTold, client_tells, told_item, told_response}
 use Rattle.ua_channel.specs.ClientTold.ClientTold.{Agreed, Opened, Answered, GaveUp, Renewed}
 use Rattle.ua_channel.specs.Content.{Content, Opening, closes, content, content_by}
@@ -79,7 +79,7 @@ order_frame opens sends f ks is h = order_kind opens sends f.kind f ks is h
 
 -- ---- what is told
 
-renewed_told : (n : ℕ) (qs rs : List OpenResponse) → channel_in qs ≡ Some n → map (told_response qs) rs ≡ map told_renewed rs
+renewed_told : (n : ℕ) (qs rs : List OpenResponse) → first_channel qs ≡ Some n → map (told_response qs) rs ≡ map told_renewed rs
 renewed_told n [] rs e = absurd cc
 renewed_told n (q ∷ qs) [] e = refl
 renewed_told n (q ∷ qs) (r ∷ rs) e = ap (λ (ts : List ClientTold). Renewed r.token_id ∷ ts) (renewed_told n (q ∷ qs) rs e)
@@ -88,8 +88,8 @@ told_flat : (ms : List Sent) (us fs : List Frame) → each_from (λ vs f. told_b
 told_flat ms us [] = refl
 told_flat ms us (f ∷ fs) = ap (λ (ts : List ClientTold). told_back ms (content f) ++ ts) (told_flat ms (us ++ f ∷ []) fs)
 
-responses-append : (os more : List Opening) → responses (os ++ more) ≡ responses os ++ responses more
-unfolding responses
+responses-append : (os more : List Opening) → open_responses (os ++ more) ≡ open_responses os ++ open_responses more
+unfolding open_responses
 responses-append os more = flat_map-append (λ (o : Opening). response_listed (answer_in o)) os more
 
 -- ---- tokens
@@ -108,24 +108,24 @@ tokens_of-append : (rs more : List OpenResponse) → tokens_of (rs ++ more) ≡ 
 unfolding tokens_of
 tokens_of-append rs more = map-append (λ (r : OpenResponse). r.token_id) rs more
 
-pub nothing_opened : tokens_of (responses []) ≡ []
+pub nothing_opened : tokens_of (open_responses []) ≡ []
 nothing_opened = ap tokens_of no_responses ∙ no_tokens
 
-tokens_of-one : (o : Opening) → tokens_of (responses (o ∷ [])) ≡ tokens_of (response_listed (answer_in o))
-unfolding responses
+tokens_of-one : (o : Opening) → tokens_of (open_responses (o ∷ [])) ≡ tokens_of (response_listed (answer_in o))
+unfolding open_responses
 tokens_of-one o = ap tokens_of (append-nil (response_listed (answer_in o)))
 
 tokens_from : (ms : List Sent) (May : List Frame → Frame → Type 0)
-    → ((us : List Frame) (f : Frame) → May us f → tokens_renewed (told_back ms (content f)) ≡ tokens_of (responses (openings_in (content f))))
+    → ((us : List Frame) (f : Frame) → May us f → tokens_renewed (told_back ms (content f)) ≡ tokens_of (open_responses (openings_in (content f))))
     → (us fs : List Frame)
-    → AllFrom May us fs → tokens_renewed (told_merged_back ms fs) ≡ tokens_of (responses (openings fs))
+    → AllFrom May us fs → tokens_renewed (told_merged_back ms fs) ≡ tokens_of (open_responses (openings fs))
 unfolding openings
 tokens_from ms May one us [] may = sym nothing_opened
 tokens_from ms May one us (f ∷ fs) may =
     flat_map-append renewed_in (told_back ms (content f)) (told_merged_back ms fs)
     ∙ (ap (λ (ts : List ℕ). ts ++ tokens_renewed (told_merged_back ms fs)) (one us f may.0)
-    ∙ (ap (λ (ts : List ℕ). tokens_of (responses (openings_in (content f))) ++ ts) (tokens_from ms May one (us ++ f ∷ []) fs may.1)
-    ∙ (sym (tokens_of-append (responses (openings_in (content f))) (responses (openings fs)))
+    ∙ (ap (λ (ts : List ℕ). tokens_of (open_responses (openings_in (content f))) ++ ts) (tokens_from ms May one (us ++ f ∷ []) fs may.1)
+    ∙ (sym (tokens_of-append (open_responses (openings_in (content f))) (open_responses (openings fs)))
     ∙ ap tokens_of (sym (responses-append (openings_in (content f)) (openings fs))))))
 
 -- ---- calls of one request id
@@ -174,7 +174,7 @@ pub held_renewed : (b : Received) (o : Opening) (r : OpenResponse) (newest : ℕ
 unfolding held_tokens
 held_renewed b o r newest answers is fresh =
     ap (λ (rs : List OpenResponse). held_by b.used (tokens_of rs)) (responses-push b.openings o r answers)
-    ∙ (ap (held_by b.used) (tokens_of-push (responses b.openings) r) ∙ held_by-push b.used r.token_id newest (tokens_of (responses b.openings)) is fresh)
+    ∙ (ap (held_by b.used) (tokens_of-push (open_responses b.openings) r) ∙ held_by-push b.used r.token_id newest (tokens_of (open_responses b.openings)) is fresh)
 
 holds_renewed : (at : AtClient) (b : Received) (o : Opening) (r : OpenResponse) (ts : List ℕ) (rs : List OpenResponse) → answer_in o ≡ Some (Open r)
     → Holds at b ts rs
@@ -200,23 +200,23 @@ holds_renewed at b o r ts rs answers h fresh =
 -- what was received is where this leaves a client behind frames of a merge that used these tokens, and had these openings and chunks
 record Place (at : AtClient) (base : List Chunk) (opened : List ℕ) (b : Received) (ts : List ℕ) (os : List Opening) (cs : List Chunk) : Type 0 where
   ack_is : b.ack ≡ Some at.ack
-  channel_is : channel_in (responses b.openings) ≡ Some at.channel
-  holds : Holds at b ts (responses os)
+  channel_is : first_channel (open_responses b.openings) ≡ Some at.channel
+  holds : Holds at b ts (open_responses os)
   messages_are : b.messages ≡ base ++ cs
   opened_are : opened_ids b.openings ≡ opened ++ opened_ids os
 
 module _ (at : AtClient) (base : List Chunk) (opened : List ℕ) (b : Received) (ts : List ℕ) (os : List Opening) (cs : List Chunk)
     (p : Place at base opened b ts os cs) where
-  then_opened : (awaits : ℕ → Bool) (o : Opening) → IsGoodResponse (Some at.channel) (held_by (latest ts) (at.tokens ++ tokens_of (responses os))) awaits o
+  then_opened : (awaits : ℕ → Bool) (o : Opening) → IsGoodResponse (Some at.channel) (held_by (latest ts) (at.tokens ++ tokens_of (open_responses os))) awaits o
       → Place at base opened (after b (Opens o)) (ts ++ []) (os ++ o ∷ []) (cs ++ [])
   then_opened awaits o g =
       rw (append-nil ts, append-nil cs)
       (record {
         ack_is = p.ack_is;
-        channel_is = ap channel_in (responses-push b.openings o g.response g.answer_is)
-            ∙ channel_in-push (responses b.openings) g.response at.channel p.channel_is;
+        channel_is = ap first_channel (responses-push b.openings o g.response g.answer_is)
+            ∙ channel_in-push (open_responses b.openings) g.response at.channel p.channel_is;
         holds = subst (Holds at (after b (Opens o)) ts) (sym (responses-push os o g.response g.answer_is))
-            (holds_renewed at b o g.response ts (responses os) g.answer_is p.holds g.fresh);
+            (holds_renewed at b o g.response ts (open_responses os) g.answer_is p.holds g.fresh);
         messages_are = p.messages_are;
         opened_are =
             opened_ids-push b.openings o g.numbered g.numbers_are
@@ -225,14 +225,14 @@ module _ (at : AtClient) (base : List Chunk) (opened : List ℕ) (b : Received) 
             ∙ ap (λ (t : List ℕ). opened ++ t) (sym (opened_ids-push os o g.numbered g.numbers_are))));
       })
 
-  then_sent : (c : Chunk) → is_in c.token (held_by (latest ts) (at.tokens ++ tokens_of (responses os))) ≡ true
+  then_sent : (c : Chunk) → is_in c.token (held_by (latest ts) (at.tokens ++ tokens_of (open_responses os))) ≡ true
       → Place at base opened (after b (Sends c)) (ts ++ c.token ∷ []) (os ++ []) (cs ++ c ∷ [])
   then_sent c held =
       rw (append-nil os)
       (record {
         ack_is = p.ack_is;
         channel_is = p.channel_is;
-        holds = holds_used at b c ts (responses os) p.holds held;
+        holds = holds_used at b c ts (open_responses os) p.holds held;
         messages_are = ap (λ (t : List Chunk). t ++ c ∷ []) p.messages_are ∙ append_assoc base cs (c ∷ []);
         opened_are = p.opened_are;
       })
@@ -476,10 +476,10 @@ module _ (limits : Limits) (asks later : List Placed) (octets : List ℕ) (told 
       by_either us f (λ (k : Content). AllFrom (λ vs c. is_finished vs c.request ≡ false) (messages us) (chunks_in k ++ rest)
       → MayCarryBack limits b (asked ++ new_at us f) k)
       (λ o g unended.
-      response_as (Some at.channel) (channel_in (responses b.openings)) (At us f).tokens (held_tokens b) (λ (id : ℕ). is_in id (At us f).renewals)
-      (is_awaited (responses b.openings) (opened_ids b.openings) (asked ++ new_at us f)) o (sym p.channel_is) (sym p.holds.tokens_are)
+      response_as (Some at.channel) (first_channel (open_responses b.openings)) (At us f).tokens (held_tokens b) (λ (id : ℕ). is_in id (At us f).renewals)
+      (is_awaited (open_responses b.openings) (opened_ids b.openings) (asked ++ new_at us f)) o (sym p.channel_is) (sym p.holds.tokens_are)
       (λ id e.
-      awaited_later (responses b.openings) (opened_ids b.openings) (asked ++ new_at us f) id at.channel p.channel_is
+      awaited_later (open_responses b.openings) (opened_ids b.openings) (asked ++ new_at us f) id at.channel p.channel_is
       ∙ (ap (λ (ids : List ℕ). is_in id (pending_renewals ids (asked ++ new_at us f))) p.opened_are
       ∙ (ap (is_in id) (left_renewals (new_at us f) (news us f) (opened_ids (openings us))) ∙ e))) g)
       (λ c g unended.
@@ -497,12 +497,12 @@ module _ (limits : Limits) (asks later : List Placed) (octets : List ℕ) (told 
       → client_tells b (content f) ≡ told_back ms (content f)
   tells us f b rest may p =
       by_either us f (λ (k : Content). EachEnds ms (messages us) (chunks_in k ++ rest) → client_tells b k ≡ told_back ms k)
-      (λ o g each. renewed_told at.channel (responses b.openings) (response_listed (answer_in o)) p.channel_is)
+      (λ o g each. renewed_told at.channel (open_responses b.openings) (response_listed (answer_in o)) p.channel_is)
       (λ c g each. ap (map told_item) (ap (λ (cs : List Chunk). given cs c) p.messages_are ∙ (given_fresh base (messages us) c r.none_open ∙ each.0))) may
 
-  token_told : (us : List Frame) (f : Frame) → May us f → tokens_renewed (told_back ms (content f)) ≡ tokens_of (responses (openings_in (content f)))
+  token_told : (us : List Frame) (f : Frame) → May us f → tokens_renewed (told_back ms (content f)) ≡ tokens_of (open_responses (openings_in (content f)))
   token_told us f may =
-      by_either us f (λ (k : Content). tokens_renewed (told_back ms k) ≡ tokens_of (responses (openings_in k)))
+      by_either us f (λ (k : Content). tokens_renewed (told_back ms k) ≡ tokens_of (open_responses (openings_in k)))
       (λ o g. tokens_listed (response_listed (answer_in o)) ∙ sym (tokens_of-one o))
       (λ c g. no_token (ended_by ms c) ∙ sym nothing_opened) may
 
@@ -661,5 +661,5 @@ module _ (limits : Limits) (asks later : List Placed) (octets : List ℕ) (told 
       calls_under id (told_merged_back ms more)
       ∙ (ap (filter (is_told_under id)) reads_messages ∙ outcomes_once limits ms (messages more) m.merged told_item (is_told_under id) id (told_names id))
 
-  pub reads_tokens : tokens_renewed (told_merged_back ms more) ≡ tokens_of (responses (openings more))
+  pub reads_tokens : tokens_renewed (told_merged_back ms more) ≡ tokens_of (open_responses (openings more))
   reads_tokens = tokens_from ms (λ us f. May us f) token_told [] more may

@@ -47,7 +47,7 @@ use Rattle.ua_chunk.specs.Delivered.{aborted, delivered}
 use Rattle.ua_chunk.specs.Item.{Item}
 use Rattle.ua_chunk.specs.Item.Item.{Whole, Aborted}
 use Rattle.ua_chunk.specs.Layout.{frame_of}
-use Rattle.ua_chunk.specs.Merge.{Sent, outcomes, part_of, IsWithin}
+use Rattle.ua_chunk.specs.Merge.{Sent, outcomes, part_of, IsMessageWithin}
 use Rattle.ua_chunk.proofs.Bounds.{none_within}
 use Rattle.ua_chunk.specs.Open.{open_ids}
 use Rattle.std.specs.Prelude.{is_some}
@@ -67,7 +67,7 @@ use Rattle.ua_channel_laws.specs.ClientReads.{AtClient, ClientAgrees, ClientRead
 use Rattle.ua_channel_laws.specs.ClientReads.{with_answer, with_call, with_renewal, with_reply, without_id}
 use Rattle.ua_channel.specs.ClientSends.{hello_to}
 use Rattle.ua_channel.specs.ClientTable.{answer_gate, client_gate, client_reasons, client_rules, gate_agreed, is_outside, reply_gate}
-use Rattle.ua_channel.specs.ClientTokens.{answer_in, channel_in, from_last, held_by, held_tokens, opened_ids, responses, tokens_of, response_listed}
+use Rattle.ua_channel.specs.ClientTokens.{answer_in, first_channel, from_last, held_by, held_tokens, opened_ids, open_responses, tokens_of, response_listed}
 use Rattle.ua_channel.specs.ClientTold.{ClientTold, ClientTold as event, client_tells, told_item}
 use Rattle.ua_channel.specs.Content.{Content, Opening, content}
 use Rattle.ua_channel.specs.Content.Content.{Acks, Opens}
@@ -262,7 +262,7 @@ module _ (limits : Limits) (octets : List ℕ) (told : List ClientTold) (a : Ack
   now : received (r.frames ++ f ∷ []) ≡ after before (Opens o)
   now = received-push r.frames f ∙ (ap (λ (b : Received). after b (content f)) r.received_is ∙ ap (after (record nothing_received { ack = Some a })) o_carried)
 
-  one_response : responses (o ∷ []) ≡ open_response_of moment handle channel token lifetime ∷ []
+  one_response : open_responses (o ∷ []) ≡ open_response_of moment handle channel token lifetime ∷ []
   one_response = responses-push [] o (open_response_of moment handle channel token lifetime) o_answers
       ∙ ap (λ (rs : List OpenResponse). rs ++ open_response_of moment handle channel token lifetime ∷ []) no_responses
 
@@ -280,7 +280,7 @@ module _ (limits : Limits) (octets : List ℕ) (told : List ClientTold) (a : Ack
   f_in : LetsIn ((client_rules limits []).gate r.frames) f
   f_in =
       subst (λ (g : Gate). LetsIn g f) (sym (ap client_gate r.received_is))
-      (opn_by a (responses []) f refl refl (omega (arith, f_size, r.large)) (omega (arith, f_size)))
+      (opn_by a (open_responses []) f refl refl (omega (arith, f_size, r.large)) (omega (arith, f_size)))
 
   pub reads_opened : ClientReads limits [] (octets ++ frame_octets (opened_frame channel number 1 handle token lifetime moment))
       (told ++ event.Opened channel token ∷ [])
@@ -307,7 +307,7 @@ module _ (limits : Limits) (octets : List ℕ) (told : List ClientTold) (a : Ack
     ack_is = ap (λ (b : Received). b.ack) now;
     large = r.large;
     sized = r.sized;
-    channel_is = ap (λ (b : Received). channel_in (responses b.openings)) now ∙ ap channel_in one_response;
+    channel_is = ap (λ (b : Received). first_channel (open_responses b.openings)) now ∙ ap first_channel one_response;
     tokens_are = ap held_tokens now ∙ one_token;
     newest_is = refl;
     pending_are = ap (λ (b : Received). pending_calls b.messages (asked_in [])) now ∙ (ap (pending_calls []) no_asks ∙ nothing_pending []);
@@ -422,8 +422,8 @@ told_sent size lane id ms (c ∷ cs) s =
 module _ (limits : Limits) (asks : List Placed) (octets : List ℕ) (told : List ClientTold) (at : AtClient) (r : ClientReads limits asks octets told at) where
   -- frames of a merge, where the client asks nothing on and these tokens, calls and renewals are left
   reads_frames : (ms : List Sent) (fs : List Frame) (next newest : ℕ) (tokens pending waiting : List ℕ) → ClientMerge limits at (asked_in asks) [] ms fs next
-      → held_by (latest (used_tokens fs)) (at.tokens ++ tokens_of (responses (openings fs))) ≡ tokens
-      → latest_or at.newest (tokens_of (responses (openings fs))) ≡ newest
+      → held_by (latest (used_tokens fs)) (at.tokens ++ tokens_of (open_responses (openings fs))) ≡ tokens
+      → latest_or at.newest (tokens_of (open_responses (openings fs))) ≡ newest
       → filter (λ (i : ℕ). not (is_finished (messages fs) i)) at.pending ≡ pending → filter (λ (i : ℕ). not (is_in i (opened_ids (openings fs)))) at.renewals
       ≡ waiting
       → ClientReads limits asks (octets ++ frames_octets fs) (told ++ told_merged_back ms fs)
@@ -439,8 +439,8 @@ module _ (limits : Limits) (asks : List Placed) (octets : List ℕ) (told : List
       subst (λ (t : List Placed). ClientReads limits t (octets ++ frames_octets fs) (told ++ told_merged_back ms fs)
       (with_merged_back at (asked_in []) fs next)) (append-nil asks)
       (reads_merged limits asks [] octets told at at.next ms fs next r (record { frames = r.frames; run = r.run; follows = r.follows }) m) in
-      at_as (held_by (latest (used_tokens fs)) (at.tokens ++ tokens_of (responses (openings fs)))) tokens
-      (latest_or at.newest (tokens_of (responses (openings fs)))) newest _ pending _ waiting held last left waits read
+      at_as (held_by (latest (used_tokens fs)) (at.tokens ++ tokens_of (open_responses (openings fs)))) tokens
+      (latest_or at.newest (tokens_of (open_responses (openings fs)))) newest _ pending _ waiting held last left waits read
     where
       at_as : (ts us : List ℕ) (n o : ℕ) (ps qs ws vs : List ℕ) → ts ≡ us → n ≡ o → ps ≡ qs → ws ≡ vs
           → ClientReads limits asks (octets ++ frames_octets fs) (told ++ told_merged_back ms fs)
@@ -463,11 +463,11 @@ module _ (limits : Limits) (asks : List Placed) (octets : List ℕ) (told : List
 
   -- where these frames were read, the token is held
   abbrev IsHeld : List ℕ → List Opening → Type 0
-  IsHeld ts os = is_in lane.token (held_by (latest ts) (at.tokens ++ tokens_of (responses os))) ≡ true
+  IsHeld ts os = is_in lane.token (held_by (latest ts) (at.tokens ++ tokens_of (open_responses os))) ≡ true
 
   held_on : (ts : List ℕ) (os : List Opening) (token : ℕ) → token ≡ lane.token → IsHeld ts os → IsHeld (ts ++ token ∷ []) os
   held_on ts os token is held =
-      let tokens : List ℕ = at.tokens ++ tokens_of (responses os) in
+      let tokens : List ℕ = at.tokens ++ tokens_of (open_responses os) in
       ap (λ (o : Option ℕ). is_in lane.token (held_by o tokens)) (latest-push ts token)
       ∙ (ap (is_in lane.token) (held_by-used (latest ts) token tokens (ap (λ (t : ℕ). is_in t (held_by (latest ts) tokens)) is ∙ held))
       ∙ (ap (λ (t : ℕ). is_in lane.token (from_last t (held_by (latest ts) tokens))) is ∙ stays_in lane.token (held_by (latest ts) tokens) held))
@@ -486,7 +486,7 @@ module _ (limits : Limits) (asks : List Placed) (octets : List ℕ) (told : List
             (sym (chunk_carried c s.0.numbers))
             (record {
               on = ap not (eq-eqb c.channel at.channel (s.0.channel_is ∙ back.on));
-              held = ap (λ (t : ℕ). is_in t (held_by (latest (used_tokens us)) (at.tokens ++ tokens_of (responses (openings us))))) s.0.token_is ∙ held;
+              held = ap (λ (t : ℕ). is_in t (held_by (latest (used_tokens us)) (at.tokens ++ tokens_of (open_responses (openings us))))) s.0.token_is ∙ held;
               awaited =
                   ap (λ (i : ℕ). is_in i (at.pending ++ calls (asked_before (end_of us f) []))) s.0.request_is
                   ∙ in_front id at.pending (calls (asked_before (end_of us f) [])) awaited;
@@ -501,7 +501,7 @@ module _ (limits : Limits) (asks : List Placed) (octets : List ℕ) (told : List
   reads_sent c cs next m items sent merged goes finished delivers =
       let fs : List Frame = map frame_of (c ∷ cs) in
       let none : openings fs ≡ [] = frames_openings size lane id (c ∷ cs) sent in
-      let no_more : tokens_of (responses (openings fs)) ≡ [] = ap (λ (os : List Opening). tokens_of (responses os)) none ∙ nothing_opened in
+      let no_more : tokens_of (open_responses (openings fs)) ≡ [] = ap (λ (os : List Opening). tokens_of (open_responses os)) none ∙ nothing_opened in
       subst (λ (ts : List ClientTold). ClientReads limits asks (octets ++ chunks_octets (c ∷ cs)) (told ++ ts) (with_reply at lane.token id next))
       (told_sent size lane id (m ∷ []) (c ∷ cs) sent ∙ ap (map told_item) (sym (comes limits (m ∷ []) (c ∷ cs) merged).all ∙ delivers))
       (reads_frames limits asks octets told at r (m ∷ []) fs next at.newest (from_last lane.token at.tokens) (without_id id at.pending) at.renewals
@@ -517,8 +517,8 @@ module _ (limits : Limits) (asks : List Placed) (octets : List ℕ) (told : List
         numbered = subst (λ (ns : List ℕ). NumbersGoOn at.next ns next) (sym (frames_numbers size lane id (c ∷ cs) sent)) goes;
         merged = subst (AreMerged limits (m ∷ [])) (sym (frames_messages size lane id (c ∷ cs) sent)) merged;
       })
-      (ap (λ (ts : List ℕ). held_by (latest ts) (at.tokens ++ tokens_of (responses (openings fs)))) (frames_tokens size lane id (c ∷ cs) sent)
-      ∙ (ap (λ (o : Option ℕ). held_by o (at.tokens ++ tokens_of (responses (openings fs)))) (latest_token lane.token None c cs)
+      (ap (λ (ts : List ℕ). held_by (latest ts) (at.tokens ++ tokens_of (open_responses (openings fs)))) (frames_tokens size lane id (c ∷ cs) sent)
+      ∙ (ap (λ (o : Option ℕ). held_by o (at.tokens ++ tokens_of (open_responses (openings fs)))) (latest_token lane.token None c cs)
       ∙ ap (from_last lane.token) (ap (λ (t : List ℕ). at.tokens ++ t) no_more ∙ append-nil at.tokens)))
       (ap (latest_or at.newest) no_more)
       (ap (λ (us : List Chunk). filter (λ (i : ℕ). not (is_finished us i)) at.pending) (frames_messages size lane id (c ∷ cs) sent)
@@ -567,7 +567,7 @@ module _ (limits : Limits) (asks : List Placed) (octets : List ℕ) (told : List
       (record {
         own_ids = (refl, tt);
         within =
-            all_under (IsWithin limits.max_message_size limits.max_chunk_count) (sent ∷ []) (
+            all_under (IsMessageWithin limits.max_message_size limits.max_chunk_count) (sent ∷ []) (
               record {
                 ending = refl;
                 readable = λ f. ap is_some (abort_written code small);
@@ -640,9 +640,9 @@ module _ (limits : Limits) (asks : List Placed) (octets : List ℕ) (told : List
     ap (λ (k : Content). numbers_in k ++ []) p_carried ∙ ap (λ (n : Option (ℕ × ℕ)). number_listed n ++ []) p_numbers,
   )
 
-  p_tokens : tokens_of (responses (openings (g ∷ []))) ≡ token ∷ []
+  p_tokens : tokens_of (open_responses (openings (g ∷ []))) ≡ token ∷ []
   p_tokens =
-      ap (λ (os : List Opening). tokens_of (responses os)) brings.0
+      ap (λ (os : List Opening). tokens_of (open_responses os)) brings.0
       ∙ (ap tokens_of (responses-push [] p (open_response_of moment handle at.channel token lifetime) p_answers
       ∙ ap (λ (rs : List OpenResponse). rs ++ open_response_of moment handle at.channel token lifetime ∷ []) no_responses)
       ∙ (tokens_of-push [] (open_response_of moment handle at.channel token lifetime) ∙ ap (λ (ts : List ℕ). ts ++ token ∷ []) no_tokens))
@@ -674,7 +674,7 @@ module _ (limits : Limits) (asks : List Placed) (octets : List ℕ) (told : List
   comes_here new =
       response_as (Some at.channel) (Some at.channel) at.tokens (with_merged_back at new [] at.next).tokens (λ (i : ℕ). is_in i at.renewals)
       (λ (i : ℕ). is_in i (with_merged_back at new [] at.next).renewals) p refl
-      (nothing_yet (λ ts os us. at.tokens ≡ held_by (latest ts) (at.tokens ++ tokens_of (responses os))) (sym (append-nil at.tokens)
+      (nothing_yet (λ ts os us. at.tokens ≡ held_by (latest ts) (at.tokens ++ tokens_of (open_responses os))) (sym (append-nil at.tokens)
       ∙ ap (λ (t : List ℕ). at.tokens ++ t) (sym nothing_opened)))
       (λ i e.
       nothing_yet (λ ts os us. is_in i (filter (λ (j : ℕ). not (is_in j (opened_ids os))) (at.renewals ++ renewals new)) ≡ true)
@@ -703,7 +703,7 @@ module _ (limits : Limits) (asks : List Placed) (octets : List ℕ) (told : List
             (refl, tt, follows_next at.next, next_small at.next r.next_small);
         merged = subst (AreMerged limits []) (sym brings.1) (record { own_ids = tt; within = λ i m e. absurd cc; merged = refl; few_open = tt });
       })
-      (ap (λ (ts : List ℕ). held_by (latest ts) (at.tokens ++ tokens_of (responses (openings (g ∷ []))))) brings.2
+      (ap (λ (ts : List ℕ). held_by (latest ts) (at.tokens ++ tokens_of (open_responses (openings (g ∷ []))))) brings.2
       ∙ ap (λ (t : List ℕ). at.tokens ++ t) p_tokens)
       (ap (latest_or at.newest) p_tokens) (ap (λ (us : List Chunk). filter (λ (i : ℕ). not (is_finished us i)) at.pending) brings.1 ∙ all_stay at.pending)
       (ap (λ (ids : List ℕ). filter (λ (i : ℕ). not (is_in i ids)) at.renewals) p_ids

@@ -27,7 +27,7 @@ use Rattle.ua_channel.specs.Client.{ClientStands, InPhase, client_limits, phase_
 use Rattle.ua_channel_laws.specs.ClientConversation.{IsGoodAck, IsGoodResponse, MayCarryBack}
 use Rattle.ua_channel_laws.specs.ClientReads.{ClientReads}
 use Rattle.ua_channel.specs.ClientTable.{client_gate, client_rules, is_awaited, is_outside}
-use Rattle.ua_channel.specs.ClientTokens.{answer_in, channel_in, held_by, held_tokens, opened_ids, responses, tokens_of}
+use Rattle.ua_channel.specs.ClientTokens.{answer_in, first_channel, held_by, held_tokens, opened_ids, open_responses, tokens_of}
 use Rattle.ua_channel.specs.Content.{Opening, content, content_by, opening_of, sends}
 use Rattle.ua_channel.specs.Content.Content.{Acks, Opens, Sends}
 use Rattle.ua_channel.specs.Received.{Received, after, latest, or_before, received}
@@ -83,11 +83,11 @@ none_of : (used : Option ℕ) → held_by used [] ≡ []
 none_of None = refl
 none_of (Some n) = refl
 
-none_held : (b : Received) → responses b.openings ≡ [] → held_tokens b ≡ []
+none_held : (b : Received) → open_responses b.openings ≡ [] → held_tokens b ≡ []
 unfolding held_tokens
 none_held b none = ap (λ (rs : List OpenResponse). held_by b.used (tokens_of rs)) none ∙ (ap (held_by b.used) no_tokens ∙ none_of b.used)
 
-first_held : (b : Received) (o : Opening) (r : OpenResponse) → answer_in o ≡ Some (Open r) → responses b.openings ≡ [] → b.used ≡ None
+first_held : (b : Received) (o : Opening) (r : OpenResponse) → answer_in o ≡ Some (Open r) → open_responses b.openings ≡ [] → b.used ≡ None
     → held_tokens (after b (Opens o)) ≡ r.token_id ∷ []
 unfolding held_tokens
 first_held b o r answers none unused =
@@ -105,8 +105,8 @@ HasNewest b = (t : ℕ) × (latest (held_tokens b) ≡ Some t)
 record Known (n : ℕ) (b : Received) : Type 0 where
   large : (a : Ack) → b.ack ≡ Some a → 8192 ≤ a.send_buffer_size
   sized : (a : Ack) → b.ack ≡ Some a → a.send_buffer_size < 2 ^ 32
-  newest : (c : ℕ) → channel_in (responses b.openings) ≡ Some c → HasNewest b
-  unused : responses b.openings ≡ [] → b.used ≡ None
+  newest : (c : ℕ) → first_channel (open_responses b.openings) ≡ Some c → HasNewest b
+  unused : open_responses b.openings ≡ [] → b.used ≡ None
   sent_below : AllByRecursion (λ (c : Chunk). c.request < n) b.messages
   opened_below : AllByRecursion (λ (id : ℕ). id < n) (opened_ids b.openings)
 
@@ -138,28 +138,28 @@ module _ (limits : Limits) (n : ℕ) (least : 2 ≤ n) (asked : List Asking) (be
   }
 
   abbrev IsResponse : Opening → Type 0
-  IsResponse o = IsGoodResponse (channel_in (responses b.openings)) (held_tokens b) (is_awaited (responses b.openings) (opened_ids b.openings) asked) o
+  IsResponse o = IsGoodResponse (first_channel (open_responses b.openings)) (held_tokens b) (is_awaited (open_responses b.openings) (opened_ids b.openings) asked) o
 
-  newest_opened : (o : Opening) (g : IsResponse o) (rs : List OpenResponse) → responses b.openings ≡ rs → HasNewest (after b (Opens o))
+  newest_opened : (o : Opening) (g : IsResponse o) (rs : List OpenResponse) → open_responses b.openings ≡ rs → HasNewest (after b (Opens o))
   newest_opened o g [] e = (g.response.token_id, ap latest (first_held b o g.response g.answer_is e (known.unused e)))
   newest_opened o g (q ∷ rs) e =
-      let was = known.newest q.channel_id (ap channel_in e) in
+      let was = known.newest q.channel_id (ap first_channel e) in
       (g.response.token_id, ap latest (held_renewed b o g.response was.0 g.answer_is was.1 g.fresh) ∙ latest-push (held_tokens b) g.response.token_id)
 
   opened : (o : Opening) → IsResponse o → Known n (after b (Opens o))
   opened o g = record {
     large = known.large;
     sized = known.sized;
-    newest = λ c e. newest_opened o g (responses b.openings) refl;
-    unused = λ none. absurd (none_behind (responses b.openings) g.response (sym (responses-push b.openings o g.response g.answer_is) ∙ none));
+    newest = λ c e. newest_opened o g (open_responses b.openings) refl;
+    unused = λ none. absurd (none_behind (open_responses b.openings) g.response (sym (responses-push b.openings o g.response g.answer_is) ∙ none));
     sent_below = known.sent_below;
     opened_below =
         subst (AllByRecursion (λ (id : ℕ). id < n)) (sym (opened_ids-push b.openings o g.numbered g.numbers_are))
         (all-push (λ (id : ℕ). id < n) (opened_ids b.openings) g.numbered.1 known.opened_below
-        (awaited_below n (responses b.openings) (opened_ids b.openings) asked g.numbered.1 least below g.awaited));
+        (awaited_below n (open_responses b.openings) (opened_ids b.openings) asked g.numbered.1 least below g.awaited));
   }
 
-  never_used : (token : ℕ) → is_in token (held_tokens b) ≡ true → responses b.openings ≡ [] → ⊥
+  never_used : (token : ℕ) → is_in token (held_tokens b) ≡ true → open_responses b.openings ≡ [] → ⊥
   never_used token held none =
       let never : false ≡ true = sym (ap (is_in token) (none_held b none)) ∙ held in
       cc
@@ -192,7 +192,7 @@ module _ (limits : Limits) (n : ℕ) (least : 2 ≤ n) (asked : List Asking) (be
   known_more f kind.Err place may = absurd may
   known_more f Opn place may = opened (opening_of f.body) may
   known_more f Msg place may = sent (chunk_in f) may
-  known_more f Clo place may = absurd (no_close b.ack (responses b.openings) place)
+  known_more f Clo place may = absurd (no_close b.ack (open_responses b.openings) place)
 
 -- ---- behind all frames
 
@@ -202,7 +202,7 @@ nothing_known n =
     (record {
       large = λ a e. let never : None ≡ Some a = e in absurd cc;
       sized = λ a e. let never : None ≡ Some a = e in absurd cc;
-      newest = λ c e. let never : None ≡ Some c = sym (ap channel_in no_responses) ∙ e in absurd cc;
+      newest = λ c e. let never : None ≡ Some c = sym (ap first_channel no_responses) ∙ e in absurd cc;
       unused = λ none. refl;
       sent_below = tt;
       opened_below = subst (AllByRecursion (λ (id : ℕ). id < n)) (sym no_ids) tt;
@@ -232,14 +232,14 @@ module _ (limits : Limits) (asks : List Placed) (n : ℕ) (least : 2 ≤ n) (bel
 
 -- ---- the law
 
-said_by : (o : Option Ack) (rs : List OpenResponse) (c : ℕ) → (o ≡ None → rs ≡ []) → channel_in rs ≡ Some c → (a : Ack) × (o ≡ Some a)
-said_by None rs c placed is = let never : None ≡ Some c = sym (ap channel_in (placed refl)) ∙ is in absurd cc
+said_by : (o : Option Ack) (rs : List OpenResponse) (c : ℕ) → (o ≡ None → rs ≡ []) → first_channel rs ≡ Some c → (a : Ack) × (o ≡ Some a)
+said_by None rs c placed is = let never : None ≡ Some c = sym (ap first_channel (placed refl)) ∙ is in absurd cc
 said_by (Some a) rs c placed is = (a, refl)
 
 -- a client stands so behind its frames
 pub reads_run : (limits : Limits) (asks : List Placed) (octets : List ℕ) (frames : List Frame) → Run (client_rules limits asks) octets frames [] Going
     → AllByRecursion (λ (a : Placed). a.0 ≤ length octets) asks → AllByRecursion (λ (a : Asking). id_of a < next_id (asked_in asks)) (asked_in asks)
-    → (channel : ℕ) → channel_in (responses (received frames).openings) ≡ Some channel → open_ids (received frames).messages ≡ []
+    → (channel : ℕ) → first_channel (open_responses (received frames).openings) ≡ Some channel → open_ids (received frames).messages ≡ []
     → (next : ℕ) → IsTrue (may_follow (received frames).last next) → next ≤ 4294966272
     → (said : Ack) × ((received frames).ack ≡ Some said) × (newest : ℕ) × (latest (held_tokens (received frames)) ≡ Some newest)
     × ClientReads limits asks octets (events (client_rules limits asks) frames)
@@ -254,7 +254,7 @@ pub reads_run : (limits : Limits) (asks : List Placed) (octets : List ℕ) (fram
     })
 reads_run limits asks octets frames run placed below channel is none next follows small =
     let all = all_known limits asks (next_id (asked_in asks)) (omega arith) below frames run.good in
-    let a = said_by (received frames).ack (responses (received frames).openings) channel all.0 is in
+    let a = said_by (received frames).ack (open_responses (received frames).openings) channel all.0 is in
     let t = all.1.newest channel is in (
       a.0,
       a.1,

@@ -23,7 +23,7 @@ use Rattle.ua_channel.specs.ClientAsks.{call_lane, call_reasons, has_no_channel,
 use Rattle.ua_channel_laws.specs.ClientReads.{AtClient, ClientReads, lane_from}
 use Rattle.ua_channel.specs.ClientSends.{close_frame, renewal_frame}
 use Rattle.ua_channel.specs.ClientTable.{of_ack}
-use Rattle.ua_channel.specs.ClientTokens.{channel_in, held_tokens, opened_ids, responses}
+use Rattle.ua_channel.specs.ClientTokens.{first_channel, held_tokens, opened_ids, open_responses}
 use Rattle.ua_channel.specs.ClientTold.{ClientTold}
 use Rattle.ua_channel_laws.specs.Outgoing.{asks_at, Outgoing}
 use Rattle.ua_channel_laws.specs.Outgoing.Outgoing.{CallWith}
@@ -107,7 +107,7 @@ module _ (x : ClientChannel) (asks : List Placed) (octets : List ℕ) (frames : 
   there : has_no_channel before ≡ false
   there = ap is_none r.channel_is
 
-  same_channel : (channel : ℕ) → channel_in (responses before.openings) ≡ Some channel → channel ≡ at.channel
+  same_channel : (channel : ℕ) → first_channel (open_responses before.openings) ≡ Some channel → channel ≡ at.channel
   same_channel channel is = some_is channel at.channel (sym is ∙ r.channel_is)
 
   same_newest : (newest : ℕ) → latest (held_tokens before) ≡ Some newest → newest ≡ at.newest

@@ -8,7 +8,7 @@ use Rattle.ua_frame.specs.declared.frame.Frame.{Frame}
 use Rattle.ua_frame.specs.declared.limits.Limits.{Limits}
 use Rattle.ua_chunk.specs.Cutting.{chunks_of, number_after, numbered, pieces}
 use Rattle.ua_chunk.specs.Layout.{frame_of}
-use Rattle.ua_chunk.specs.Merge.{Interleaves, Interleaves as interleaves, IsWithin, Merges, Part, Sent}
+use Rattle.ua_chunk.specs.Merge.{Interleaves, Interleaves as interleaves, IsMessageWithin, Merges, Part, Sent}
 use Rattle.ua_chunk.specs.Merge.{more_part, part_of, parts_of, HaveOwnIds, bodies_by, sent_under}
 use Rattle.ua_chunk.specs.Refusal.{passes, FewOpen}
 use Rattle.ua_chunk.specs.Sequence.{may_follow, next_number}
@@ -155,7 +155,7 @@ pub one_merge : (m : Sent) (zs : List Part) → zs ≡ parts_of m → Merges (ma
 one_merge m zs e = ([], refl, subst (λ (t : List Part). Interleaves (parts_of m) [] t) (sym e) (all_left (parts_of m)))
 
 -- a body that is cut is within the limits
-cut_within : (limits : Limits) (m : Sent) → IsCutBody limits m → IsWithin limits.max_message_size limits.max_chunk_count m
+cut_within : (limits : Limits) (m : Sent) → IsCutBody limits m → IsMessageWithin limits.max_message_size limits.max_chunk_count m
 cut_within limits m c = record {
   ending = ap is_more_flag c.ends;
   readable = λ f. let clash : F ≡ A = sym c.ends ∙ f in absurd cc;
@@ -182,8 +182,8 @@ pub cut_merged : (limits : Limits) (ms : List Sent) (cs : List Chunk) → AllByR
     → Merges (map parts_of ms) (map part_of cs) → FewOpen [] cs → AreMerged limits ms cs
 cut_merged limits ms cs all own merges few = record {
   own_ids = own;
-  within = all_under (IsWithin limits.max_message_size limits.max_chunk_count) ms
-      (all-weaken (IsCutBody limits) (IsWithin limits.max_message_size limits.max_chunk_count) ms (cut_within limits) all);
+  within = all_under (IsMessageWithin limits.max_message_size limits.max_chunk_count) ms
+      (all-weaken (IsCutBody limits) (IsMessageWithin limits.max_message_size limits.max_chunk_count) ms (cut_within limits) all);
   merged = merges;
   few_open = few;
 }

@@ -17,7 +17,7 @@ use Rattle.ua_chunk.specs.Delivered.{aborted, delivered, delivered_behind, given
 use Rattle.ua_chunk.specs.Flag.{is_more_flag}
 use Rattle.ua_chunk.specs.Gathered.{after_last, ends, is_more, is_of}
 use Rattle.ua_chunk.specs.Item.{Item}
-use Rattle.ua_chunk.specs.Merge.{IsMerge, Part, Sent, id_of, last_part, more_part, outcome_by}
+use Rattle.ua_chunk.specs.Merge.{IsMerge, Part, Sent, id_of_item, last_part, more_part, outcome_by}
 use Rattle.ua_chunk.specs.Merge.{outcome_under, outcomes, part_of, parts_under, sent_under, is_item_of}
 use Rattle.ua_chunk.specs.Open.{open_ids}
 use Rattle.ua_chunk.specs.Pending.{without}
@@ -56,7 +56,7 @@ EachEnds ms us cs = AllFrom (λ vs c. given vs c ≡ ended_by ms c) us cs
 -- each chunk that ends a message delivers one item
 count-delivered : (octets chunks : ℕ) (cs : List Chunk) → TakesMessages octets chunks [] cs → length (delivered cs) ≡ length (filter ends cs)
 count-delivered octets chunks cs taken =
-    sym (length-map (delivered cs) id_of) ∙ (ap length (delivered_ids octets chunks cs taken) ∙ length-map (filter ends cs) (λ (c : Chunk). c.request))
+    sym (length-map (delivered cs) id_of_item) ∙ (ap length (delivered_ids octets chunks cs taken) ∙ length-map (filter ends cs) (λ (c : Chunk). c.request))
 
 aborted_few : (id : ℕ) (o : Option (StatusCode × Option (List ℕ))) → length (aborted id o) ≤ 1
 aborted_few id None = omega arith

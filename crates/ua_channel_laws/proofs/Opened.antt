@@ -5,7 +5,7 @@ use Rattle.ua_frame.specs.declared.limits.Limits.{Limits}
 use Rattle.ua_opening.specs.declared.secure_channel.OpenResponse.{OpenResponse}
 use Rattle.ua_channel.specs.Asks.{Asking, Placed, asked_in}
 use Rattle.ua_channel.specs.Client.{client_limits, ClientStands, InPhase, IsClientDone, IsNotOpen, phase_of}
-use Rattle.ua_channel.specs.ClientTokens.{channel_in, responses}
+use Rattle.ua_channel.specs.ClientTokens.{first_channel, open_responses}
 use Rattle.ua_channel.specs.Content.{Opening, content}
 use Rattle.ua_channel.specs.Content.Content.{Sends}
 use Rattle.ua_channel.specs.Received.{Received, received, after}
@@ -57,20 +57,20 @@ server_asked x octets told id token message g none =
 
 -- ---- at a client
 
-no_channel : (rs : List OpenResponse) (n : ℕ) → channel_in rs ≡ Some n → rs ≡ [] → ⊥
+no_channel : (rs : List OpenResponse) (n : ℕ) → first_channel rs ≡ Some n → rs ≡ [] → ⊥
 no_channel [] n e none = absurd cc
 no_channel (r ∷ rs) n e none = absurd cc
 
 client_phase : (limits : Limits) (p : ClientPhase) (before : Received) (asked : List Asking) → InPhase limits p before asked
-    → IsNotOpen p ↔ (responses before.openings ≡ [])
-unfolding responses
-client_phase limits asking.Waiting before asked h = (λ t. ap (λ (b : Received). responses b.openings) h.0, λ e. tt)
-client_phase limits (asking.Agreed a) before asked h = (λ t. ap (λ (b : Received). responses b.openings) h.0, λ e. tt)
-client_phase limits (asking.Open t) before asked h = (λ n. absurd n, λ e. no_channel (responses before.openings) t.channel h.channel_is e)
+    → IsNotOpen p ↔ (open_responses before.openings ≡ [])
+unfolding open_responses
+client_phase limits asking.Waiting before asked h = (λ t. ap (λ (b : Received). open_responses b.openings) h.0, λ e. tt)
+client_phase limits (asking.Agreed a) before asked h = (λ t. ap (λ (b : Received). open_responses b.openings) h.0, λ e. tt)
+client_phase limits (asking.Open t) before asked h = (λ n. absurd n, λ e. no_channel (open_responses before.openings) t.channel h.channel_is e)
 client_phase limits asking.Done before asked h = absurd h
 
 pub client_open : (x : ClientChannel) (asks : List Placed) (octets : List ℕ) (frames : List Frame) (rest : List ℕ) → ClientStands x asks octets frames rest
-    → IsNotOpen (phase_of x) ↔ (responses (received frames).openings ≡ [])
+    → IsNotOpen (phase_of x) ↔ (open_responses (received frames).openings ≡ [])
 client_open x asks octets frames rest s = client_phase (client_limits x) (phase_of x) (received frames) (asked_in asks) s.phase_is
 
 pub client_done : (x : ClientChannel) → IsClientDone x → IsNotOpen (phase_of x)

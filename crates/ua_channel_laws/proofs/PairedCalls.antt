@@ -26,12 +26,12 @@ use Rattle.ua_opening.specs.declared.secure_channel.OpenResponse.{OpenResponse}
 use Rattle.ua_channel.specs.Asks.{Asking, Placed, asked_before, asked_in, calls, end_of, is_finished, is_in, pending_calls}
 use Rattle.ua_channel.specs.Asks.Asking.{Call, Renewal}
 use Rattle.ua_channel.specs.ClientTable.{client_reasons, client_rules}
-use Rattle.ua_channel.specs.ClientTokens.{answer_in, response_listed, responses}
+use Rattle.ua_channel.specs.ClientTokens.{answer_in, response_listed, open_responses}
 use Rattle.ua_channel.specs.ClientTold.{ClientTold, client_tells, told_ack, told_item, told_response}
 use Rattle.ua_channel.specs.ClientTold.ClientTold.{Answered, GaveUp}
 use Rattle.ua_channel.specs.Content.{Content, content}
 use Rattle.ua_channel.specs.Content.Content.{Greets, Acks, Fails, Opens, Sends, Closes, Nothing}
-use Rattle.ua_channel_laws.specs.Paired.{as_list, delivered_under, first, paired, told_of_calls, with_all, with_first, is_of_call}
+use Rattle.ua_channel_laws.specs.Paired.{as_list, delivered_under, first, paired, told_of_calls, with_all, with_first_item, is_of_call}
 use Rattle.ua_channel.specs.Received.{Received, after, listed, received}
 use Rattle.ua_channel.proofs.Askings.{within_filter, passes_filter}
 use Rattle.ua_channel.proofs.OneFrameMore.{found_all, given_in, none_delivered, received-push}
@@ -56,7 +56,7 @@ frame_told : (b : Received) (c : Content) → told_of_calls (client_tells b c) �
 frame_told b (Greets hello) = refl
 frame_told b (Acks ack) = ack_told ack
 frame_told b (Fails error) = refl
-frame_told b (Opens o) = responses_told (responses b.openings) (response_listed (answer_in o))
+frame_told b (Opens o) = responses_told (open_responses b.openings) (response_listed (answer_in o))
 frame_told b (Sends c) = items_told (given b.messages c)
 frame_told b (Closes c) = refl
 frame_told b Nothing = refl
@@ -243,11 +243,11 @@ unfolding AllAfter
 all_answers limits asks frames fits = answers_from limits asks [] frames (nothing_answers asks) fits
 
 each_paired : (cs : List Chunk) (ids : List ℕ) → ((id : ℕ) → delivered_under id cs ≡ listed (first (delivered_under id cs)))
-    → map (with_all cs) ids ≡ map as_list (map (with_first cs) ids)
+    → map (with_all cs) ids ≡ map as_list (map (with_first_item cs) ids)
 each_paired cs [] once = refl
 each_paired cs (id ∷ ids) once =
     ap (λ (ps : List (ℕ × List Item)). with_all cs id ∷ ps) (each_paired cs ids once)
-    ∙ ap (λ (is : List Item). with_delivered id is ∷ map as_list (map (with_first cs) ids)) (once id)
+    ∙ ap (λ (is : List Item). with_delivered id is ∷ map as_list (map (with_first_item cs) ids)) (once id)
   where
     with_delivered : ℕ → List Item → ℕ × List Item
     with_delivered n is = (n, is)

@@ -26,8 +26,8 @@ use Rattle.ua_frame.proofs.Readings.{reading}
 use Rattle.ua_frame.proofs.Unique.{unique}
 use Rattle.ua_chunk.specs.declared.chunk.Chunk.{Chunk}
 use Rattle.ua_chunk.specs.Layout.{chunk_in}
-use Rattle.ua_chunk.specs.Opening.{SecurityHeader, channel_of, is_none_policy, policy_of}
-use Rattle.ua_chunk.specs.Refusal.{message_refusal, reasons, refusal, TakesMessages}
+use Rattle.ua_chunk.specs.Opening.{SecurityHeader, channel_of_header, is_none_policy, policy_of}
+use Rattle.ua_chunk.specs.Refusal.{message_refusal, reasons, chunk_refusal, TakesMessages}
 use Rattle.ua_chunk.specs.Sequence.{may_follow}
 use Rattle.ua_chunk.proofs.Numbers.{apart}
 use Rattle.ua_channel.specs.Content.{Content, Opening, content, content_by, closes, opening_of, sends}
@@ -86,9 +86,9 @@ module _ (limits : Limits) (channel : ℕ) (b : Received) where
         mode_is = not-false (int_eq request.0.security_mode (pos 1)) (ap (of_request (λ r. not (int_eq r.security_mode (pos 1)))) (sym request.1)
             ∙ all.1.1.1.1.1.1.0);
         on =
-            on_channel (eqb (issued b) 0) (eqb (channel_of header.0) channel)
-            (ap (λ (t : Bool). t && not (eqb (channel_of header.0) channel)) (sym (some_issued (issued b)))
-            ∙ (ap (λ (s : Option SecurityHeader). ltb 0 (issued b) && of_header (λ h. not (eqb (channel_of h) channel)) s) (sym header.1)
+            on_channel (eqb (issued b) 0) (eqb (channel_of_header header.0) channel)
+            (ap (λ (t : Bool). t && not (eqb (channel_of_header header.0) channel)) (sym (some_issued (issued b)))
+            ∙ (ap (λ (s : Option SecurityHeader). ltb 0 (issued b) && of_header (λ h. not (eqb (channel_of_header h) channel)) s) (sym header.1)
             ∙ all.1.1.1.1.1.1.1.0));
         left = all.1.1.1.1.1.1.1.1.1.1.1.1.1.1.0;
       }
@@ -100,9 +100,9 @@ module _ (limits : Limits) (channel : ℕ) (b : Received) where
       → first_reason (server_reasons limits channel b (Opens o)) ≡ None
   unfolding request_of
   request_taken o g follow =
-      let other : (ltb 0 (issued b) && not (eqb (channel_of g.header) channel)) ≡ false =
-      ap (λ (t : Bool). t && not (eqb (channel_of g.header) channel)) (some_issued (issued b))
-      ∙ off_channel (eqb (issued b) 0) (eqb (channel_of g.header) channel) g.on in
+      let other : (ltb 0 (issued b) && not (eqb (channel_of_header g.header) channel)) ≡ false =
+      ap (λ (t : Bool). t && not (eqb (channel_of_header g.header) channel)) (some_issued (issued b))
+      ∙ off_channel (eqb (issued b) 0) (eqb (channel_of_header g.header) channel) g.on in
       rw (g.security_is, g.policy, g.request_is, g.type_is, g.mode_is, other, follow_numbers b.last o.numbers follow, g.left) refl
 
   -- ---- a chunk
@@ -122,7 +122,7 @@ module _ (limits : Limits) (channel : ℕ) (b : Received) where
       × (message_refusal limits.max_message_size limits.max_chunk_count b.messages c ≡ None)
   message_apart c e =
       (apart limits.max_message_size limits.max_chunk_count b.last b.messages c).0
-      (none_named refused_code (refusal limits.max_message_size limits.max_chunk_count b.last b.messages c)
+      (none_named refused_code (chunk_refusal limits.max_message_size limits.max_chunk_count b.last b.messages c)
       (sym (first_reason-map refused_code (reasons limits.max_message_size limits.max_chunk_count b.last b.messages c))
       ∙ none_then (ids_reasons c channel (last_used b) (issued b)) (rows_of c) (sym (judged_sends limits channel b c) ∙ e)))
 

@@ -23,9 +23,9 @@ use Rattle.ua_channel.specs.Content.{Content, Opening, content}
 use Rattle.ua_channel.specs.Content.Content.{Opens, Sends}
 use Rattle.ua_channel_laws.specs.Conversation.{IsGoodRequest, IsOrderOpen, MayCarry}
 use Rattle.ua_channel_laws.specs.Merges.{CarriesEither, IsChunkHere, MayComeNext, ServerMerge, ended_by, is_message_under}
-use Rattle.ua_channel_laws.specs.Merges.{latest_or, told_by_merged, told_of_merge, token_in, tokens_told, with_merged}
+use Rattle.ua_channel_laws.specs.Merges.{latest_or, told_by_merged, told_of_merge, token_issued, tokens_told, with_merged}
 use Rattle.ua_channel.specs.Received.{Received, after, chunks_in, messages, numbers, openings, openings_in, received, tokens_in, used_tokens}
-use Rattle.ua_channel_laws.specs.ServerMessages.{message_in, message_of, messages_in}
+use Rattle.ua_channel_laws.specs.ServerMessages.{message_in, message_of_item, messages_in}
 use Rattle.ua_channel_laws.specs.ServerReads.{AtServer, ServerReads}
 use Rattle.ua_channel.specs.ServerRefusals.{last_used}
 use Rattle.ua_channel.specs.ServerRules.{receive_size, server_rules}
@@ -56,7 +56,7 @@ request_token channel count token o g = token_opened token o.numbers o.body g.re
 
 -- ---- messages of one request id
 
-message_names : (id : ℕ) (d : Item) → is_message_under id (message_of d) ≡ is_item_of id d
+message_names : (id : ℕ) (d : Item) → is_message_under id (message_of_item d) ≡ is_item_of id d
 message_names id (Whole i octets) = refl
 message_names id (Aborted i code reason) = refl
 
@@ -168,7 +168,7 @@ module _ (limits : Limits) (channel : ℕ) (at : AtServer) (base : List Chunk) w
       let later : List Told = each_from (λ vs g. told_by_merged ms (at.issued + length (openings vs)) (content g)) (us ++ f ∷ []) fs in
       let next : (at.issued + length (openings (us ++ f ∷ []))) + 1 ≡ ((at.issued + length (openings us)) + 1) + length (openings_in (content f)) =
       omega (arith, ap length (openings-more us f), length-append (openings us) (openings_in (content f))) in
-      flat_map-append token_in (told_by_merged ms (at.issued + length (openings us)) (content f)) later
+      flat_map-append token_issued (told_by_merged ms (at.issued + length (openings us)) (content f)) later
       ∙ (ap (λ (ts : List ℕ). ts ++ tokens_told later) (token_at ms us (at.issued + length (openings us)) (content f) may.0.1)
       ∙ (ap (λ (ts : List ℕ). here ++ ts) (tokens_from ms (us ++ f ∷ []) fs may.1)
       ∙ (ap (λ (n : ℕ). here ++ range_with_len n (length (openings fs))) next
@@ -258,16 +258,16 @@ module _ (limits : Limits) (channel : ℕ) (octets : List ℕ) (told : List Told
     none_open = ap open_ids there.messages_are ∙ closed_fresh base (messages more) r.none_open merge.none_open;
   }
 
-  pub reads_messages : messages_in (told_of_merge ms at.issued more) ≡ map message_of (outcomes ms (messages more))
+  pub reads_messages : messages_in (told_of_merge ms at.issued more) ≡ map message_of_item (outcomes ms (messages more))
   reads_messages =
-      told_new messages_in message_of told (told_of_merge ms at.issued more) base (messages more) (outcomes ms (messages more))
+      told_new messages_in message_of_item told (told_of_merge ms at.issued more) base (messages more) (outcomes ms (messages more))
       (flat_map-append message_in told (told_of_merge ms at.issued more)) r.none_open merge.all
       (ap messages_in (sym r.told_is) ∙ messages_delivered limits channel r.frames)
       (ap messages_in (sym tells_all)
-      ∙ (messages_delivered limits channel (r.frames ++ more) ∙ ap (λ (cs : List Chunk). map message_of (delivered cs)) there.messages_are))
+      ∙ (messages_delivered limits channel (r.frames ++ more) ∙ ap (λ (cs : List Chunk). map message_of_item (delivered cs)) there.messages_are))
 
-  pub reads_once : (id : ℕ) → filter (is_message_under id) (messages_in (told_of_merge ms at.issued more)) ≡ map message_of (outcome_under (sent_under id ms))
-  reads_once id = ap (filter (is_message_under id)) reads_messages ∙ outcomes_once limits ms (messages more) m.merged message_of (is_message_under id) id
+  pub reads_once : (id : ℕ) → filter (is_message_under id) (messages_in (told_of_merge ms at.issued more)) ≡ map message_of_item (outcome_under (sent_under id ms))
+  reads_once id = ap (filter (is_message_under id)) reads_messages ∙ outcomes_once limits ms (messages more) m.merged message_of_item (is_message_under id) id
       (message_names id)
 
   pub reads_tokens : tokens_told (told_of_merge ms at.issued more) ≡ range_with_len (at.issued + 1) (length (openings more))

@@ -12,7 +12,7 @@ use Rattle.ua_opening.specs.declared.secure_channel.OpenRequest.{OpenRequest}
 use Rattle.ua_channel.specs.Content.{Content}
 use Rattle.ua_channel.specs.Content.Content.{Greets, Acks, Fails, Opens, Sends, Closes, Nothing}
 use Rattle.ua_channel.specs.Received.{Received, received}
-use Rattle.ua_channel_laws.specs.ServerMessages.{message_in, message_of, messages_in}
+use Rattle.ua_channel_laws.specs.ServerMessages.{message_in, message_of_item, messages_in}
 use Rattle.ua_channel.specs.ServerRules.{server_rules}
 use Rattle.ua_channel.specs.ServerTold.{issued, opened_by, request_of, server_tells, told_under}
 use Rattle.ua_channel.proofs.OneFrameMore.{found_all, given_in}
@@ -20,7 +20,7 @@ use Rattle.ua_channel.proofs.OneFrameMore.{found_all, given_in}
 abbrev Message : Type 0
 Message = ℕ × Option (List ℕ)
 
-items_in : (token : ℕ) (items : List Item) → messages_in (map (told_under token) items) ≡ map message_of items
+items_in : (token : ℕ) (items : List Item) → messages_in (map (told_under token) items) ≡ map message_of_item items
 items_in token [] = refl
 items_in token (Whole id octets ∷ is) = ap (λ (ms : List Message). (id, Some octets) ∷ ms) (items_in token is)
 items_in token (Aborted id code reason ∷ is) = ap (λ (ms : List Message). (id, None) ∷ ms) (items_in token is)
@@ -30,7 +30,7 @@ no_message token (Some n) (Some r) = refl
 no_message token (Some n) None = refl
 no_message token None r = refl
 
-message_told : (limits : Limits) (b : Received) (c : Content) → messages_in (server_tells limits b c) ≡ map message_of (given_in b c)
+message_told : (limits : Limits) (b : Received) (c : Content) → messages_in (server_tells limits b c) ≡ map message_of_item (given_in b c)
 message_told limits b (Greets (Some h)) = refl
 message_told limits b (Greets None) = refl
 message_told limits b (Acks ack) = refl
@@ -41,6 +41,6 @@ message_told limits b (Closes c) = refl
 message_told limits b Nothing = refl
 
 pub messages_delivered : (limits : Limits) (channel : ℕ) (frames : List Frame) → messages_in (events (server_rules limits channel) frames)
-    ≡ map message_of (delivered (received frames).messages)
+    ≡ map message_of_item (delivered (received frames).messages)
 unfolding each_after
-messages_delivered limits channel frames = found_all messages_in message_of (server_tells limits) refl (flat_map-append message_in) (message_told limits) frames
+messages_delivered limits channel frames = found_all messages_in message_of_item (server_tells limits) refl (flat_map-append message_in) (message_told limits) frames

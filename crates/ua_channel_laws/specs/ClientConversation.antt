@@ -16,7 +16,7 @@ use Rattle.ua_chunk.specs.Opening.{SecurityHeader, is_none_policy, policy_of}
 use Rattle.ua_chunk.specs.declared.chunk.Chunk.{Chunk}
 use Rattle.ua_channel.specs.Asks.{Asking, Placed, asked_before, end_of, is_in, pending_calls}
 use Rattle.ua_channel.specs.ClientTable.{client_gate, is_awaited, is_other, is_outside}
-use Rattle.ua_channel.specs.ClientTokens.{answer_in, channel_in, held_tokens, opened_ids, responses}
+use Rattle.ua_channel.specs.ClientTokens.{answer_in, first_channel, held_tokens, opened_ids, open_responses}
 use Rattle.ua_channel.specs.Content.{Content, Opening, content}
 use Rattle.ua_channel.specs.Content.Content.{Acks, Fails, Opens, Sends}
 use Rattle.ua_channel_laws.specs.Conversation.{AreOrdered, FitMessages, IsFramed}
@@ -87,8 +87,8 @@ abbrev pub MayCarryBack : Limits → Received → List Asking → Content → Ty
 MayCarryBack limits before asked (Acks ack) = IsGoodAck limits ack
 MayCarryBack limits before asked (Fails error) = ⊥
 MayCarryBack limits before asked (Opens o) =
-    IsGoodResponse (channel_in (responses before.openings)) (held_tokens before) (is_awaited (responses before.openings) (opened_ids before.openings) asked) o
-MayCarryBack limits before asked (Sends c) = IsGoodReply (channel_in (responses before.openings)) (held_tokens before) (pending_calls before.messages asked) c
+    IsGoodResponse (first_channel (open_responses before.openings)) (held_tokens before) (is_awaited (open_responses before.openings) (opened_ids before.openings) asked) o
+MayCarryBack limits before asked (Sends c) = IsGoodReply (first_channel (open_responses before.openings)) (held_tokens before) (pending_calls before.messages asked) c
 MayCarryBack limits before asked other = Unit {0}
 
 -- a conversation at a client with these limits and operations

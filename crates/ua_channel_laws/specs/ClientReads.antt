@@ -17,7 +17,7 @@ use Rattle.ua_chunk.specs.declared.lane.Lane.{Lane}
 use Rattle.ua_channel.specs.Asks.{Asking, Placed, asked_in, id_of, is_in, next_id, pending_calls, pending_renewals}
 use Rattle.ua_channel.specs.ClientAsks.{call_lane}
 use Rattle.ua_channel.specs.ClientTable.{client_rules}
-use Rattle.ua_channel.specs.ClientTokens.{channel_in, from_last, held_tokens, opened_ids, responses}
+use Rattle.ua_channel.specs.ClientTokens.{first_channel, from_last, held_tokens, opened_ids, open_responses}
 use Rattle.ua_channel.specs.ClientTold.{ClientTold, ClientTold as told}
 use Rattle.ua_channel.specs.Received.{latest, nothing_received, received}
 
@@ -59,7 +59,7 @@ pub record ClientReads (limits : Limits) (asks : List Placed) (octets : List ℕ
   pub ack_is : (received frames).ack ≡ Some at.ack
   pub large : 8192 ≤ at.ack.send_buffer_size
   pub sized : at.ack.send_buffer_size < 2 ^ 32
-  pub channel_is : channel_in (responses (received frames).openings) ≡ Some at.channel
+  pub channel_is : first_channel (open_responses (received frames).openings) ≡ Some at.channel
   pub tokens_are : held_tokens (received frames) ≡ at.tokens
   pub newest_is : latest at.tokens ≡ Some at.newest
   pub pending_are : pending_calls (received frames).messages (asked_in asks) ≡ at.pending

@@ -15,7 +15,7 @@ use Rattle.ua_chunk.specs.Abort.{is_readable_abort}
 use Rattle.ua_chunk.specs.Flag.{is_abort_flag}
 use Rattle.ua_chunk.specs.Gathered.{gathered, joined}
 use Rattle.ua_chunk.specs.declared.flag.Flag.TheVariants.{A}
-use Rattle.ua_chunk.specs.Opening.{SecurityHeader, channel_of, is_none_policy, policy_of}
+use Rattle.ua_chunk.specs.Opening.{SecurityHeader, channel_of_header, is_none_policy, policy_of}
 use Rattle.ua_chunk.specs.Refusal.{FewOpen, passes}
 use Rattle.ua_chunk.specs.Sequence.{may_follow}
 use Rattle.ua_chunk.specs.declared.chunk.Chunk.{Chunk}
@@ -91,7 +91,7 @@ pub record IsGoodRequest (channel count : ℕ) (o : Opening) : Type 0 where
   pub request_is : request_of o ≡ Some request
   pub type_is : IsTrue (int_eq request.request_type (pos (type_wanted count)))
   pub mode_is : IsTrue (int_eq request.security_mode (pos 1))
-  pub on : IsTrue (count == 0 || channel_of header == channel)
+  pub on : IsTrue (count == 0 || channel_of_header header == channel)
   pub left : IsFalse (count == 4294967295)
 
 -- a chunk of a message or of the close: on this channel, under a token that is accepted at its

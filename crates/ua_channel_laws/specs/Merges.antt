@@ -22,7 +22,7 @@ use Rattle.ua_opening.specs.declared.secure_channel.OpenResponse.{OpenResponse}
 use Rattle.ua_channel.specs.Asks.{Asking, Placed, asked_before, asked_in, calls, end_of, id_of, is_finished, is_in, next_id, renewals}
 use Rattle.ua_channel_laws.specs.ClientConversation.{IsGoodReply, IsGoodResponse}
 use Rattle.ua_channel_laws.specs.ClientReads.{AtClient}
-use Rattle.ua_channel.specs.ClientTokens.{answer_in, held_by, opened_ids, response_listed, responses, tokens_of}
+use Rattle.ua_channel.specs.ClientTokens.{answer_in, held_by, opened_ids, response_listed, open_responses, tokens_of}
 use Rattle.ua_channel.specs.ClientTold.{ClientTold, ClientTold as client_told, told_item}
 use Rattle.ua_channel.specs.Content.{Content, Opening, content}
 use Rattle.ua_channel.specs.Content.Content.{Opens, Sends}
@@ -128,13 +128,13 @@ abbrev pub told_of_merge : List Sent → ℕ → List Frame → List Told
 told_of_merge ms count more = each_from (λ us f. told_by_merged ms (count + length (openings us)) (content f)) [] more
 
 -- the token that is issued, if one is
-abbrev pub token_in : Told → List ℕ
-token_in (Opened id handle token lifetime) = token ∷ []
-token_in other = []
+abbrev pub token_issued : Told → List ℕ
+token_issued (Opened id handle token lifetime) = token ∷ []
+token_issued other = []
 
 -- the tokens that are issued, in order
 abbrev pub tokens_told : List Told → List ℕ
-tokens_told told = flat_map token_in told
+tokens_told told = flat_map token_issued told
 
 -- what is told of a message has this RequestId
 abbrev pub is_message_under : ℕ → ℕ × Option (List ℕ) → Bool
@@ -151,8 +151,8 @@ placed_later n asks = map (λ (a : Placed). (n + a.0, a.1)) asks
 -- ended the reply are unanswered, and so are the renewals that no OPN answered
 abbrev pub with_merged_back : AtClient → List Asking → List Frame → ℕ → AtClient
 with_merged_back at asked more next = record at {
-  tokens = held_by (latest (used_tokens more)) (at.tokens ++ tokens_of (responses (openings more)));
-  newest = latest_or at.newest (tokens_of (responses (openings more)));
+  tokens = held_by (latest (used_tokens more)) (at.tokens ++ tokens_of (open_responses (openings more)));
+  newest = latest_or at.newest (tokens_of (open_responses (openings more)));
   pending = filter (λ (id : ℕ). not (is_finished (messages more) id)) (at.pending ++ calls asked);
   renewals = filter (λ (id : ℕ). not (is_in id (opened_ids (openings more)))) (at.renewals ++ renewals asked);
   next = next;

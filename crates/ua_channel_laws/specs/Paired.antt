@@ -20,8 +20,8 @@ abbrev pub delivered_under : ℕ → List Chunk → List Item
 delivered_under id cs = filter (is_item_of id) (delivered cs)
 
 -- a RequestId with the first that chunks deliver under it, if they deliver something
-abbrev pub with_first : List Chunk → ℕ → ℕ × Option Item
-with_first cs id = (id, first (delivered_under id cs))
+abbrev pub with_first_item : List Chunk → ℕ → ℕ × Option Item
+with_first_item cs id = (id, first (delivered_under id cs))
 
 -- a RequestId with all that chunks deliver under it
 abbrev pub with_all : List Chunk → ℕ → ℕ × List Item
@@ -34,7 +34,7 @@ as_list p = (p.0, listed p.1)
 -- each call, by its RequestId, with what chunks deliver under that, if they do: a whole message, or
 -- the code with which it was aborted
 unfoldable pub paired : List Asking → List Chunk → List (ℕ × Option Item)
-paired asked cs = map (with_first cs) (calls asked)
+paired asked cs = map (with_first_item cs) (calls asked)
 
 -- it is told of a call: the reply to it, or that the server aborted it
 abbrev pub is_of_call : ClientTold → Bool

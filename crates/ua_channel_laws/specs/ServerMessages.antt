@@ -18,6 +18,6 @@ abbrev pub messages_in : List Told → List (ℕ × Option (List ℕ))
 messages_in told = flat_map message_in told
 
 -- what chunks deliver, in this form
-abbrev pub message_of : Item → ℕ × Option (List ℕ)
-message_of (Whole id octets) = (id, Some octets)
-message_of (Aborted id code reason) = (id, None)
+abbrev pub message_of_item : Item → ℕ × Option (List ℕ)
+message_of_item (Whole id octets) = (id, Some octets)
+message_of_item (Aborted id code reason) = (id, None)

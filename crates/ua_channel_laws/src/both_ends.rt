@@ -38,7 +38,7 @@ ghost use Rattle.ua_channel.specs.ClientSends.{close_frame, first_open, hello_fr
 ghost use Rattle.ua_channel.specs.Client.{call_refused, client_limits, ClientEnded, ClientGoes, ClientStands};
 ghost use Rattle.ua_channel.specs.Client.{closing_refused, renewal_refused, SendsCall, SendsClosing, SendsRenewal};
 ghost use Rattle.ua_channel.specs.ClientTable.{client_rules};
-ghost use Rattle.ua_channel.specs.ClientTokens.{channel_in, held_tokens, opened_ids, responses};
+ghost use Rattle.ua_channel.specs.ClientTokens.{first_channel, held_tokens, opened_ids, open_responses};
 ghost use Rattle.ua_channel.specs.ClientTold.{ClientTold, ClientTold as client_told, Why};
 ghost use Rattle.ua_channel_laws.specs.ServerReads.{AtServer, IsBodyFor, IsLaneTo, IsTakenAt, ServerCloses};
 ghost use Rattle.ua_channel_laws.specs.ServerReads.{ServerReads, greeted_at, with_message, with_token};
@@ -181,7 +181,7 @@ pub fn client_reads_run()
         → Run (client_rules limits asks) octets frames [] Going →
         AllByRecursion (λ (a : Placed). a.0 ≤ length octets) asks
         → AllByRecursion (λ (a : Asking). id_of a < next_id (asked_in asks)) (asked_in asks) →
-        (channel : ℕ) → channel_in (responses (received frames).openings) ≡ Some channel
+        (channel : ℕ) → first_channel (open_responses (received frames).openings) ≡ Some channel
         → open_ids (received frames).messages ≡ [] →
         (next : ℕ) → IsTrue (may_follow (received frames).last next) → next ≤ 4294966272 →
         (said : Ack) × ((received frames).ack ≡ Some said) × (newest : ℕ)

@@ -18,10 +18,10 @@ ghost use Rattle.ua_channel.specs.Client.{call_refused, closing_refused, renewal
 ghost use Rattle.ua_channel.specs.Client.{ClientGoes, ClientGoesTelling, HasNoChannel, IsClientDone};
 ghost use Rattle.ua_channel.specs.Client.{SendsCall, SendsClosing, SendsRenewal, ClientStands};
 ghost use Rattle.ua_channel.specs.ClientAsks.{call_reasons, closing_reasons, renewing_reasons};
-ghost use Rattle.ua_channel.specs.ClientAsks.{IsCalled, IsClosed, IsRenewed};
+ghost use Rattle.ua_channel.specs.ClientAsks.{IsCalled, IsCloseWith, IsRenewalWith};
 ghost use Rattle.ua_channel_laws.specs.ClientConversation.{ClientConversation, ClientContinues, IsClientConversation};
 ghost use Rattle.ua_channel.specs.ClientTable.{client_rules};
-ghost use Rattle.ua_channel.specs.ClientTokens.{responses};
+ghost use Rattle.ua_channel.specs.ClientTokens.{open_responses};
 ghost use Rattle.ua_channel.specs.ClientTold.{ClientTold, Why, told_item};
 ghost use Rattle.ua_channel_laws.specs.Outgoing.{asks_at};
 ghost use Rattle.ua_channel_laws.specs.Outgoing.Outgoing.{CallWith};
@@ -78,7 +78,7 @@ pub fn client_pairs()
 /// closed; then no operation can be sent.
 pub fn client_is_open()
     ensures stands { (x : ClientChannel) (asks : List Placed) (octets : List ℕ) (frames : List Frame) (rest : List ℕ) →
-        ClientStands x asks octets frames rest → HasNoChannel x ↔ (responses (received frames).openings ≡ []) }
+        ClientStands x asks octets frames rest → HasNoChannel x ↔ (open_responses (received frames).openings ≡ []) }
     ensures done { (x : ClientChannel) → IsClientDone x → HasNoChannel x }
     ensures asks { (x : ClientChannel) (more : ℕ) (body : List ℕ) → HasNoChannel x
         → call_refused x more body ≡ Some NotOpen }
@@ -98,11 +98,11 @@ pub fn client_sends_asked()
     ensures renewal { (x : ClientChannel) (asks : List Placed) (octets : List ℕ) (frames : List Frame) (rest : List ℕ)
         → ClientStands x asks octets frames rest →
         (number : ℕ) (moment : DateTime) (id : ℕ) (out : List ℕ) (next : ℕ) → SendsRenewal x number moment id out next
-        → IsRenewed (received frames) (asked_in asks) number moment id out next }
+        → IsRenewalWith (received frames) (asked_in asks) number moment id out next }
     ensures close { (x : ClientChannel) (asks : List Placed) (octets : List ℕ) (frames : List Frame) (rest : List ℕ)
         → ClientStands x asks octets frames rest →
         (number : ℕ) (moment : DateTime) (out : List ℕ) → SendsClosing x number moment out
-        → IsClosed (received frames) (asked_in asks) number moment out }
+        → IsCloseWith (received frames) (asked_in asks) number moment out }
 {}
 
 /// Why a client refuses an operation, given what it received and sent, wherever the bytes end: no

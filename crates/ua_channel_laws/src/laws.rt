@@ -16,7 +16,7 @@ ghost use Rattle.ua_channel.specs.Agreement.{Agreement, lane_of};
 ghost use Rattle.ua_channel.specs.Content.{content};
 ghost use Rattle.ua_channel_laws.specs.Conversation.{Continues, HasEnded, IsConversation, ServerConversation};
 ghost use Rattle.ua_channel.specs.Received.{after, nothing_received, received};
-ghost use Rattle.ua_channel_laws.specs.ServerMessages.{message_of, messages_in};
+ghost use Rattle.ua_channel_laws.specs.ServerMessages.{message_of_item, messages_in};
 ghost use Rattle.ua_channel.specs.ServerPlaces.{agreed_by};
 ghost use Rattle.ua_channel.specs.ServerRules.{server_rules};
 ghost use Rattle.ua_channel.specs.ServerSends.{RepliesGo};
@@ -88,7 +88,7 @@ pub fn server_is_open()
 pub fn server_tells_delivered()
     ensures { (limits : Limits) (channel : ℕ) (frames : List Frame) →
         messages_in (events (server_rules limits channel) frames)
-        ≡ map message_of (delivered (received frames).messages) }
+        ≡ map message_of_item (delivered (received frames).messages) }
 {}
 
 /// The frames that a server accepts, one after the other, are exactly those of a conversation in

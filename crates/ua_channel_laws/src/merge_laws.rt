@@ -21,7 +21,7 @@ ghost use Rattle.ua_chunk.specs.declared.lane.Lane.{Lane};
 ghost use Rattle.ua_channel.specs.Asks.{Placed, asked_in};
 ghost use Rattle.ua_channel_laws.specs.ClientReads.{AtClient, ClientReads};
 ghost use Rattle.ua_channel.specs.ClientTable.{client_rules};
-ghost use Rattle.ua_channel.specs.ClientTokens.{responses, tokens_of};
+ghost use Rattle.ua_channel.specs.ClientTokens.{open_responses, tokens_of};
 ghost use Rattle.ua_channel.specs.ClientTold.{ClientTold, told_item};
 ghost use Rattle.ua_channel_laws.specs.Conversation.{FitMessages};
 ghost use Rattle.ua_channel_laws.specs.Merges.{AreMerged, ClientMerge, IsCutBody, MayComeNext};
@@ -30,7 +30,7 @@ ghost use Rattle.ua_channel_laws.specs.Merges.{told_merged_back, told_of_merge, 
 ghost use Rattle.ua_channel_laws.specs.Merges.{tokens_told, with_merged, with_merged_back};
 ghost use Rattle.ua_channel_laws.specs.Paired.{told_of_calls};
 ghost use Rattle.ua_channel.specs.Received.{messages, openings};
-ghost use Rattle.ua_channel_laws.specs.ServerMessages.{message_of, messages_in};
+ghost use Rattle.ua_channel_laws.specs.ServerMessages.{message_of_item, messages_in};
 ghost use Rattle.ua_channel_laws.specs.ServerReads.{AtServer, IsBodyFor, ServerReads};
 ghost use Rattle.ua_channel.specs.ServerRules.{server_rules};
 ghost use Rattle.ua_channel.specs.ServerTold.{Told};
@@ -79,13 +79,13 @@ pub fn server_reads_merged()
         (ms : List Sent) (more : List Frame) (next : ℕ) →
         ServerReads limits channel octets told at → MayComeNext (server_rules limits channel) octets first
         → ServerMerge limits channel (record at { next = first }) ms more next →
-        messages_in (told_of_merge ms at.issued more) ≡ map message_of (outcomes ms (messages more)) }
+        messages_in (told_of_merge ms at.issued more) ≡ map message_of_item (outcomes ms (messages more)) }
     ensures once { (limits : Limits) (channel : ℕ) (octets : List ℕ) (told : List Told) (at : AtServer) (first : ℕ)
         (ms : List Sent) (more : List Frame) (next : ℕ) →
         ServerReads limits channel octets told at → MayComeNext (server_rules limits channel) octets first
         → ServerMerge limits channel (record at { next = first }) ms more next →
         (id : ℕ) → filter (is_message_under id) (messages_in (told_of_merge ms at.issued more))
-        ≡ map message_of (outcome_under (sent_under id ms)) }
+        ≡ map message_of_item (outcome_under (sent_under id ms)) }
     ensures tokens { (limits : Limits) (channel : ℕ) (octets : List ℕ) (told : List Told) (at : AtServer) (first : ℕ)
         (ms : List Sent) (more : List Frame) (next : ℕ) →
         ServerReads limits channel octets told at → MayComeNext (server_rules limits channel) octets first
@@ -123,7 +123,7 @@ pub fn client_reads_merged()
         (at : AtClient) (first : ℕ) (ms : List Sent) (more : List Frame) (next : ℕ) →
         ClientReads limits asks octets told at → MayComeNext (client_rules limits asks) octets first
         → ClientMerge limits (record at { next = first }) (asked_in asks) later ms more next →
-        tokens_renewed (told_merged_back ms more) ≡ tokens_of (responses (openings more)) }
+        tokens_renewed (told_merged_back ms more) ≡ tokens_of (open_responses (openings more)) }
     ensures first { (limits : Limits) (asks : List Placed) (octets : List ℕ) (told : List ClientTold) (at : AtClient)
         → ClientReads limits asks octets told at →
         MayComeNext (client_rules limits asks) octets at.next }

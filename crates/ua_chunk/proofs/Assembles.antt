@@ -20,8 +20,8 @@ use Rattle.ua_chunk.specs.Item.{Item}
 use Rattle.ua_chunk.specs.Item.Item.{Whole}
 use Rattle.ua_chunk.specs.Kept.{kept, kept_messages}
 use Rattle.ua_chunk.specs.Open.{open_ids}
-use Rattle.ua_chunk.specs.Pending.{without, is_under, message_of}
-use Rattle.ua_chunk.specs.Refusal.{refusal, passes, most_open, IsFor, OpenWithin}
+use Rattle.ua_chunk.specs.Pending.{without, is_under, message_under_id}
+use Rattle.ua_chunk.specs.Refusal.{chunk_refusal, passes, most_open, IsFor, OpenWithin}
 use Rattle.ua_chunk.specs.Sequence.{may_follow}
 use Rattle.ua_chunk.specs.View.{HasParts}
 use Rattle.ua_chunk.proofs.Bounds.{within_push}
@@ -51,27 +51,27 @@ put_back_flag F cs c = refl
 put_back_flag C cs c = ap (λ m. m ∷ []) (added_is c.request (unfinished c.request cs) c)
 put_back_flag A cs c = refl
 
-pub given_is : (cs : List Chunk) (c : Chunk) (ms : List Pending) (ds : List Item) → ms ≡ kept_messages cs → ds ≡ given_kept (message_of c.request ms) c
+pub given_is : (cs : List Chunk) (c : Chunk) (ms : List Pending) (ds : List Item) → ms ≡ kept_messages cs → ds ≡ given_kept (message_under_id c.request ms) c
     → given cs c ≡ ds
-given_is cs c ms ds e f = sym (given_flag c.flag cs c) ∙ ap (λ m. given_kept m c) (sym (ap (message_of c.request) e ∙ message_is c.request cs)) ∙ sym f
+given_is cs c ms ds e f = sym (given_flag c.flag cs c) ∙ ap (λ m. given_kept m c) (sym (ap (message_under_id c.request) e ∙ message_is c.request cs)) ∙ sym f
 
 -- the parts of what is handed out, where these are the parts that were kept
 pub parts_are : (cs : List Chunk) (c : Chunk) (ms : List Pending) (d : Option Delivered) → ms ≡ kept_messages cs
-    → HasParts d ((message_of c.request ms).message ++ filled (c.body ∷ [])) → HasParts d (bodies (gathered cs c))
+    → HasParts d ((message_under_id c.request ms).message ++ filled (c.body ∷ [])) → HasParts d (bodies (gathered cs c))
 parts_are cs c ms d e h =
     subst (HasParts d)
-    (ap (λ (m : Pending). m.message ++ filled (c.body ∷ [])) (ap (message_of c.request) e ∙ message_is c.request cs)
+    (ap (λ (m : Pending). m.message ++ filled (c.body ∷ [])) (ap (message_under_id c.request) e ∙ message_is c.request cs)
     ∙ sym (bodies_push (unfinished c.request cs) c)) h
 
-pub delivered_is : (cs : List Chunk) (c : Chunk) (ms : List Pending) (ds : List Item) → ms ≡ kept_messages cs → ds ≡ given_kept (message_of c.request ms) c
+pub delivered_is : (cs : List Chunk) (c : Chunk) (ms : List Pending) (ds : List Item) → ms ≡ kept_messages cs → ds ≡ given_kept (message_under_id c.request ms) c
     → delivered (cs ++ c ∷ []) ≡ delivered cs ++ ds
 delivered_is cs c ms ds e f = delivered_push cs c ∙ ap (λ t. delivered cs ++ t) (given_is cs c ms ds e f)
 
 messages_are : (cs : List Chunk) (c : Chunk) (ms new : List Pending) → ms ≡ kept_messages cs
-    → new ≡ without (is_under c.request) ms ++ put_back (message_of c.request ms) c → new ≡ kept_messages (cs ++ c ∷ [])
+    → new ≡ without (is_under c.request) ms ++ put_back (message_under_id c.request ms) c → new ≡ kept_messages (cs ++ c ∷ [])
 messages_are cs c ms new e f =
     f
-    ∙ ap (λ t. without (is_under c.request) t ++ put_back (message_of c.request t) c) e
+    ∙ ap (λ t. without (is_under c.request) t ++ put_back (message_under_id c.request t) c) e
     ∙ ap (λ m. without (is_under c.request) (kept_messages cs) ++ put_back m c) (message_is c.request cs)
     ∙ ap (λ t. without (is_under c.request) (kept_messages cs) ++ t) (put_back_flag c.flag cs c)
     ∙ sym (messages_push cs c)
@@ -125,9 +125,9 @@ chain follows unreadable crowded octets chunks =
 
 pub refusal_is : (a b : Assembler) (cs : List Chunk) (c : Chunk) → Stands a cs → a.chunks < 2 ^ 32 → b.last ≡ a.last → b.octets ≡ a.octets → b.chunks ≡ a.chunks
     → b.pending ≡ without (is_under c.request) a.pending
-    → refusal a.octets a.chunks a.last cs c ≡ refusal_kept b (message_of c.request a.pending) c
+    → chunk_refusal a.octets a.chunks a.last cs c ≡ refusal_kept b (message_under_id c.request a.pending) c
 refusal_is a b cs c s h last octets chunks pending =
-    let m : message_of c.request a.pending ≡ kept c.request (unfinished c.request cs) = ap (message_of c.request) s.unfinished ∙ message_is c.request cs in
+    let m : message_under_id c.request a.pending ≡ kept c.request (unfinished c.request cs) = ap (message_under_id c.request) s.unfinished ∙ message_is c.request cs in
     let p : b.pending ≡ without (is_under c.request) (kept_messages cs) = pending ∙ ap (without (is_under c.request)) s.unfinished in
     ap (λ t. chain (may_follow a.last c.sequence) (is_abort_flag c.flag && not (is_readable_abort c.body)) t
     (not (is_abort_flag c.flag) && passes a.octets (length (joined (gathered cs c))))
@@ -141,14 +141,14 @@ refusal_is a b cs c s h last octets chunks pending =
     (not (is_abort_flag c.flag) && passes a.octets (length (concat t.message) + length c.body))
     (not (is_abort_flag c.flag) && passes a.chunks (t.chunks + 1))) (sym m)
     ∙ ap (λ t. chain (may_follow t c.sequence) (is_abort_flag c.flag && not (is_readable_abort c.body)) (is_more c && ltb 3 (length b.pending))
-    (not (is_abort_flag c.flag) && passes a.octets (length (concat (message_of c.request a.pending).message) + length c.body))
-    (not (is_abort_flag c.flag) && passes a.chunks ((message_of c.request a.pending).chunks + 1))) (sym last)
+    (not (is_abort_flag c.flag) && passes a.octets (length (concat (message_under_id c.request a.pending).message) + length c.body))
+    (not (is_abort_flag c.flag) && passes a.chunks ((message_under_id c.request a.pending).chunks + 1))) (sym last)
     ∙ ap (λ t. chain (may_follow b.last c.sequence) (is_abort_flag c.flag && not (is_readable_abort c.body)) (is_more c && ltb 3 (length b.pending))
-    (not (is_abort_flag c.flag) && passes t (length (concat (message_of c.request a.pending).message) + length c.body))
-    (not (is_abort_flag c.flag) && passes a.chunks ((message_of c.request a.pending).chunks + 1))) (sym octets)
+    (not (is_abort_flag c.flag) && passes t (length (concat (message_under_id c.request a.pending).message) + length c.body))
+    (not (is_abort_flag c.flag) && passes a.chunks ((message_under_id c.request a.pending).chunks + 1))) (sym octets)
     ∙ ap (λ t. chain (may_follow b.last c.sequence) (is_abort_flag c.flag && not (is_readable_abort c.body)) (is_more c && ltb 3 (length b.pending))
-    (not (is_abort_flag c.flag) && passes b.octets (length (concat (message_of c.request a.pending).message) + length c.body))
-    (not (is_abort_flag c.flag) && passes t ((message_of c.request a.pending).chunks + 1))) (sym chunks)
+    (not (is_abort_flag c.flag) && passes b.octets (length (concat (message_under_id c.request a.pending).message) + length c.body))
+    (not (is_abort_flag c.flag) && passes t ((message_under_id c.request a.pending).chunks + 1))) (sym chunks)
 
 some_step : (t : Bool) (f : AssembleFault) (o : Option AssembleFault) (g : AssembleFault) → cond t (Some f) o ≡ Some g → (f ≡ g → IsFor (Some f) g)
     → (o ≡ Some g → IsFor o g) → IsFor (cond t (Some f) o) g
@@ -173,8 +173,8 @@ chain_for follows unreadable crowded octets chunks g e =
     (λ e5. absurd cc)))))
 
 -- a fault that is the first reason is for it
-pub fault_is_for : (octets chunks : ℕ) (last : Option ℕ) (cs : List Chunk) (c : Chunk) (g : AssembleFault) → refusal octets chunks last cs c ≡ Some g
-    → IsFor (refusal octets chunks last cs c) g
+pub fault_is_for : (octets chunks : ℕ) (last : Option ℕ) (cs : List Chunk) (c : Chunk) (g : AssembleFault) → chunk_refusal octets chunks last cs c ≡ Some g
+    → IsFor (chunk_refusal octets chunks last cs c) g
 fault_is_for octets chunks last cs c g e =
     chain_for (may_follow last c.sequence) (is_abort_flag c.flag && not (is_readable_abort c.body)) (ltb most_open (length (open_ids (cs ++ c ∷ []))))
     (not (is_abort_flag c.flag) && passes octets (length (joined (gathered cs c)))) (not (is_abort_flag c.flag) && passes chunks (length (gathered cs c))) g e
@@ -198,8 +198,8 @@ unreadable_after true true crowded octets chunks e = absurd cc
 unreadable_after true false crowded octets chunks e = refl
 
 -- an assembler that took a chunk stands after it
-pub stays : (a b : Assembler) (cs : List Chunk) (c : Chunk) → Stands a cs → refusal a.octets a.chunks a.last cs c ≡ None → b.closed ≡ false
-    → b.octets ≡ a.octets → b.pending ≡ without (is_under c.request) a.pending ++ put_back (message_of c.request a.pending) c → Stands b (cs ++ c ∷ [])
+pub stays : (a b : Assembler) (cs : List Chunk) (c : Chunk) → Stands a cs → chunk_refusal a.octets a.chunks a.last cs c ≡ None → b.closed ≡ false
+    → b.octets ≡ a.octets → b.pending ≡ without (is_under c.request) a.pending ++ put_back (message_under_id c.request a.pending) c → Stands b (cs ++ c ∷ [])
 stays a b cs c s none closed octets pending = record {
   goes_on = closed;
   unfinished = messages_are cs c a.pending b.pending s.unfinished pending;

@@ -10,10 +10,10 @@ use Rattle.ua_chunk.specs.Cutting.{pieces, numbered, chunks_of}
 use Rattle.ua_chunk.specs.Delivered.{delivered, delivered_behind}
 use Rattle.ua_chunk.specs.Gathered.{is_of, is_more}
 use Rattle.ua_chunk.specs.Item.Item.{Whole}
-use Rattle.ua_chunk.specs.Merge.{Part, part_of, Sent, more_part, parts_of, IsWithin, AllWithin, Interleaves, Merges}
+use Rattle.ua_chunk.specs.Merge.{Part, part_of, Sent, more_part, parts_of, IsMessageWithin, AllWithin, Interleaves, Merges}
 use Rattle.ua_chunk.specs.Merge.Interleaves.{none, left}
 use Rattle.ua_chunk.specs.Open.{open_ids}
-use Rattle.ua_chunk.specs.Refusal.{passes, TakesAll, TakesMessages, FewOpen}
+use Rattle.ua_chunk.specs.Refusal.{passes, TakesAllChunks, TakesMessages, FewOpen}
 use Rattle.ua_chunk.specs.Sequence.{follows, may_follow, ordered, next_number}
 use Rattle.ua_chunk.proofs.Fresh.{cut_behind, some_pieces}
 use Rattle.ua_chunk.proofs.Interleaved.{merge_by_id}
@@ -58,11 +58,11 @@ only_sent : (b : Bool) (m n : Sent) → cond b (Some m) None ≡ Some n → m �
 only_sent true m n e = cc
 only_sent false m n e = absurd cc
 
-within_one : (octets chunks : ℕ) (m : Sent) → IsWithin octets chunks m → AllWithin octets chunks (m ∷ [])
-within_one octets chunks m w id n e = subst (IsWithin octets chunks) (only_sent (eqb m.request id) m n e) w
+within_one : (octets chunks : ℕ) (m : Sent) → IsMessageWithin octets chunks m → AllWithin octets chunks (m ∷ [])
+within_one octets chunks m w id n e = subst (IsMessageWithin octets chunks) (only_sent (eqb m.request id) m n e) w
 
 pieces_within : (octets chunks id : ℕ) (p : List ℕ) (ps : List (List ℕ)) → passes octets (length (flat_map (λ p. p) (p ∷ ps))) ≡ false
-    → passes chunks (length (p ∷ ps)) ≡ false → IsWithin octets chunks (sent_of id p ps)
+    → passes chunks (length (p ∷ ps)) ≡ false → IsMessageWithin octets chunks (sent_of id p ps)
 unfolding sent_of
 pieces_within octets chunks id p ps o c = record {
   ending = refl;
@@ -161,7 +161,7 @@ cut_ordered lane last b s id some h =
 
 pub cut_taken : (octets chunks : ℕ) (last : Option ℕ) (lane : Lane) (b : List ℕ) (s id : ℕ) → 0 < lane.room → 0 < length b → may_follow last s ≡ true
     → passes octets (length b) ≡ false → passes chunks (length (pieces lane.room b)) ≡ false
-    → TakesAll octets chunks last [] (chunks_of lane b s id)
+    → TakesAllChunks octets chunks last [] (chunks_of lane b s id)
 cut_taken octets chunks last lane b s id pos some h o c =
     takes_all octets chunks last [] (chunks_of lane b s id) (cut_ordered lane last b s id some h) (cut_messages octets chunks lane b s id pos some o c)
 

@@ -20,7 +20,7 @@ use Rattle.ua_chunk.specs.Item.Item.{Whole}
 use Rattle.ua_chunk.specs.Kept.{kept}
 use Rattle.ua_chunk.specs.Open.{open_ids}
 use Rattle.ua_builtin.specs.Reasons.{first_reason}
-use Rattle.ua_chunk.specs.Refusal.{passes, most_open, message_reasons, message_refusal, refusal}
+use Rattle.ua_chunk.specs.Refusal.{passes, most_open, message_reasons, message_refusal, chunk_refusal}
 use Rattle.ua_chunk.specs.Sequence.{next_number, may_follow}
 use Rattle.ua_chunk.proofs.Bounds.{none_within}
 use Rattle.ua_chunk.proofs.Lists.{filter_append}
@@ -114,7 +114,7 @@ pub fresh_message : (octets chunks : ℕ) (cs ds : List Chunk) (c : Chunk) → o
 fresh_message octets chunks cs ds c none = ap (first_reason) (same_reasons octets chunks cs ds c none)
 
 pub fresh_refusal : (octets chunks : ℕ) (last : Option ℕ) (cs ds : List Chunk) (c : Chunk) → open_ids cs ≡ []
-    → refusal octets chunks last (cs ++ ds) c ≡ refusal octets chunks last ds c
+    → chunk_refusal octets chunks last (cs ++ ds) c ≡ chunk_refusal octets chunks last ds c
 fresh_refusal octets chunks last cs ds c none = ap (λ o. cond (not (may_follow last c.sequence)) (Some Sequence) o) (fresh_message octets chunks cs ds c none)
 
 -- an assembler without unfinished messages stands as after no chunks

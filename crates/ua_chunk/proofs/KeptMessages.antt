@@ -8,7 +8,7 @@ use Rattle.ua_chunk.specs.declared.pending.Pending.{Pending}
 use Rattle.ua_chunk.specs.Gathered.{is_more, unfinished, joined, is_filled, filled, bodies}
 use Rattle.ua_chunk.specs.Kept.{kept, kept_messages}
 use Rattle.ua_chunk.specs.Open.{open_ids}
-use Rattle.ua_chunk.specs.Pending.{without, is_under, message_of, nothing_of}
+use Rattle.ua_chunk.specs.Pending.{without, is_under, message_under_id, nothing_of}
 use Rattle.ua_chunk.proofs.Lists.{map_push, map_same, left_any, filter_append}
 use Rattle.ua_chunk.proofs.OneMore.{open_push, open_gone, not_open, unfinished_other, unfinished_more, eqb_comm}
 
@@ -19,25 +19,25 @@ found_here : (b : Bool) (id j : ℕ) (f : ℕ → List Chunk) (rest : Pending) �
 found_here true id j f rest e h = ap (λ (k : ℕ). kept k (f k)) (eqb-true j id e)
 found_here false id j f rest e h = h refl
 
-found : (id : ℕ) (f : ℕ → List Chunk) (ids : List ℕ) → list_any (λ j. eqb j id) ids ≡ true → message_of id (map (λ j. kept j (f j)) ids) ≡ kept id (f id)
+found : (id : ℕ) (f : ℕ → List Chunk) (ids : List ℕ) → list_any (λ j. eqb j id) ids ≡ true → message_under_id id (map (λ j. kept j (f j)) ids) ≡ kept id (f id)
 found id f [] h = absurd cc
 found id f (j ∷ ids) h =
-    found_here (eqb j id) id j f (message_of id (map (λ j. kept j (f j)) ids)) refl
+    found_here (eqb j id) id j f (message_under_id id (map (λ j. kept j (f j)) ids)) refl
     (λ e. found id f ids (left_any (eqb j id) (list_any (λ j. eqb j id) ids) h e))
 
-missing : (id : ℕ) (f : ℕ → List Chunk) (ids : List ℕ) → list_any (λ j. eqb j id) ids ≡ false → message_of id (map (λ j. kept j (f j)) ids) ≡ nothing_of id
+missing : (id : ℕ) (f : ℕ → List Chunk) (ids : List ℕ) → list_any (λ j. eqb j id) ids ≡ false → message_under_id id (map (λ j. kept j (f j)) ids) ≡ nothing_of id
 missing id f [] h = refl
 missing id f (j ∷ ids) h =
     let parts = or_parts (eqb j id) (list_any (λ j. eqb j id) ids) h in
-    cond-false (eqb j id) (kept j (f j)) (message_of id (map (λ j. kept j (f j)) ids)) parts.0 ∙ missing id f ids parts.1
+    cond-false (eqb j id) (kept j (f j)) (message_under_id id (map (λ j. kept j (f j)) ids)) parts.0 ∙ missing id f ids parts.1
 
 message_case : (b : Bool) (id : ℕ) (cs : List Chunk) → list_any (λ j. eqb j id) (open_ids cs) ≡ b
-    → message_of id (kept_messages cs) ≡ kept id (unfinished id cs)
+    → message_under_id id (kept_messages cs) ≡ kept id (unfinished id cs)
 message_case true id cs e = found id (λ j. unfinished j cs) (open_ids cs) e
 message_case false id cs e = missing id (λ j. unfinished j cs) (open_ids cs) e ∙ ap (kept id) (sym (not_open id cs e))
 
 -- what is kept under an id is what is kept of its chunks
-pub message_is : (id : ℕ) (cs : List Chunk) → message_of id (kept_messages cs) ≡ kept id (unfinished id cs)
+pub message_is : (id : ℕ) (cs : List Chunk) → message_under_id id (kept_messages cs) ≡ kept id (unfinished id cs)
 message_is id cs = message_case (list_any (λ j. eqb j id) (open_ids cs)) id cs refl
 
 -- ---- one more chunk

@@ -13,9 +13,9 @@ use Rattle.ua_chunk.specs.Flag.{is_more_flag, is_abort_flag}
 use Rattle.ua_chunk.specs.Gathered.{is_of, ends, after_last, unfinished, gathered, joined}
 use Rattle.ua_chunk.specs.Item.Item.{Whole}
 use Rattle.ua_chunk.specs.Merge.{Part, part_of, Sent, more_part, last_part, sent_under, parts_under}
-use Rattle.ua_chunk.specs.Merge.{outcome_by, outcome_under, outcomes, bodies_by, IsWithin, AllWithin, IsMerge}
+use Rattle.ua_chunk.specs.Merge.{outcome_by, outcome_under, outcomes, bodies_by, IsMessageWithin, AllWithin, IsMerge}
 use Rattle.ua_chunk.specs.Open.{open_ids}
-use Rattle.ua_chunk.specs.Refusal.{passes, most_open, TakesAll, TakesMessages, FewOpen}
+use Rattle.ua_chunk.specs.Refusal.{passes, most_open, TakesAllChunks, TakesMessages, FewOpen}
 use Rattle.ua_chunk.specs.Sequence.{ordered}
 use Rattle.ua_chunk.proofs.Assembles.{chain}
 use Rattle.ua_chunk.proofs.Bounds.{fewer}
@@ -191,7 +191,7 @@ holds_pieces F m octets count h k = (
 holds_pieces C m octets count h k = (h, k)
 holds_pieces A m octets count h k = (h, k)
 
-fits_among : (octets chunks : ℕ) (m : Sent) (before : List Chunk) (c : Chunk) (ps1 ps2 : List (List ℕ)) (q : List ℕ) → IsWithin octets chunks m
+fits_among : (octets chunks : ℕ) (m : Sent) (before : List Chunk) (c : Chunk) (ps1 ps2 : List (List ℕ)) (q : List ℕ) → IsMessageWithin octets chunks m
     → m.pieces ≡ ps1 ++ q ∷ ps2 → Gathers before c ps1 → c.body ≡ q → Fits octets chunks before c
 fits_among octets chunks m before c ps1 ps2 q w parts_is g body =
     let all : flat_map (λ p. p) m.pieces ≡ flat_map (λ p. p) ps1 ++ (q ++ flat_map (λ p. p) ps2) = ap (flat_map (λ p. p)) parts_is
@@ -206,7 +206,7 @@ fits_among octets chunks m before c ps1 ps2 q w parts_is g body =
       chunks_fit = fewer chunks (length (gathered before c)) (length (bodies_by m.end m)) some.1 w.chunks_fit;
     }
 
-fits_whole : (octets chunks : ℕ) (m : Sent) (before : List Chunk) (c : Chunk) → m.end ≡ F → IsWithin octets chunks m → Gathers before c m.pieces
+fits_whole : (octets chunks : ℕ) (m : Sent) (before : List Chunk) (c : Chunk) → m.end ≡ F → IsMessageWithin octets chunks m → Gathers before c m.pieces
     → c.body ≡ m.last → Fits octets chunks before c
 fits_whole octets chunks m before c end w g body =
     let bodies : bodies_by m.end m ≡ m.pieces ++ m.last ∷ [] = ap (λ f. bodies_by f m) end in
@@ -227,7 +227,7 @@ fits_whole octets chunks m before c end w g body =
           (omega (arith, g.count, ap length bodies, length-append m.pieces (m.last ∷ []))) w.chunks_fit;
     }
 
-fine_last : (f : Flag) (octets chunks : ℕ) (m : Sent) (before : List Chunk) (c : Chunk) → m.end ≡ f → IsWithin octets chunks m → Gathers before c m.pieces
+fine_last : (f : Flag) (octets chunks : ℕ) (m : Sent) (before : List Chunk) (c : Chunk) → m.end ≡ f → IsMessageWithin octets chunks m → Gathers before c m.pieces
     → part_of c ≡ last_part m → Fine octets chunks before c
 fine_last F octets chunks m before c end w g e =
     fine_counted octets chunks before c (ap (λ (p : Part). is_abort_flag p.flag) e ∙ ap is_abort_flag end)
@@ -237,7 +237,7 @@ fine_last A octets chunks m before c end w g e =
     fine_abort octets chunks before c (ap (λ (p : Part). is_abort_flag p.flag) e ∙ ap is_abort_flag end) (ap (λ (p : Part). is_readable_abort p.body) e
     ∙ w.readable end)
 
-fine_front : (octets chunks : ℕ) (m : Sent) (before : List Chunk) (c : Chunk) (ys : List Part) → IsWithin octets chunks m
+fine_front : (octets chunks : ℕ) (m : Sent) (before : List Chunk) (c : Chunk) (ys : List Part) → IsMessageWithin octets chunks m
     → Front m.request m.pieces (last_part m) (map part_of (filter (is_of c.request) before)) ys (part_of c) → Fine octets chunks before c
 fine_front octets chunks m before c ys w (among ps1 ps2 q parts_is xs_is y_is) =
     fine_counted octets chunks before c (ap (λ (p : Part). is_abort_flag p.flag) y_is)
@@ -245,7 +245,7 @@ fine_front octets chunks m before c ys w (among ps1 ps2 q parts_is xs_is y_is) =
 fine_front octets chunks m before c ys w (at_end xs_is y_is) =
     fine_last m.end octets chunks m before c refl w (gathers m.request m.pieces before c xs_is) y_is
 
-fine_under : (octets chunks : ℕ) (before : List Chunk) (c : Chunk) (rest : List Part) (o : Option Sent) → ((m : Sent) → o ≡ Some m → IsWithin octets chunks m)
+fine_under : (octets chunks : ℕ) (before : List Chunk) (c : Chunk) (rest : List Part) (o : Option Sent) → ((m : Sent) → o ≡ Some m → IsMessageWithin octets chunks m)
     → map part_of (filter (is_of c.request) before) ++ part_of c ∷ rest ≡ parts_under o → Fine octets chunks before c
 fine_under octets chunks before c rest None w h = absurd (no_more (map part_of (filter (is_of c.request) before)) rest (part_of c) h)
 fine_under octets chunks before c rest (Some m) w h = fine_front octets chunks m before c rest (w m refl)
@@ -275,6 +275,6 @@ messages_behind octets chunks ms before (c ∷ cs) within merge few =
     )
 
 pub takes_behind : (octets chunks : ℕ) (ms : List Sent) (last : Option ℕ) (before cs : List Chunk) → AllWithin octets chunks ms → IsMerge ms (before ++ cs)
-    → ordered last cs ≡ true → FewOpen before cs → TakesAll octets chunks last before cs
+    → ordered last cs ≡ true → FewOpen before cs → TakesAllChunks octets chunks last before cs
 takes_behind octets chunks ms last before cs within merge order few =
     takes_all octets chunks last before cs order (messages_behind octets chunks ms before cs within merge few)

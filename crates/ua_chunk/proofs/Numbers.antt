@@ -4,7 +4,7 @@ use Rattle.std.proofs.lemmas.Bool.{and_parts}
 use Rattle.ua_chunk.specs.declared.chunk.Chunk.{Chunk}
 use Rattle.ua_chunk.specs.declared.fault.AssembleFault.{AssembleFault}
 use Rattle.ua_chunk.specs.declared.fault.AssembleFault.TheVariants.{Sequence}
-use Rattle.ua_chunk.specs.Refusal.{refusal, message_refusal, TakesAll, TakesMessages}
+use Rattle.ua_chunk.specs.Refusal.{chunk_refusal, message_refusal, TakesAllChunks, TakesMessages}
 use Rattle.ua_chunk.specs.Sequence.{may_follow, ordered}
 
 apart_by : (follows : Bool) (message : Option AssembleFault) → cond (not follows) (Some Sequence) message ≡ None → (follows ≡ true) × (message ≡ None)
@@ -12,14 +12,14 @@ apart_by true message e = (refl, e)
 apart_by false message e = absurd cc
 
 pub apart : (octets chunks : ℕ) (last : Option ℕ) (cs : List Chunk) (c : Chunk)
-    → (refusal octets chunks last cs c ≡ None) ↔ ((may_follow last c.sequence ≡ true) × (message_refusal octets chunks cs c ≡ None))
+    → (chunk_refusal octets chunks last cs c ≡ None) ↔ ((may_follow last c.sequence ≡ true) × (message_refusal octets chunks cs c ≡ None))
 apart octets chunks last cs c = (
   λ e. apart_by (may_follow last c.sequence) (message_refusal octets chunks cs c) e,
   λ h. ap (λ b. cond (not b) (Some Sequence) (message_refusal octets chunks cs c)) h.0 ∙ h.1,
 )
 
 pub takes_all : (octets chunks : ℕ) (last : Option ℕ) (before cs : List Chunk) → ordered last cs ≡ true → TakesMessages octets chunks before cs
-    → TakesAll octets chunks last before cs
+    → TakesAllChunks octets chunks last before cs
 takes_all octets chunks last before [] order taken = tt
 takes_all octets chunks last before (c ∷ cs) order taken =
     let follow = and_parts (may_follow last c.sequence) (ordered (Some c.sequence) cs) order in

@@ -11,7 +11,7 @@ use Rattle.ua_chunk.specs.Abort.{abort_of, is_readable_abort}
 use Rattle.ua_chunk.specs.Delivered.{given, given_by, delivered, delivered_behind, aborted}
 use Rattle.ua_chunk.specs.Flag.{is_more_flag, is_abort_flag}
 use Rattle.ua_chunk.specs.Gathered.{ends, gathered, joined}
-use Rattle.ua_chunk.specs.Merge.{id_of}
+use Rattle.ua_chunk.specs.Merge.{id_of_item}
 use Rattle.ua_chunk.specs.Open.{open_ids, open_octets}
 use Rattle.ua_chunk.specs.Refusal.{passes, most_open, message_refusal, OpenWithin, TakesMessages}
 use Rattle.ua_chunk.proofs.Assembles.{few_after, large_after, unreadable_after}
@@ -58,7 +58,7 @@ held_bounded octets chunks cs some taken =
 
 -- ---- what is delivered
 
-aborted_id : (id : ℕ) (o : Option (StatusCode × Option (List ℕ))) → is_some o ≡ true → map id_of (aborted id o) ≡ id ∷ []
+aborted_id : (id : ℕ) (o : Option (StatusCode × Option (List ℕ))) → is_some o ≡ true → map id_of_item (aborted id o) ≡ id ∷ []
 aborted_id id None e = absurd cc
 aborted_id id (Some a) e = refl
 
@@ -67,7 +67,7 @@ not_unreadable true e = refl
 not_unreadable false e = absurd cc
 
 given_ids : (f : Flag) (before : List Chunk) (c : Chunk) → (is_abort_flag f && not (is_readable_abort c.body)) ≡ false
-    → map id_of (given_by f before c) ≡ cond (not (is_more_flag f)) (c.request ∷ []) []
+    → map id_of_item (given_by f before c) ≡ cond (not (is_more_flag f)) (c.request ∷ []) []
 given_ids F before c e = refl
 given_ids C before c e = refl
 given_ids A before c e = aborted_id c.request (abort_of c.body) (not_unreadable (is_readable_abort c.body) e)
@@ -78,14 +78,14 @@ ended_one true c rest = refl
 ended_one false c rest = refl
 
 ids_behind : (octets chunks : ℕ) (before cs : List Chunk) → TakesMessages octets chunks before cs
-    → map id_of (delivered_behind before cs) ≡ map (λ (c : Chunk). c.request) (filter ends cs)
+    → map id_of_item (delivered_behind before cs) ≡ map (λ (c : Chunk). c.request) (filter ends cs)
 ids_behind octets chunks before [] taken = refl
 ids_behind octets chunks before (c ∷ cs) taken =
-    map_push id_of (given before c) (delivered_behind (before ++ c ∷ []) cs)
-    ∙ ap (λ t. t ++ map id_of (delivered_behind (before ++ c ∷ []) cs)) (given_ids c.flag before c (good octets chunks before c taken.0).readable)
+    map_push id_of_item (given before c) (delivered_behind (before ++ c ∷ []) cs)
+    ∙ ap (λ t. t ++ map id_of_item (delivered_behind (before ++ c ∷ []) cs)) (given_ids c.flag before c (good octets chunks before c taken.0).readable)
     ∙ ap (λ t. cond (ends c) (c.request ∷ []) [] ++ t) (ids_behind octets chunks (before ++ c ∷ []) cs taken.1)
     ∙ ended_one (ends c) c (filter ends cs)
 
 pub delivered_ids : (octets chunks : ℕ) (cs : List Chunk) → TakesMessages octets chunks [] cs
-    → map id_of (delivered cs) ≡ map (λ (c : Chunk). c.request) (filter ends cs)
-delivered_ids octets chunks cs taken = ap (map id_of) (delivered_from cs) ∙ ids_behind octets chunks [] cs taken
+    → map id_of_item (delivered cs) ≡ map (λ (c : Chunk). c.request) (filter ends cs)
+delivered_ids octets chunks cs taken = ap (map id_of_item) (delivered_from cs) ∙ ids_behind octets chunks [] cs taken

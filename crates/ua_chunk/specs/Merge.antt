@@ -80,7 +80,7 @@ bodies_by C m = m.pieces
 bodies_by A m = m.pieces
 
 -- a message within the limits that ends in an F, or in an A that can be decoded
-pub record IsWithin (octets chunks : ℕ) (m : Sent) : Type 0 where
+pub record IsMessageWithin (octets chunks : ℕ) (m : Sent) : Type 0 where
   pub ending : is_more_flag m.end ≡ false
   pub readable : m.end ≡ A → is_readable_abort m.last ≡ true
   pub octets_fit : passes octets (length (flat_map (λ p. p) (bodies_by m.end m))) ≡ false
@@ -88,7 +88,7 @@ pub record IsWithin (octets chunks : ℕ) (m : Sent) : Type 0 where
 
 -- each message that is under a RequestId is within the limits of bytes and of chunks
 abbrev pub AllWithin : ℕ → ℕ → List Sent → Type 0
-AllWithin octets chunks ms = (id : ℕ) (m : Sent) → sent_under id ms ≡ Some m → IsWithin octets chunks m
+AllWithin octets chunks ms = (id : ℕ) (m : Sent) → sent_under id ms ≡ Some m → IsMessageWithin octets chunks m
 
 -- ---- lists that are merged
 
@@ -116,10 +116,10 @@ IsMerge ms cs = (id : ℕ) → map part_of (filter (is_of id) cs) ≡ parts_unde
 -- ---- under one RequestId
 
 -- the RequestId of an item
-abbrev pub id_of : Item → ℕ
-id_of (Whole id octets) = id
-id_of (Aborted id code reason) = id
+abbrev pub id_of_item : Item → ℕ
+id_of_item (Whole id octets) = id
+id_of_item (Aborted id code reason) = id
 
 -- the item has this RequestId
 abbrev pub is_item_of : ℕ → Item → Bool
-is_item_of id d = id_of d == id
+is_item_of id d = id_of_item d == id

@@ -18,8 +18,8 @@ abbrev pub SecurityHeader : Type 0
 SecurityHeader = ℕ × (Option (List ℕ) × (Option (List ℕ) × Option (List ℕ)))
 
 -- the SecureChannelId
-abbrev pub channel_of : SecurityHeader → ℕ
-channel_of header = header.0
+abbrev pub channel_of_header : SecurityHeader → ℕ
+channel_of_header header = header.0
 
 -- the URI of the policy
 abbrev pub policy_of : SecurityHeader → Option (List ℕ)
@@ -59,7 +59,7 @@ opening_behind true channel (Some found) = Some (record { channel = channel; seq
 -- the chunk after a security header, if bytes begin with one
 abbrev pub opening_with : Option (SecurityHeader × List ℕ) → Option OpenChunk
 opening_with None = None
-opening_with (Some found) = opening_behind (is_none_policy (policy_of found.0)) (channel_of found.0) (sequence_header.decode found.1)
+opening_with (Some found) = opening_behind (is_none_policy (policy_of found.0)) (channel_of_header found.0) (sequence_header.decode found.1)
 
 -- the chunk that an OPN frame carries: none where its policy is another one, or where its headers
 -- cannot be decoded

@@ -22,8 +22,8 @@ abbrev pub is_under : ℕ → Pending → Bool
 is_under id m = m.request == id
 
 -- what came under a RequestId
-abbrev pub message_of : ℕ → List Pending → Pending
-message_of id ms = first_of (is_under id) (nothing_of id) ms
+abbrev pub message_under_id : ℕ → List Pending → Pending
+message_under_id id ms = first_of (is_under id) (nothing_of id) ms
 
 -- the bytes of all these messages
 abbrev pub octets_in : List Pending → ℕ

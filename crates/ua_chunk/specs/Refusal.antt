@@ -48,8 +48,8 @@ abbrev pub message_refusal : ℕ → ℕ → List Chunk → Chunk → Option Ass
 message_refusal octets chunks cs c = first_reason (message_reasons octets chunks cs c)
 
 -- why the chunk is rejected: the first reason that holds
-abbrev pub refusal : ℕ → ℕ → Option ℕ → List Chunk → Chunk → Option AssembleFault
-refusal octets chunks last cs c = first_reason (reasons octets chunks last cs c)
+abbrev pub chunk_refusal : ℕ → ℕ → Option ℕ → List Chunk → Chunk → Option AssembleFault
+chunk_refusal octets chunks last cs c = first_reason (reasons octets chunks last cs c)
 
 -- the fault is this reason, or an allocation failed if there is no reason
 abbrev pub IsFor : Option AssembleFault → AssembleFault → Type 0
@@ -62,10 +62,10 @@ IsFor reason OutOfMemory = reason ≡ None
 IsFor reason Closed = ⊥
 
 -- none of the chunks is rejected after those before it
-abbrev pub TakesAll : ℕ → ℕ → Option ℕ → List Chunk → List Chunk → Type 0
-TakesAll octets chunks last before [] = Unit {0}
-TakesAll octets chunks last before (c ∷ cs) =
-    (refusal octets chunks last before c ≡ None) × TakesAll octets chunks (Some c.sequence) (before ++ c ∷ []) cs
+abbrev pub TakesAllChunks : ℕ → ℕ → Option ℕ → List Chunk → List Chunk → Type 0
+TakesAllChunks octets chunks last before [] = Unit {0}
+TakesAllChunks octets chunks last before (c ∷ cs) =
+    (chunk_refusal octets chunks last before c ≡ None) × TakesAllChunks octets chunks (Some c.sequence) (before ++ c ∷ []) cs
 
 -- none of the chunks is rejected for its message after those before it, whatever their numbers
 abbrev pub TakesMessages : ℕ → ℕ → List Chunk → List Chunk → Type 0

@@ -11,9 +11,9 @@ item_of (Whole id message) = items.Whole id (concat message)
 item_of (Aborted id code reason) = items.Aborted id code reason
 
 -- what was returned, or nothing
-abbrev pub items_of : Option Delivered → List Item
-items_of None = []
-items_of (Some d) = item_of d ∷ []
+abbrev pub delivered_items : Option Delivered → List Item
+delivered_items None = []
+delivered_items (Some d) = item_of d ∷ []
 
 -- if a whole message was returned, these are its parts
 abbrev pub HasParts : Option Delivered → List (List ℕ) → Type 0

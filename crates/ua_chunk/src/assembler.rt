@@ -62,9 +62,9 @@ impl Assembler {
     ghost use Rattle.ua_chunk.specs.Assembling.{last_number, refusal_kept, given_kept, put_back};
     ghost use Rattle.ua_chunk.specs.Delivered.{given, delivered};
     ghost use Rattle.ua_chunk.specs.Open.{open_ids, open_octets};
-    ghost use Rattle.ua_chunk.specs.Refusal.{refusal, IsFor};
+    ghost use Rattle.ua_chunk.specs.Refusal.{chunk_refusal, IsFor};
     ghost use Rattle.ua_chunk.specs.Gathered.{filled, bodies, gathered};
-    ghost use Rattle.ua_chunk.specs.View.{items_of, HasParts};
+    ghost use Rattle.ua_chunk.specs.View.{delivered_items, HasParts};
 
     /// An assembler for messages of at most `octets` bytes and `chunks` chunks, 0 meaning no limit,
     /// that continues after the SequenceNumber `last`, if there was one.
@@ -111,7 +111,7 @@ impl Assembler {
     /// Appends a chunk to its message, which was taken out.
     #[inline(always)]
     fn add(&mut self, mut pending: Pending, chunk: Chunk) -> Result<Option<Delivered>, AllocError>
-        ensures given { IfOk result (λ d. items_of d ≡ given_kept pending chunk) }
+        ensures given { IfOk result (λ d. delivered_items d ≡ given_kept pending chunk) }
         ensures parts { IfOk result (λ d. HasParts d (pending.message ++ filled (chunk.body ∷ []))) }
         ensures pending { OnOk result (self.new.pending ≡ self.old.pending ++ put_back pending chunk) }
         ensures last { OnOk result (self.new.last ≡ Some chunk.sequence) }
@@ -143,8 +143,8 @@ impl Assembler {
         // What is returned is what the chunks deliver with this one, and did not deliver without
         // it.
         ensures given { (cs : List Chunk) → Stands self.old cs →
-            IfOk result (λ d. delivered (cs ++ chunk ∷ []) ≡ delivered cs ++ items_of d) }
-        ensures items { (cs : List Chunk) → Stands self.old cs → IfOk result (λ d. given cs chunk ≡ items_of d) }
+            IfOk result (λ d. delivered (cs ++ chunk ∷ []) ≡ delivered cs ++ delivered_items d) }
+        ensures items { (cs : List Chunk) → Stands self.old cs → IfOk result (λ d. given cs chunk ≡ delivered_items d) }
         // The bodies are not joined: the parts are the non-empty bodies of the chunks, in order.
         ensures parts { (cs : List Chunk) → Stands self.old cs
             → IfOk result (λ d. HasParts d (bodies (gathered cs chunk))) }
@@ -155,7 +155,7 @@ impl Assembler {
         // A fault is the first reason that applies. After a fault nothing is taken, and nothing
         // changes.
         ensures faults { (cs : List Chunk) → Stands self.old cs →
-            let reason = refusal (octet_limit self.old) (chunk_limit self.old) (last_number self.old) cs chunk in
+            let reason = chunk_refusal (octet_limit self.old) (chunk_limit self.old) (last_number self.old) cs chunk in
             MatchResult result (λ _. reason ≡ None) (IsFor reason) }
         ensures failed { (cs : List Chunk) → Stands self.old cs → OnErr result (IsClosed self.new) }
         ensures closed { IsClosed self.old → (result ≡ Err AssembleFault.Closed) × IsClosed self.new }

@@ -16,9 +16,9 @@ ghost use Rattle.ua_chunk.specs.Item.Item.{Whole};
 ghost use Rattle.ua_chunk.specs.Layout.{IsChunkOf, chunk_in, frame_of};
 ghost use Rattle.ua_chunk.specs.Opening.{IsOpenChunkOf, opening_in, open_refusal};
 ghost use Rattle.ua_chunk.specs.Merge.{Sent, HaveOwnIds, AllWithin, Merges, IsMerge, parts_of, part_of};
-ghost use Rattle.ua_chunk.specs.Merge.{sent_under, outcome_under, outcomes, id_of, is_item_of};
+ghost use Rattle.ua_chunk.specs.Merge.{sent_under, outcome_under, outcomes, id_of_item, is_item_of};
 ghost use Rattle.ua_chunk.specs.Open.{open_ids, open_octets};
-ghost use Rattle.ua_chunk.specs.Refusal.{FewOpen, TakesAll, TakesMessages, message_refusal, passes, refusal};
+ghost use Rattle.ua_chunk.specs.Refusal.{FewOpen, TakesAllChunks, TakesMessages, message_refusal, passes, chunk_refusal};
 ghost use Rattle.ua_chunk.specs.Sequence.{ordered, may_follow};
 ghost use Rattle.ua_chunk.specs.declared.assembler.Assembler.{Assembler};
 ghost use Rattle.ua_chunk.specs.declared.chunk.Chunk.{Chunk};
@@ -32,7 +32,7 @@ pub fn fresh()
         → Stands assembler [] }
     ensures delivered { (cs ds : List Chunk) → open_ids cs ≡ [] → delivered (cs ++ ds) ≡ delivered cs ++ delivered ds }
     ensures refused { (octets chunks : ℕ) (last : Option ℕ) (cs ds : List Chunk) (c : Chunk) → open_ids cs ≡ [] →
-        refusal octets chunks last (cs ++ ds) c ≡ refusal octets chunks last ds c }
+        chunk_refusal octets chunks last (cs ++ ds) c ≡ chunk_refusal octets chunks last ds c }
     ensures message { (octets chunks : ℕ) (cs ds : List Chunk) (c : Chunk) → open_ids cs ≡ [] →
         message_refusal octets chunks (cs ++ ds) c ≡ message_refusal octets chunks ds c }
 {}
@@ -41,10 +41,10 @@ pub fn fresh()
 /// numbers continue and whose messages are accepted are accepted.
 pub fn numbers_apart()
     ensures one { (octets chunks : ℕ) (last : Option ℕ) (cs : List Chunk) (c : Chunk) →
-        (refusal octets chunks last cs c ≡ None) ↔ (IsTrue (may_follow last c.sequence)
+        (chunk_refusal octets chunks last cs c ≡ None) ↔ (IsTrue (may_follow last c.sequence)
         × (message_refusal octets chunks cs c ≡ None)) }
     ensures all { (octets chunks : ℕ) (last : Option ℕ) (before cs : List Chunk) →
-        IsTrue (ordered last cs) → TakesMessages octets chunks before cs → TakesAll octets chunks last before cs }
+        IsTrue (ordered last cs) → TakesMessages octets chunks before cs → TakesAllChunks octets chunks last before cs }
 {}
 
 /// Chunks within a limit of message bytes leave at most 4 times that many bytes of unfinished
@@ -58,7 +58,7 @@ pub fn held_is_bounded()
 /// other chunk delivers any.
 pub fn delivered_at_ends()
     ensures { (octets chunks : ℕ) (cs : List Chunk) → TakesMessages octets chunks [] cs →
-        map id_of (delivered cs) ≡ map (λ c. c.request) (filter ends cs) }
+        map id_of_item (delivered cs) ≡ map (λ c. c.request) (filter ends cs) }
 {}
 
 /// An interleaving of messages with distinct RequestIds has, under each RequestId, exactly the
@@ -75,7 +75,7 @@ pub fn merge_by_request()
 pub fn merged()
     ensures taken { (octets chunks : ℕ) (last : Option ℕ) (ms : List Sent) (cs : List Chunk) →
         HaveOwnIds ms → AllWithin octets chunks ms → Merges (map parts_of ms) (map part_of cs) →
-        IsTrue (ordered last cs) → FewOpen [] cs → TakesAll octets chunks last [] cs }
+        IsTrue (ordered last cs) → FewOpen [] cs → TakesAllChunks octets chunks last [] cs }
     ensures messages { (octets chunks : ℕ) (ms : List Sent) (cs : List Chunk) →
         HaveOwnIds ms → AllWithin octets chunks ms → Merges (map parts_of ms) (map part_of cs) →
         FewOpen [] cs → TakesMessages octets chunks [] cs }
@@ -93,7 +93,7 @@ pub fn cut_is_delivered()
     ensures taken { (octets chunks : ℕ) (last : Option ℕ) (lane : Lane) (body : List ℕ) (sequence request : ℕ) →
         0 < lane.room → 0 < length body → IsTrue (may_follow last sequence) →
         IsFalse (passes octets (length body)) → IsFalse (passes chunks (length (pieces lane.room body))) →
-        TakesAll octets chunks last [] (chunks_of lane body sequence request) }
+        TakesAllChunks octets chunks last [] (chunks_of lane body sequence request) }
     ensures messages { (octets chunks : ℕ) (lane : Lane) (body : List ℕ) (sequence request : ℕ) →
         0 < lane.room → 0 < length body →
         IsFalse (passes octets (length body)) → IsFalse (passes chunks (length (pieces lane.room body))) →

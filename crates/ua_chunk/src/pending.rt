@@ -56,7 +56,7 @@ impl Model for PendingMessages {
 impl PendingMessages {
     ghost use Rattle.std.specs.Prelude.{◌≡◌, ◌∷◌, ◌++◌, [], length, OnOk, OnErr};
     ghost use Rattle.std.specs.List.{position};
-    ghost use Rattle.ua_chunk.specs.Pending.{octets_in, is_under, message_of, without};
+    ghost use Rattle.ua_chunk.specs.Pending.{octets_in, is_under, message_under_id, without};
 
     /// No messages.
     pub fn new(alloc: Global) -> PendingMessages
@@ -101,7 +101,7 @@ impl PendingMessages {
     /// Takes out the message that has partly arrived under a RequestId.
     #[inline(always)]
     pub fn take_out(&mut self, request: u32) -> Pending
-        ensures taken { result ≡ message_of request self.old }
+        ensures taken { result ≡ message_under_id request self.old }
         ensures rest { self.new ≡ without (is_under request) self.old }
     {
         let Some(place) = self.place(request) else {

@@ -8,12 +8,12 @@ use Rattle.ua_channel.specs.ClientTold.{ClientTold}
 use Rattle.ua_channel.specs.ClientTold.ClientTold.{Agreed, Opened, Answered, GaveUp, Renewed}
 use Rattle.ua_channel.specs.declared.client.event.ClientEvent.{ClientEvent}
 use Rattle.ua_channel.specs.declared.client.event.ClientEvent.TheVariants as event
-use Rattle.ua_services.specs.Request.{kind_of}
+use Rattle.ua_services.specs.Request.{kind_of_request}
 use Rattle.ua_services.specs.declared.request.Request.{Request}
 use Rattle.ua_services.specs.declared.request.RequestKind.{RequestKind}
 use Rattle.ua_services.specs.declared.response.Response.{Response}
 use Rattle.ua_client.specs.Hearing.{Says}
-use Rattle.ua_client.specs.Replies.{IsAnswer, IsNoAnswer, ReadsAnswer, IsPlace, IsAt, PlacesReply, AreSlots, FillsSlots}
+use Rattle.ua_client.specs.Replies.{IsAnswer, IsNoAnswer, ReadsAnswer, IsPlace, IsRequestAt, PlacesReply, AreSlots, FillsSlots}
 use Rattle.ua_client.specs.Told.{is_told_of, IsFirstOf}
 use Rattle.ua_client.specs.declared.fault.ClientFault.{ClientFault}
 use Rattle.ua_client.specs.declared.fault.ClientFault.TheVariants as fault
@@ -37,14 +37,14 @@ gave_up_none requests first id code h = of-none first (length requests) id h
 
 pub answered_at : (requests : List Request) (first id : ℕ) (octets : List ℕ) (n : ℕ) (request d : Request) (kind : RequestKind) (m : Response)
     → IsPlace first id (length requests) (Some n)
-    → request ≡ get_or requests n d → kind ≡ kind_of request → IsAnswer kind octets m
+    → request ≡ get_or requests n d → kind ≡ kind_of_request request → IsAnswer kind octets m
     → PlacesReply requests first (Answered id octets) (Ok (Some (n, Responds m)))
 answered_at requests first id octets n request d kind m h e k a =
     (request, is-at requests n request d h.0 e, (octets, ap (λ (i : ℕ). Answered i octets) h.1, subst (λ (q : RequestKind). IsAnswer q octets m) k a))
 
 pub misanswered_by : (requests : List Request) (first id : ℕ) (octets : List ℕ) (n : ℕ) (request d : Request) (kind : RequestKind) (x : ClientFault)
     → IsPlace first id (length requests) (Some n)
-    → request ≡ get_or requests n d → kind ≡ kind_of request → ReadsAnswer kind octets (Err x) → PlacesReply requests first (Answered id octets) (Err x)
+    → request ≡ get_or requests n d → kind ≡ kind_of_request request → ReadsAnswer kind octets (Err x) → PlacesReply requests first (Answered id octets) (Err x)
 misanswered_by requests first id octets n request d kind fault.UnknownResponse h e k a =
     (n, request, is-at requests n request d h.0 e, (octets, ap (λ (i : ℕ). Answered i octets) h.1, subst (λ (q : RequestKind). IsNoAnswer q octets) k a))
 misanswered_by requests first id octets n request d kind fault.OutOfMemory h e k a = tt
@@ -62,7 +62,7 @@ misanswered_by requests first id octets n request d kind fault.TooManyTokens h e
 misanswered_by requests first id octets n request d kind fault.TooLong h e k a = absurd a
 
 -- the request at a place that a list has
-request-at : (requests : List Request) (n : ℕ) → n < length requests → (request : Request) × IsAt requests n request
+request-at : (requests : List Request) (n : ℕ) → n < length requests → (request : Request) × IsRequestAt requests n request
 request-at [] n few = absurd (omega (arith, few))
 request-at (r ∷ rs) zero few = (r, refl)
 request-at (r ∷ rs) (suc n) few = request-at rs n (omega (arith, few))

@@ -3,10 +3,10 @@ use Rattle.std.specs.Prelude.{◌≡◌, ◌+◌, ◌<◌, ◌++◌, ℕ, zero, 
 use Rattle.std.proofs.Common.{refl, ◌∙◌, ap, subst, eqb, get_or, set, rules, append-nil, arith, add-zero}
 use Rattle.std.proofs.lemmas.Bool.{eqb-true}
 use Rattle.ua_channel.specs.ClientTold.{ClientTold}
-use Rattle.ua_services.specs.Request.{kind_of}
+use Rattle.ua_services.specs.Request.{kind_of_request}
 use Rattle.ua_services.specs.declared.request.Request.{Request}
 use Rattle.ua_services.specs.declared.request.RequestKind.{RequestKind}
-use Rattle.ua_client.specs.Replies.{IsReplyBy, IsMisanswer, IsMisanswered, IsSlot, AreSlots, IsAt, IsOfNone}
+use Rattle.ua_client.specs.Replies.{IsReplyBy, IsMisanswer, IsMisanswered, IsSlot, AreSlots, IsRequestAt, IsOfNone}
 use Rattle.ua_client.specs.Told.{is_told_of, told_of, IsFirstOf}
 use Rattle.ua_client.proofs.Hearsay.{told-more}
 use Rattle.ua_client.specs.declared.reply.Reply.{Reply}
@@ -68,29 +68,29 @@ eqb-other a b h = by (eqb a b) refl
 
 pub slots-set : (requests : List Request) (id : ℕ) (told : List ClientTold) (t : ClientTold) (slots : List (Option Reply)) (n : ℕ) (request : Request)
     (reply : Reply)
-    → AreSlots requests id told slots → IsAt requests n request → IsFirstOf told t → IsReplyBy (kind_of request) (id + n) t reply
+    → AreSlots requests id told slots → IsRequestAt requests n request → IsFirstOf told t → IsReplyBy (kind_of_request request) (id + n) t reply
     → AreSlots requests id (told ++ t ∷ []) (set slots n (Some reply))
 slots-set [] id told t slots n request reply h at first by = absurd at
 slots-set (r ∷ rs) id told t [] n request reply h at first by = absurd h
 slots-set (r ∷ rs) id told t (slot ∷ slots) zero request reply h at first by =
-    let own : IsReplyBy (kind_of r) id t reply = subst (λ (q : Request). IsReplyBy (kind_of q) id t reply) at
-    (subst (λ (m : ℕ). IsReplyBy (kind_of request) m t reply) (add-zero id) by) in
-    let mine : is_told_of id t ≡ true = own-one (kind_of r) id t reply own in (
+    let own : IsReplyBy (kind_of_request r) id t reply = subst (λ (q : Request). IsReplyBy (kind_of_request q) id t reply) at
+    (subst (λ (m : ℕ). IsReplyBy (kind_of_request request) m t reply) (add-zero id) by) in
+    let mine : is_told_of id t ≡ true = own-one (kind_of_request r) id t reply own in (
       (t, told-own id told t mine (first id mine), own),
-      slots-other rs (id + 1) told t slots (λ k few. of-one (kind_of r) id ((id + 1) + k) t reply own (eqb-other id ((id + 1) + k) (λ e. omega (arith, e))))
+      slots-other rs (id + 1) told t slots (λ k few. of-one (kind_of_request r) id ((id + 1) + k) t reply own (eqb-other id ((id + 1) + k) (λ e. omega (arith, e))))
           h.1,
     )
 slots-set (r ∷ rs) id told t (slot ∷ slots) (suc n) request reply h at first by = (
-  slot-other r id told t slot (of-one (kind_of request) (id + suc n) id t reply by (eqb-other (id + suc n) id (λ e. omega (arith, e)))) h.0,
-  slots-set rs (id + 1) told t slots n request reply h.1 at first (subst (λ (m : ℕ). IsReplyBy (kind_of request) m t reply) (one-on id n) by),
+  slot-other r id told t slot (of-one (kind_of_request request) (id + suc n) id t reply by (eqb-other (id + suc n) id (λ e. omega (arith, e)))) h.0,
+  slots-set rs (id + 1) told t slots n request reply h.1 at first (subst (λ (m : ℕ). IsReplyBy (kind_of_request request) m t reply) (one-on id n) by),
 )
   where
     one-on : (a b : ℕ) → a + suc b ≡ (a + 1) + b
     one-on a b = omega arith
 
 pub misanswered-at : (requests : List Request) (id : ℕ) (told : List ClientTold) (t : ClientTold) (slots : List (Option Reply)) (n : ℕ) (request : Request)
-    → IsAt requests n request → IsFirstOf told t → AreSlots requests id told slots
-    → IsMisanswer (kind_of request) (id + n) t → IsMisanswered requests id (told ++ t ∷ [])
+    → IsRequestAt requests n request → IsFirstOf told t → AreSlots requests id told slots
+    → IsMisanswer (kind_of_request request) (id + n) t → IsMisanswered requests id (told ++ t ∷ [])
 misanswered-at requests id told t slots n request at first h by = record {
   before = told;
   last = t;
@@ -108,7 +108,7 @@ misanswered-at requests id told t slots n request at first h by = record {
     same m = search rules
 
 -- the element that was read is at its place
-pub is-at : (requests : List Request) (n : ℕ) (request d : Request) → n < length requests → request ≡ get_or requests n d → IsAt requests n request
+pub is-at : (requests : List Request) (n : ℕ) (request d : Request) → n < length requests → request ≡ get_or requests n d → IsRequestAt requests n request
 is-at [] n request d few e = absurd (omega (arith, few))
 is-at (r ∷ rs) zero request d few e = e
 is-at (r ∷ rs) (suc n) request d few e = is-at rs n request d (omega (arith, few)) e

@@ -3,10 +3,10 @@ use Rattle.std.specs.Prelude.{◌≡◌, ◌+◌, ◌<◌, ◌++◌, ℕ, zero, 
 use Rattle.std.specs.List.{list_any}
 use Rattle.std.proofs.Common.{refl, sym, ◌∙◌, ap, subst, inl, inr, eqb, rules, arith, add-zero}
 use Rattle.ua_channel.specs.ClientTold.{ClientTold}
-use Rattle.ua_services.specs.Request.{kind_of}
+use Rattle.ua_services.specs.Request.{kind_of_request}
 use Rattle.ua_services.specs.declared.request.Request.{Request}
 use Rattle.ua_client.specs.Calls.{AreUntold, none_for}
-use Rattle.ua_client.specs.Replies.{IsReply, IsMisanswer, AreSlots, AreReplies, IsAt, IsFront, IsUntold, IsUntoldBefore, LacksAnswer, front_of}
+use Rattle.ua_client.specs.Replies.{IsReplyTo, IsMisanswer, AreSlots, AreReplies, IsRequestAt, IsFront, IsUntold, IsUntoldBefore, LacksAnswer, front_of}
 use Rattle.ua_client.specs.Told.{is_told_of, IsFirstOf}
 use Rattle.ua_client.specs.declared.reply.Reply.{Reply}
 use Rattle.ua_client.proofs.Filling.{eqb-other, told-other, told-own}
@@ -36,11 +36,11 @@ front-first (r ∷ rs) id told some h = inl h.0
 -- ---- one thing more that was told
 
 -- what is told of a call is told once, so that a reply stays one
-reply-stays : (r : Request) (id : ℕ) (told : List ClientTold) (t : ClientTold) (reply : Reply) → IsFirstOf told t → IsReply r id told reply
-    → IsReply r id (told ++ t ∷ []) reply
+reply-stays : (r : Request) (id : ℕ) (told : List ClientTold) (t : ClientTold) (reply : Reply) → IsFirstOf told t → IsReplyTo r id told reply
+    → IsReplyTo r id (told ++ t ∷ []) reply
 reply-stays r id told t reply once h = by (is_told_of id t) refl
   where
-    by : (b : Bool) → is_told_of id t ≡ b → IsReply r id (told ++ t ∷ []) reply
+    by : (b : Bool) → is_told_of id t ≡ b → IsReplyTo r id (told ++ t ∷ []) reply
     by false e = (h.0, told-other id told t e ∙ h.1, h.2)
     by true e = let no : ◌≡◌ {A = List ClientTold} [] (h.0 ∷ []) = sym (once id e) ∙ h.1 in absurd cc
 
@@ -55,14 +55,14 @@ front-unread (r ∷ rs) id told t (None ∷ slots) once h e = inr (told, t, refl
 front-unread (r ∷ rs) id told t (Some reply ∷ slots) once h e = (reply-stays r id told t reply once h.0, front-unread rs (id + 1) told t slots once h.1 e)
 
 -- a message that is no answer is told of one call alone
-misanswer-other : (request : Request) (id n : ℕ) (t : ClientTold) → IsMisanswer (kind_of request) (id + suc n) t → is_told_of id t ≡ false
+misanswer-other : (request : Request) (id n : ℕ) (t : ClientTold) → IsMisanswer (kind_of_request request) (id + suc n) t → is_told_of id t ≡ false
 misanswer-other request id n t by = ap (is_told_of id) by.1 ∙ eqb-other (id + suc n) id (λ e. omega (arith, e))
 
-misanswer-own : (r request : Request) (id : ℕ) (t : ClientTold) → request ≡ r → IsMisanswer (kind_of request) (id + 0) t → IsMisanswer (kind_of r) id t
-misanswer-own r request id t at by = subst (λ (q : Request). IsMisanswer (kind_of q) id t) at
-    (subst (λ (m : ℕ). IsMisanswer (kind_of request) m t) (add-zero id) by)
+misanswer-own : (r request : Request) (id : ℕ) (t : ClientTold) → request ≡ r → IsMisanswer (kind_of_request request) (id + 0) t → IsMisanswer (kind_of_request r) id t
+misanswer-own r request id t at by = subst (λ (q : Request). IsMisanswer (kind_of_request q) id t) at
+    (subst (λ (m : ℕ). IsMisanswer (kind_of_request request) m t) (add-zero id) by)
 
-misanswer-told : (r : Request) (id : ℕ) (t : ClientTold) → IsMisanswer (kind_of r) id t → is_told_of id t ≡ true
+misanswer-told : (r : Request) (id : ℕ) (t : ClientTold) → IsMisanswer (kind_of_request r) id t → is_told_of id t ≡ true
 misanswer-told r id t own = ap (is_told_of id) own.1 ∙ same id
   where
     same : (n : ℕ) → eqb n n ≡ true
@@ -70,8 +70,8 @@ misanswer-told r id t own = ap (is_told_of id) own.1 ∙ same id
 
 -- it is no answer to the request at a place
 pub front-lacking : (requests : List Request) (id : ℕ) (told : List ClientTold) (t : ClientTold) (slots : List (Option Reply)) (n : ℕ) (request : Request)
-    → IsFirstOf told t → AreSlots requests id told slots → IsAt requests n request
-    → IsMisanswer (kind_of request) (id + n) t → IsFront LacksAnswer (front_of slots) requests id (told ++ t ∷ [])
+    → IsFirstOf told t → AreSlots requests id told slots → IsRequestAt requests n request
+    → IsMisanswer (kind_of_request request) (id + n) t → IsFront LacksAnswer (front_of slots) requests id (told ++ t ∷ [])
 front-lacking [] id told t slots n request once h at by = absurd at
 front-lacking (r ∷ rs) id told t [] n request once h at by = absurd h
 front-lacking (r ∷ rs) id told t (None ∷ slots) zero request once h at by =
@@ -84,7 +84,7 @@ front-lacking (r ∷ rs) id told t (Some reply ∷ slots) zero request once h at
 front-lacking (r ∷ rs) id told t (None ∷ slots) (suc n) request once h at by = inl (told-other id told t (misanswer-other request id n t by) ∙ h.0)
 front-lacking (r ∷ rs) id told t (Some reply ∷ slots) (suc n) request once h at by = (
   reply-stays r id told t reply once h.0,
-  front-lacking rs (id + 1) told t slots n request once h.1 at (subst (λ (m : ℕ). IsMisanswer (kind_of request) m t) (on id n) by),
+  front-lacking rs (id + 1) told t slots n request once h.1 at (subst (λ (m : ℕ). IsMisanswer (kind_of_request request) m t) (on id n) by),
 )
   where
     on : (a b : ℕ) → a + suc b ≡ (a + 1) + b

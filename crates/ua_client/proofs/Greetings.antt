@@ -18,8 +18,8 @@ use Rattle.ua_opening.specs.declared.open.OpenAnswer.{OpenAnswer}
 use Rattle.ua_opening.specs.declared.open.OpenAnswer.TheVariants.{Open, Fault}
 use Rattle.ua_opening.specs.declared.secure_channel.OpenResponse.{OpenResponse}
 use Rattle.ua_channel.specs.Asks.{Asking, Placed, asked_before, end_of}
-use Rattle.ua_channel.specs.ClientTable.{ack_gate, answer_gate, client_gate, client_reasons, client_rules, is_bad}
-use Rattle.ua_channel.specs.ClientTokens.{answer_in, response_listed, responses}
+use Rattle.ua_channel.specs.ClientTable.{ack_gate, answer_gate, client_gate, client_reasons, client_rules, is_bad_answer}
+use Rattle.ua_channel.specs.ClientTokens.{answer_in, response_listed, open_responses}
 use Rattle.ua_channel.specs.ClientTold.{ClientTold, client_tells, told_response}
 use Rattle.ua_channel.specs.Content.{Content, Opening, content, content_by, opening_of}
 use Rattle.ua_channel.specs.Content.Content.{Acks, Fails, Opens}
@@ -76,7 +76,7 @@ ack-read limits before asked None e =
     absurd cc
 ack-read limits before asked (Some a) e = (a, refl)
 
-response-in : (answer : Option OpenAnswer) → is_none answer ≡ false → is_bad answer ≡ false → (r : OpenResponse) × (answer ≡ Some (Open r))
+response-in : (answer : Option OpenAnswer) → is_none answer ≡ false → is_bad_answer answer ≡ false → (r : OpenResponse) × (answer ≡ Some (Open r))
 response-in None h k = absurd cc
 response-in (Some (Open r)) h k = (r, refl)
 response-in (Some (Fault f)) h k = absurd cc
@@ -96,7 +96,7 @@ kind-of f k is = ap (λ (j : Kind). content_by j f) is
 first-frame : (limits : Limits) (before : Received) (asked : List Asking) (f : Frame) → before ≡ nothing_received → IsTrue (lets_in (client_gate before) f.kind)
     → Accepts limits before asked (content f)
     → (a : Ack) × (content f ≡ Acks (Some a))
-unfolding responses
+unfolding open_responses
 first-frame limits before asked f none place e = by (greets-by f.kind (subst (λ (b : Received). IsTrue (lets_in (client_gate b) f.kind)) none place))
   where
     by : (f.kind ≡ kind.Ack) ⊎ (f.kind ≡ kind.Err) → (a : Ack) × (content f ≡ Acks (Some a))
@@ -109,7 +109,7 @@ first-frame limits before asked f none place e = by (greets-by f.kind (subst (λ
 second-frame : (limits : Limits) (before : Received) (asked : List Asking) (f : Frame) (a : Ack) → before ≡ record nothing_received { ack = Some a }
     → IsTrue (lets_in (client_gate before) f.kind) → Accepts limits before asked (content f)
     → (o : Opening) × (r : OpenResponse) × (content f ≡ Opens o) × (answer_in o ≡ Some (Open r))
-unfolding responses
+unfolding open_responses
 second-frame limits before asked f a greeted place e =
     by (opens-by a.send_buffer_size f.kind (subst (λ (b : Received). IsTrue (lets_in (client_gate b) f.kind)) greeted place))
   where
@@ -125,7 +125,7 @@ second-frame limits before asked f a greeted place e =
 opening-told : (before : Received) (a : Ack) (c : Content) (o : Opening) (r : OpenResponse) (more : List ClientTold)
     → before ≡ record nothing_received { ack = Some a } → c ≡ Opens o → answer_in o ≡ Some (Open r)
     → IsOpening (client_tells before c ++ more)
-unfolding responses
+unfolding open_responses
 opening-told before a c o r more greeted carries answer =
     subst (λ (b : Received). IsOpening (client_tells b c ++ more)) (sym greeted)
     (subst (λ (d : Content). IsOpening (client_tells (record nothing_received { ack = Some a }) d ++ more)) (sym carries)

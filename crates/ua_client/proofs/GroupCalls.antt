@@ -20,8 +20,8 @@ use Rattle.ua_channel.specs.declared.client.phase.Phase.{Phase}
 use Rattle.ua_client.specs.ClientPlace.{ClientPlace, StandsAt, id_at, lane_behind}
 use Rattle.ua_client.specs.Calls.{asked_at, sent_at, refusal_at, AreUntold, Collects, CollectsAt, BreaksAt, IsSentAt, none_for}
 use Rattle.ua_client.specs.Carried.{Carries, WritesFront}
-use Rattle.ua_client.specs.Hearing.{channel_of, untaken_of, MovesConnection, StopsAt, is_line_fault}
-use Rattle.ua_client.specs.Kept.{CallsGroup, IsRefusedFor, KeepsAt, named}
+use Rattle.ua_client.specs.Hearing.{channel_of_connection, untaken_of, MovesConnection, StopsAt, is_line_fault}
+use Rattle.ua_client.specs.Kept.{CallsGroup, IsGroupRefusedFor, KeepsAt, naming_request}
 use Rattle.ua_client.specs.Renewing.{IsIdle}
 use Rattle.ua_client.specs.Replies.{front_of}
 use Rattle.ua_client.specs.Told.{told_of}
@@ -135,8 +135,8 @@ few-taken (suc n) (m ∷ ms) = let h = few-taken n ms in omega (arith, h)
 -- before anything is asked
 pub group-refused : {A : Type 0} → (requests : List Request) → length requests ≤ 64
     → (x : Connection) (t : Option Traffic) (reads : ℕ) (c : CallsFault) (replies : List Reply)
-    → AnswersBy {A = Unit {0}} (group_refusal (phase_of (channel_of x)) 0 requests) (Err c.fault)
-    → RefusesBy (phase_of (channel_of x)) requests c.request c.fault
+    → AnswersBy {A = Unit {0}} (group_refusal (phase_of (channel_of_connection x)) 0 requests) (Err c.fault)
+    → RefusesBy (phase_of (channel_of_connection x)) requests c.request c.fault
     → CallsGroup {A = A} requests x x t t reads reads (Err c) replies replies
 group-refused {A} requests few x t reads c replies h place = record {
   sent = [];
@@ -144,84 +144,84 @@ group-refused {A} requests few x t reads c replies h place = record {
   same = record { limits = refl; url = refl };
   added = [];
   have_is = sym (append-nil replies);
-  answers = λ s at idle. (breaks c.fault h s at (group-judged (channel_of x) requests few s at idle), keeps c.fault c.request h place s at idle);
+  answers = λ s at idle. (breaks c.fault h s at (group-judged (channel_of_connection x) requests few s at idle), keeps c.fault c.request h place s at idle);
   stops = stops c.fault h;
 }
   where
-    refused : (y : ClientFault) (n : ℕ) (s : ClientPlace) → StandsAt (channel_of x) s → IsIdle (channel_of x) s
-        → (group_refusal (phase_of (channel_of x)) 0 (take n requests) ≡ None) × (group_refusal (phase_of (channel_of x)) 0 (take (n + 1) requests) ≡ Some y)
-        → IsRefusedFor requests s y n
+    refused : (y : ClientFault) (n : ℕ) (s : ClientPlace) → StandsAt (channel_of_connection x) s → IsIdle (channel_of_connection x) s
+        → (group_refusal (phase_of (channel_of_connection x)) 0 (take n requests) ≡ None) × (group_refusal (phase_of (channel_of_connection x)) 0 (take (n + 1) requests) ≡ Some y)
+        → IsGroupRefusedFor requests s y n
     refused y n s at idle k =
         let before = few-taken n requests in
         let with = few-taken (n + 1) requests in (
-          sym (group-judged (channel_of x) (take n requests) (omega (arith, before, few)) s at idle) ∙ k.0,
-          sym (group-judged (channel_of x) (take (n + 1) requests) (omega (arith, with, few)) s at idle) ∙ k.1,
+          sym (group-judged (channel_of_connection x) (take n requests) (omega (arith, before, few)) s at idle) ∙ k.0,
+          sym (group-judged (channel_of_connection x) (take (n + 1) requests) (omega (arith, with, few)) s at idle) ∙ k.1,
         )
 
-    breaks : (y : ClientFault) → AnswersBy {A = Unit {0}} (group_refusal (phase_of (channel_of x)) 0 requests) (Err y) → (s : ClientPlace)
-        → StandsAt (channel_of x) s
-        → group_refusal (phase_of (channel_of x)) 0 requests ≡ refusal_at s requests → BreaksAt requests s x [] [] y
+    breaks : (y : ClientFault) → AnswersBy {A = Unit {0}} (group_refusal (phase_of (channel_of_connection x)) 0 requests) (Err y) → (s : ClientPlace)
+        → StandsAt (channel_of_connection x) s
+        → group_refusal (phase_of (channel_of_connection x)) 0 requests ≡ refusal_at s requests → BreaksAt requests s x [] [] y
     breaks fault.TooLarge e s at there = (refl, refl, at, sym there ∙ e)
     breaks fault.NotWritable e s at there = (refl, refl, at, sym there ∙ e)
     breaks fault.Exhausted e s at there = (refl, refl, at, sym there ∙ e)
     breaks fault.Closed e s at there = let no : is_reason fault.Closed ≡ true = refused-for s requests fault.Closed (sym there ∙ e) in absurd cc
     breaks fault.OutOfMemory e s at there = inl (refl, refl)
-    breaks fault.Read e s at there = let no : is_asking_fault fault.Read ≡ true = by-group (phase_of (channel_of x)) 0 requests fault.Read e in absurd cc
-    breaks fault.Write e s at there = let no : is_asking_fault fault.Write ≡ true = by-group (phase_of (channel_of x)) 0 requests fault.Write e in absurd cc
-    breaks fault.Ended e s at there = let no : is_asking_fault fault.Ended ≡ true = by-group (phase_of (channel_of x)) 0 requests fault.Ended e in absurd cc
+    breaks fault.Read e s at there = let no : is_asking_fault fault.Read ≡ true = by-group (phase_of (channel_of_connection x)) 0 requests fault.Read e in absurd cc
+    breaks fault.Write e s at there = let no : is_asking_fault fault.Write ≡ true = by-group (phase_of (channel_of_connection x)) 0 requests fault.Write e in absurd cc
+    breaks fault.Ended e s at there = let no : is_asking_fault fault.Ended ≡ true = by-group (phase_of (channel_of_connection x)) 0 requests fault.Ended e in absurd cc
     breaks (fault.Peer code) e s at there = let no : is_asking_fault (fault.Peer code) ≡ true =
-        by-group (phase_of (channel_of x)) 0 requests (fault.Peer code) e in absurd cc
+        by-group (phase_of (channel_of_connection x)) 0 requests (fault.Peer code) e in absurd cc
     breaks (fault.Refused code) e s at there = let no : is_asking_fault (fault.Refused code) ≡ true =
-        by-group (phase_of (channel_of x)) 0 requests (fault.Refused code) e in absurd cc
+        by-group (phase_of (channel_of_connection x)) 0 requests (fault.Refused code) e in absurd cc
     breaks fault.UnknownResponse e s at there = let no : is_asking_fault fault.UnknownResponse ≡ true =
-        by-group (phase_of (channel_of x)) 0 requests fault.UnknownResponse e in absurd cc
+        by-group (phase_of (channel_of_connection x)) 0 requests fault.UnknownResponse e in absurd cc
     breaks (fault.Service code) e s at there = let no : is_asking_fault (fault.Service code) ≡ true =
-        by-group (phase_of (channel_of x)) 0 requests (fault.Service code) e in absurd cc
+        by-group (phase_of (channel_of_connection x)) 0 requests (fault.Service code) e in absurd cc
     breaks fault.TooLong e s at there = let no : is_asking_fault fault.TooLong ≡ true =
-        by-group (phase_of (channel_of x)) 0 requests fault.TooLong e in absurd cc
+        by-group (phase_of (channel_of_connection x)) 0 requests fault.TooLong e in absurd cc
     breaks fault.TooManyTokens e s at there = let no : is_asking_fault fault.TooManyTokens ≡ true =
-        by-group (phase_of (channel_of x)) 0 requests fault.TooManyTokens e in absurd cc
+        by-group (phase_of (channel_of_connection x)) 0 requests fault.TooManyTokens e in absurd cc
 
-    keeps : (y : ClientFault) (n : ℕ) → AnswersBy {A = Unit {0}} (group_refusal (phase_of (channel_of x)) 0 requests) (Err y)
-        → RefusesBy (phase_of (channel_of x)) requests n y → (s : ClientPlace) → StandsAt (channel_of x) s → IsIdle (channel_of x) s
+    keeps : (y : ClientFault) (n : ℕ) → AnswersBy {A = Unit {0}} (group_refusal (phase_of (channel_of_connection x)) 0 requests) (Err y)
+        → RefusesBy (phase_of (channel_of_connection x)) requests n y → (s : ClientPlace) → StandsAt (channel_of_connection x) s → IsIdle (channel_of_connection x) s
         → KeepsAt requests s x [] y n []
     keeps fault.TooLarge n e k s at idle = (refused fault.TooLarge n s at idle k, refl)
     keeps fault.NotWritable n e k s at idle = (refused fault.NotWritable n s at idle k, refl)
     keeps fault.Exhausted n e k s at idle = (refused fault.Exhausted n s at idle k, refl)
     keeps fault.Closed n e k s at idle = let no : is_reason fault.Closed ≡ true =
-        refused-for s requests fault.Closed (sym (group-judged (channel_of x) requests few s at idle) ∙ e) in absurd cc
+        refused-for s requests fault.Closed (sym (group-judged (channel_of_connection x) requests few s at idle) ∙ e) in absurd cc
     keeps fault.OutOfMemory n e k s at idle = (k, inl (refl, refl))
-    keeps fault.Read n e k s at idle = let no : is_asking_fault fault.Read ≡ true = by-group (phase_of (channel_of x)) 0 requests fault.Read e in absurd cc
-    keeps fault.Write n e k s at idle = let no : is_asking_fault fault.Write ≡ true = by-group (phase_of (channel_of x)) 0 requests fault.Write e in absurd cc
-    keeps fault.Ended n e k s at idle = let no : is_asking_fault fault.Ended ≡ true = by-group (phase_of (channel_of x)) 0 requests fault.Ended e in absurd cc
+    keeps fault.Read n e k s at idle = let no : is_asking_fault fault.Read ≡ true = by-group (phase_of (channel_of_connection x)) 0 requests fault.Read e in absurd cc
+    keeps fault.Write n e k s at idle = let no : is_asking_fault fault.Write ≡ true = by-group (phase_of (channel_of_connection x)) 0 requests fault.Write e in absurd cc
+    keeps fault.Ended n e k s at idle = let no : is_asking_fault fault.Ended ≡ true = by-group (phase_of (channel_of_connection x)) 0 requests fault.Ended e in absurd cc
     keeps (fault.Peer code) n e k s at idle = let no : is_asking_fault (fault.Peer code) ≡ true =
-        by-group (phase_of (channel_of x)) 0 requests (fault.Peer code) e in absurd cc
+        by-group (phase_of (channel_of_connection x)) 0 requests (fault.Peer code) e in absurd cc
     keeps (fault.Refused code) n e k s at idle = let no : is_asking_fault (fault.Refused code) ≡ true =
-        by-group (phase_of (channel_of x)) 0 requests (fault.Refused code) e in absurd cc
+        by-group (phase_of (channel_of_connection x)) 0 requests (fault.Refused code) e in absurd cc
     keeps fault.UnknownResponse n e k s at idle = let no : is_asking_fault fault.UnknownResponse ≡ true =
-        by-group (phase_of (channel_of x)) 0 requests fault.UnknownResponse e in absurd cc
+        by-group (phase_of (channel_of_connection x)) 0 requests fault.UnknownResponse e in absurd cc
     keeps (fault.Service code) n e k s at idle = let no : is_asking_fault (fault.Service code) ≡ true =
-        by-group (phase_of (channel_of x)) 0 requests (fault.Service code) e in absurd cc
+        by-group (phase_of (channel_of_connection x)) 0 requests (fault.Service code) e in absurd cc
     keeps fault.TooLong n e k s at idle = let no : is_asking_fault fault.TooLong ≡ true =
-        by-group (phase_of (channel_of x)) 0 requests fault.TooLong e in absurd cc
+        by-group (phase_of (channel_of_connection x)) 0 requests fault.TooLong e in absurd cc
     keeps fault.TooManyTokens n e k s at idle = let no : is_asking_fault fault.TooManyTokens ≡ true =
-        by-group (phase_of (channel_of x)) 0 requests fault.TooManyTokens e in absurd cc
+        by-group (phase_of (channel_of_connection x)) 0 requests fault.TooManyTokens e in absurd cc
 
-    stops : (y : ClientFault) → AnswersBy {A = Unit {0}} (group_refusal (phase_of (channel_of x)) 0 requests) (Err y)
+    stops : (y : ClientFault) → AnswersBy {A = Unit {0}} (group_refusal (phase_of (channel_of_connection x)) 0 requests) (Err y)
         → StopsAt {A = A} reads reads [] x t (Err y)
     stops fault.TooLarge e = tt
     stops fault.NotWritable e = tt
     stops fault.Exhausted e = tt
     stops fault.Closed e = tt
     stops fault.OutOfMemory e = tt
-    stops fault.Read e = let no : is_asking_fault fault.Read ≡ true = by-group (phase_of (channel_of x)) 0 requests fault.Read e in absurd cc
+    stops fault.Read e = let no : is_asking_fault fault.Read ≡ true = by-group (phase_of (channel_of_connection x)) 0 requests fault.Read e in absurd cc
     stops fault.Write e = tt
-    stops fault.Ended e = let no : is_asking_fault fault.Ended ≡ true = by-group (phase_of (channel_of x)) 0 requests fault.Ended e in absurd cc
+    stops fault.Ended e = let no : is_asking_fault fault.Ended ≡ true = by-group (phase_of (channel_of_connection x)) 0 requests fault.Ended e in absurd cc
     stops (fault.Peer code) e = tt
     stops (fault.Refused code) e = tt
     stops fault.UnknownResponse e = tt
     stops (fault.Service code) e = tt
-    stops fault.TooLong e = let no : is_asking_fault fault.TooLong ≡ true = by-group (phase_of (channel_of x)) 0 requests fault.TooLong e in absurd cc
+    stops fault.TooLong e = let no : is_asking_fault fault.TooLong ≡ true = by-group (phase_of (channel_of_connection x)) 0 requests fault.TooLong e in absurd cc
     stops fault.TooManyTokens e = tt
 
 -- a refusal to ask is no fault of the line
@@ -252,7 +252,7 @@ first_unkept f had have = record { request = length have - length had; fault = f
 
 -- no memory to ask
 pub group-unasked : {A : Type 0} (requests : List Request) (old new : Connection) (t : Option Traffic) (reads : ℕ) (had have : List Reply) (f : ClientFault)
-    → have ≡ had → untaken_of new ≡ untaken_of old → SameClient (channel_of old) (channel_of new) → f ≡ fault.OutOfMemory
+    → have ≡ had → untaken_of new ≡ untaken_of old → SameClient (channel_of_connection old) (channel_of_connection new) → f ≡ fault.OutOfMemory
     → CallsGroup {A = A} requests old new t t reads reads (Err (first_unkept f had have)) had have
 group-unasked {A} requests old new t reads had have f none piece same e =
     subst (λ (x : ClientFault). CallsGroup {A = A} requests old new t t reads reads (Err (first_unkept x had have)) had have) (sym e) (record {
@@ -274,32 +274,32 @@ none-refused requests few x none s at idle = sym (group-judged x requests few s 
 pub record IsAsked (requests : List Request) (old mid : Connection) (first : ℕ) (out : List ℕ) : Type 0 where
   pub bodies : List (List ℕ)
   pub bodies_are : bodies ≡ bodies_of requests
-  pub judged : (s : ClientPlace) → StandsAt (channel_of old) s → IsIdle (channel_of old) s → refusal_at s requests ≡ None
+  pub judged : (s : ClientPlace) → StandsAt (channel_of_connection old) s → IsIdle (channel_of_connection old) s → refusal_at s requests ≡ None
   pub piece : untaken_of mid ≡ untaken_of old
-  pub same : SameClient (channel_of old) (channel_of mid)
+  pub same : SameClient (channel_of_connection old) (channel_of_connection mid)
   pub some : 0 < length requests
-  pub asks : (xs : List Placed) (os : List ℕ) (fs : List Frame) (r : List ℕ) → ClientStands (channel_of old) xs os fs r
-      → AsksFrom bodies (channel_of old) (channel_of mid) xs os fs r (first, out)
+  pub asks : (xs : List Placed) (os : List ℕ) (fs : List Frame) (r : List ℕ) → ClientStands (channel_of_connection old) xs os fs r
+      → AsksFrom bodies (channel_of_connection old) (channel_of_connection mid) xs os fs r (first, out)
 
 module _ (requests : List Request) (old mid : Connection) (first : ℕ) (out : List ℕ) (q : IsAsked requests old mid first out) where
-  module _ (s : ClientPlace) (at : StandsAt (channel_of old) s) where
-    asked : AsksFrom (bodies_of requests) (channel_of old) (channel_of mid) s.asks s.octets at.goes.frames at.goes.rest (first, out)
-    asked = subst (λ (bs : List (List ℕ)). AsksFrom bs (channel_of old) (channel_of mid) s.asks s.octets at.goes.frames at.goes.rest (first, out)) q.bodies_are
+  module _ (s : ClientPlace) (at : StandsAt (channel_of_connection old) s) where
+    asked : AsksFrom (bodies_of requests) (channel_of_connection old) (channel_of_connection mid) s.asks s.octets at.goes.frames at.goes.rest (first, out)
+    asked = subst (λ (bs : List (List ℕ)). AsksFrom bs (channel_of_connection old) (channel_of_connection mid) s.asks s.octets at.goes.frames at.goes.rest (first, out)) q.bodies_are
         (q.asks s.asks s.octets at.goes.frames at.goes.rest at.goes.stands)
 
-    goes-asked : ClientGoes (channel_of mid) (asked_at s requests) s.octets s.told
+    goes-asked : ClientGoes (channel_of_connection mid) (asked_at s requests) s.octets s.told
     goes-asked = record { frames = at.goes.frames; rest = at.goes.rest; stands = asked.1.stands; told_is = at.goes.told_is }
 
     sent-asked : out ≡ sent_at s requests
     sent-asked =
         asked.1.out_is
-        ∙ (ap (λ (b : Received). calls_octets (lane_behind b) (client_next (channel_of old)) (id_at s) (bodies_of requests)) at.before_is
+        ∙ (ap (λ (b : Received). calls_octets (lane_behind b) (client_next (channel_of_connection old)) (id_at s) (bodies_of requests)) at.before_is
         ∙ ap (λ (n : ℕ). calls_octets (lane_behind s.before) n (id_at s) (bodies_of requests)) at.number_is)
 
-    next-asked : client_next (channel_of mid) ≡ numbers_behind (lane_behind s.before) s.number (bodies_of requests)
+    next-asked : client_next (channel_of_connection mid) ≡ numbers_behind (lane_behind s.before) s.number (bodies_of requests)
     next-asked =
         asked.1.next_is
-        ∙ (ap (λ (b : Received). numbers_behind (lane_behind b) (client_next (channel_of old)) (bodies_of requests)) at.before_is
+        ∙ (ap (λ (b : Received). numbers_behind (lane_behind b) (client_next (channel_of_connection old)) (bodies_of requests)) at.before_is
         ∙ ap (λ (n : ℕ). numbers_behind (lane_behind s.before) n (bodies_of requests)) at.number_is)
 
     length-bodies : length (bodies_of requests) ≡ length requests
@@ -314,7 +314,7 @@ module _ (requests : List Request) (old mid : Connection) (first : ℕ) (out : L
 
     untold-asked : ToldBehind → AreUntold requests first s.told
     untold-asked law = subst (λ (n : ℕ). AreUntold requests n s.told) (sym first-asked)
-        (untold-from requests (id_at s) s.told (λ n. law (channel_of old) s.asks s.octets s.told n at.goes))
+        (untold-from requests (id_at s) s.told (λ n. law (channel_of_connection old) s.asks s.octets s.told n at.goes))
 
   -- a write that failed
   pub group-unwritten : {A : Type 0} (before after : Option Traffic) (reads : ℕ) (had have : List Reply) → have ≡ had → 0 < length out
@@ -348,12 +348,12 @@ module _ (requests : List Request) (old mid : Connection) (first : ℕ) (out : L
         moves-from old mid new out [] before written after after q.piece m
         (carried-as m.got (out ++ []) m.got out before after refl (append-nil out) (carried-then [] out m.got [] before written after w m.carried))
 
-    same-then : SameClient (channel_of mid) (channel_of new) → SameClient (channel_of old) (channel_of new)
+    same-then : SameClient (channel_of_connection mid) (channel_of_connection new) → SameClient (channel_of_connection old) (channel_of_connection new)
     same-then k = record { limits = q.same.limits ∙ k.limits; url = q.same.url ∙ k.url }
 
     module _ (slots : List (Option Reply)) (had have : List Reply) (kept : have ≡ had ++ front_of slots) where
       collected : {A : Type 0} (result : Result A ClientFault) (c : Collects slots requests first mid new written after reads left result) (s : ClientPlace)
-          (at : StandsAt (channel_of old) s)
+          (at : StandsAt (channel_of_connection old) s)
           → CollectsAt slots requests (id_at s) new after result (asked_at s requests) (s.octets ++ c.moves.taken) s.told
       collected result c s at =
           subst (λ (n : ℕ). CollectsAt slots requests n new after result (asked_at s requests) (s.octets ++ c.moves.taken) s.told) (first-asked s at)
@@ -449,7 +449,7 @@ module _ (requests : List Request) (old mid : Connection) (first : ℕ) (out : L
                   octets = s.octets ++ c.moves.taken;
                   before = received h.1.frames;
                   told = s.told ++ h.0;
-                  number = client_next (channel_of new);
+                  number = client_next (channel_of_connection new);
                 },
                 record { goes = h.1; before_is = refl; number_is = refl },
                 h.2.2,
@@ -457,7 +457,7 @@ module _ (requests : List Request) (old mid : Connection) (first : ℕ) (out : L
                   judged = q.judged s at idle;
                   asks = refl;
                   octets = refl;
-                  whole = told-whole (channel_of new) (asked_at s requests) (s.octets ++ c.moves.taken) h.2.2.before h.2.2.last h.2.2.tells;
+                  whole = told-whole (channel_of_connection new) (asked_at s requests) (s.octets ++ c.moves.taken) h.2.2.before h.2.2.last h.2.2.tells;
                   heard = h.0;
                   told = refl;
                   number = c.keeps.next ∙ next-asked s at;
@@ -470,7 +470,7 @@ module _ (requests : List Request) (old mid : Connection) (first : ℕ) (out : L
 
       -- the replies that came are kept
       pub group-kept : (result : Result (Unit {0}) ClientFault) → Collects slots requests first mid new written after reads left result
-          → CallsGroup requests old new before after reads left (named (length have - length had) result) had have
+          → CallsGroup requests old new before after reads left (naming_request (length have - length had) result) had have
       group-kept (Ok done) c = group-answered done c
       group-kept (Err f) c = group-broken f c
 

@@ -12,7 +12,7 @@ use Rattle.ua_channel.specs.declared.client.channel.ClientChannel.{ClientChannel
 use Rattle.ua_client.specs.ClientPlace.{ClientPlace, StandsAt}
 use Rattle.ua_client.specs.Calls.{Rounds, all_of, AreGroups, AnsweredAll}
 use Rattle.ua_client.specs.Calls.Rounds.{NoRound, OneRound}
-use Rattle.ua_client.specs.Hearing.{channel_of, most_reads, MovesConnection, StopsAt}
+use Rattle.ua_client.specs.Hearing.{channel_of_connection, most_reads, MovesConnection, StopsAt}
 use Rattle.ua_client.specs.Kept.{CallsGroup, CallsInto}
 use Rattle.ua_client.specs.Renewing.{IsSettled, StandsSettled}
 use Rattle.ua_client.specs.declared.connection.Connection.{Connection}
@@ -85,17 +85,17 @@ pub record Called (requests : List Request) (more : Type 0) (old now : Connectio
     0 where
   pub sent : List ℕ
   pub moves : MovesConnection old now sent before at
-  pub same : SameClient (channel_of old) (channel_of now)
+  pub same : SameClient (channel_of_connection old) (channel_of_connection now)
   -- these replies are added
   pub added : List Reply
   pub have_is : have ≡ had ++ added
   -- it may be called again
-  pub settled : StandsSettled (channel_of now)
-  pub answers : (s : ClientPlace) → StandsAt (channel_of old) s → (a : AnsweredAll requests s (channel_of now) sent moves.taken added)
+  pub settled : StandsSettled (channel_of_connection now)
+  pub answers : (s : ClientPlace) → StandsAt (channel_of_connection old) s → (a : AnsweredAll requests s (channel_of_connection now) sent moves.taken added)
       × (more → AreFull a.groups)
   pub spent : most_reads ≤ left + length moves.got
 
-pub called-nothing : (more : Type 0) (x : Connection) (t : Option Traffic) (had : List Reply) → StandsSettled (channel_of x)
+pub called-nothing : (more : Type 0) (x : Connection) (t : Option Traffic) (had : List Reply) → StandsSettled (channel_of_connection x)
     → Called [] more x x t t most_reads had had
 called-nothing more x t had settled = record {
   sent = [];
@@ -111,7 +111,7 @@ called-nothing more x t had settled = record {
 module _ (requests group : List Request) (old now new : Connection) (before at then : Option Traffic) (left less : ℕ) (had replies next : List Reply)
     (some : 0 < length group) (few : length group ≤ 64) (more : Type 0) (goes : more) (idle : IdleStanding)
     (c : Called requests more old now before at left had replies) where
-  same-then : SameClient (channel_of now) (channel_of new) → SameClient (channel_of old) (channel_of new)
+  same-then : SameClient (channel_of_connection now) (channel_of_connection new) → SameClient (channel_of_connection old) (channel_of_connection new)
   same-then k = record { limits = c.same.limits ∙ k.limits; url = c.same.url ∙ k.url }
 
   spent-then : (got : List ℕ) → left ≤ less + length got → most_reads ≤ less + length (c.moves.got ++ got)
@@ -129,13 +129,13 @@ module _ (requests group : List Request) (old now new : Connection) (before at t
     same = same-then g.same;
     added = c.added ++ g.added;
     have_is = added-then g.added g.have_is;
-    settled = ∥∥₁_map c.settled (λ (w : (s : ClientPlace) × StandsAt (channel_of now) s × IsSettled s).
-        let b = g.answers w.0 w.1 (idle (channel_of now) w.0 c.settled w.1) in
+    settled = ∥∥₁_map c.settled (λ (w : (s : ClientPlace) × StandsAt (channel_of_connection now) s × IsSettled s).
+        let b = g.answers w.0 w.1 (idle (channel_of_connection now) w.0 c.settled w.1) in
         (b.1.0, b.1.1, answered-settled group w.0 b.1.0 g.moves.taken g.added w.2 b.1.3));
     answers = λ s h.
         let known = c.answers s h in
         let a = known.0 in
-        let b = g.answers a.behind a.at (idle (channel_of now) a.behind c.settled a.at) in (
+        let b = g.answers a.behind a.at (idle (channel_of_connection now) a.behind c.settled a.at) in (
           record {
             groups = a.groups ++ group ∷ [];
             parts = ap (λ (ms : List Request). ms ++ group) a.parts ∙ sym (concat-push a.groups group);
@@ -144,9 +144,9 @@ module _ (requests group : List Request) (old now new : Connection) (before at t
             at = b.1.1;
             settled = λ settled. answered-settled group a.behind b.1.0 g.moves.taken g.added (a.settled settled) b.1.3;
             rounds =
-                subst (λ (o : List ℕ). Rounds (channel_of new) s (a.groups ++ group ∷ []) b.1.0 (c.sent ++ o) (c.moves.taken ++ g.moves.taken)
+                subst (λ (o : List ℕ). Rounds (channel_of_connection new) s (a.groups ++ group ∷ []) b.1.0 (c.sent ++ o) (c.moves.taken ++ g.moves.taken)
                 (c.added ++ g.added)) (sym b.0)
-                (OneRound group (channel_of new) (rounds-same (channel_of now) (channel_of new) g.same a.rounds)
+                (OneRound group (channel_of_connection new) (rounds-same (channel_of_connection now) (channel_of_connection new) g.same a.rounds)
                 (record { same = record { limits = refl; url = refl }; at = b.1.1; came = b.1.2 }) b.1.3);
           },
           λ l. full-push a.groups group (known.1 goes) (full l),
@@ -169,7 +169,7 @@ module _ (requests group : List Request) (old now new : Connection) (before at t
         answers = λ s h.
             let known = c.answers s h in
             let a = known.0 in
-            let b = g.answers a.behind a.at (idle (channel_of now) a.behind c.settled a.at) in
+            let b = g.answers a.behind a.at (idle (channel_of_connection now) a.behind c.settled a.at) in
             record {
               broken = record {
                 groups = a.groups;
@@ -187,7 +187,7 @@ module _ (requests group : List Request) (old now new : Connection) (before at t
                 taken_then = g.moves.taken;
                 taken_parts = refl;
                 replies = c.added;
-                rounds = rounds-same (channel_of now) (channel_of new) g.same a.rounds;
+                rounds = rounds-same (channel_of_connection now) (channel_of_connection new) g.same a.rounds;
                 breaks = b.0;
               };
               kept = g.added;
@@ -225,7 +225,7 @@ calls-all requests done more old now before at left had have found c e = record 
   same = c.same;
   added = c.added;
   have_is = c.have_is;
-  answers = λ s h. subst (λ (ms : List Request). AnsweredAll ms s (channel_of now) c.sent c.moves.taken c.added) e (c.answers s h).0;
+  answers = λ s h. subst (λ (ms : List Request). AnsweredAll ms s (channel_of_connection now) c.sent c.moves.taken c.added) e (c.answers s h).0;
   stops = omega arith;
 }
 

@@ -22,7 +22,7 @@ use Rattle.ua_channel.specs.declared.client.event.ClientEvent.TheVariants as eve
 use Rattle.ua_channel.specs.declared.client.fault.ClientTakeFault.{ClientTakeFault}
 use Rattle.ua_channel.specs.declared.client.fault.ClientTakeFault.TheVariants as take_fault
 use Rattle.ua_client.specs.Carried.{Carries}
-use Rattle.ua_client.specs.Hearing.{channel_of, untaken_of, most_octets, failure_of, effort, Keeps, TellsEvent, MovesConnection, Starved, Listens}
+use Rattle.ua_client.specs.Hearing.{channel_of_connection, untaken_of, most_fragment_octets, failure_of, effort, KeepsClient, TellsEvent, MovesConnection, Starved, Listens}
 use Rattle.ua_client.specs.Hearing.{ListensAt, is_channel_fault, of_take_fault, failures_behind, Fills, FillsAt, Hears, HearsAt, is_hearing_fault, StopsAt}
 use Rattle.ua_client.specs.declared.connection.Connection.{Connection}
 use Rattle.ua_client.specs.declared.fault.ClientFault.{ClientFault}
@@ -44,13 +44,13 @@ told-at moment piece n (event.Renewed token) new asks octets told not good h = (
 
 -- a channel took this of what was untaken
 abbrev pub Took : Connection → DateTime → ClientChannel → Result (ℕ × ClientEvent) ClientTakeFault → Type 0
-Took old moment new found = (asks : List Placed) (octets : List ℕ) (told : List ClientTold) → ClientGoes (channel_of old) asks octets told
+Took old moment new found = (asks : List Placed) (octets : List ℕ) (told : List ClientTold) → ClientGoes (channel_of_connection old) asks octets told
     → ClientAnswers moment (untaken_of old) found new asks octets told
 
 -- the same by what was given to the channel, and by its event
 pub took-as : (old : Connection) (moment : DateTime) (new : ClientChannel) (piece : List ℕ) (found : Result (ℕ × ClientEvent) ClientTakeFault)
     → piece ≡ untaken_of old
-    → ((asks : List Placed) (octets : List ℕ) (told : List ClientTold) → ClientGoes (channel_of old) asks octets told
+    → ((asks : List Placed) (octets : List ℕ) (told : List ClientTold) → ClientGoes (channel_of_connection old) asks octets told
     → ClientAnswers moment piece found new asks octets told) → Took old moment new found
 took-as old moment new piece found e h = λ asks octets told g. subst (λ (p : List ℕ). ClientAnswers moment p found new asks octets told) e
     (h asks octets told g)
@@ -60,8 +60,8 @@ pub took-event : (old : Connection) (moment : DateTime) (new : ClientChannel) (n
 took-event old moment new n e f same h = λ asks octets told g.
     subst (λ (x : ClientEvent). ClientAnswers moment (untaken_of old) (Ok (n, x)) new asks octets told) same (h asks octets told g)
 
-pub listens-none : (old new : Connection) (moment : DateTime) (n : ℕ) → Keeps old new → untaken_of new ≡ []
-    → Took old moment (channel_of new) (Ok (n, event.NeedMore)) → Listens old new moment (Ok None)
+pub listens-none : (old new : Connection) (moment : DateTime) (n : ℕ) → KeepsClient old new → untaken_of new ≡ []
+    → Took old moment (channel_of_connection new) (Ok (n, event.NeedMore)) → Listens old new moment (Ok None)
 listens-none old new moment n keeps none h = record {
   keeps = keeps;
   taken = untaken_of old;
@@ -74,10 +74,10 @@ listens-none old new moment n keeps none h = record {
 less-left : (n l : ℕ) → n ≤ l → (0 < l → 0 < n) → 0 < l → l - n < l
 less-left n l few some more = let k = some more in omega (arith, few, k, more)
 
-pub listens-some : (old new : Connection) (moment : DateTime) (n : ℕ) (e : ClientEvent) → Keeps old new → (e ≡ event.NeedMore → ⊥)
+pub listens-some : (old new : Connection) (moment : DateTime) (n : ℕ) (e : ClientEvent) → KeepsClient old new → (e ≡ event.NeedMore → ⊥)
     → ((code : StatusCode) (peer : Bool) → e ≡ event.Failed code peer → ⊥) → ClientProgress {A = ClientEvent} (untaken_of old) (Ok (n, e))
     → untaken_of new ≡ drop n (untaken_of old)
-    → Took old moment (channel_of new) (Ok (n, e)) → Listens old new moment (Ok (Some e))
+    → Took old moment (channel_of_connection new) (Ok (n, e)) → Listens old new moment (Ok (Some e))
 listens-some old new moment n e keeps not good few rest h = record {
   keeps = keeps;
   taken = take n (untaken_of old);
@@ -85,7 +85,7 @@ listens-some old new moment n e keeps not good few rest h = record {
   left = λ some. subst (λ (k : ℕ). k < length (untaken_of old)) (sym (ap length rest ∙ length-drop n (untaken_of old)))
       (less-left n (length (untaken_of old)) few.0 few.1 some);
   faults = tt;
-  answers = λ asks octets told g. told-at moment (untaken_of old) n e (channel_of new) asks octets told not good (h asks octets told g);
+  answers = λ asks octets told g. told-at moment (untaken_of old) n e (channel_of_connection new) asks octets told not good (h asks octets told g);
 }
 
 failed-at : (moment : DateTime) (code : StatusCode) (peer : Bool) (new : ClientChannel) (asks : List Placed) (octets : List ℕ) (told : List ClientTold)
@@ -97,16 +97,16 @@ failure-faults : (code : StatusCode) (peer : Bool) → is_channel_fault (failure
 failure-faults code true = refl
 failure-faults code false = refl
 
-pub listens-failed : (old new : Connection) (moment : DateTime) (n : ℕ) (code : StatusCode) (peer : Bool) → Keeps old new
+pub listens-failed : (old new : Connection) (moment : DateTime) (n : ℕ) (code : StatusCode) (peer : Bool) → KeepsClient old new
     → untaken_of new ≡ drop n (untaken_of old)
-    → Took old moment (channel_of new) (Ok (n, event.Failed code peer)) → Listens old new moment (Err (failure_of code peer))
+    → Took old moment (channel_of_connection new) (Ok (n, event.Failed code peer)) → Listens old new moment (Err (failure_of code peer))
 listens-failed old new moment n code peer keeps rest h = record {
   keeps = keeps;
   taken = take n (untaken_of old);
   parts = sym (ap (λ (t : List ℕ). take n (untaken_of old) ++ t) rest ∙ take-append-drop n (untaken_of old));
   left = tt;
   faults = failure-faults code peer;
-  answers = λ asks octets told g. failed-at moment code peer (channel_of new) asks (octets ++ take n (untaken_of old)) told (h asks octets told g);
+  answers = λ asks octets told g. failed-at moment code peer (channel_of_connection new) asks (octets ++ take n (untaken_of old)) told (h asks octets told g);
 }
 
 -- memory was refused where a channel went on
@@ -121,19 +121,19 @@ starves x y asks octets told same g done = record {
   told_is = subst (λ (l : Limits). events (client_rules l asks) g.frames ≡ told) same.limits g.told_is;
 }
 
-fault-at : (f : ClientTakeFault) (old new : Connection) (moment : DateTime) (asks : List Placed) (octets : List ℕ) (told : List ClientTold) → Keeps old new
-    → ClientGoes (channel_of old) asks octets told
-    → ClientAnswers moment (untaken_of old) (Err f) (channel_of new) asks octets told
-    → ListensAt moment (Err (of_take_fault f)) (channel_of new) asks (octets ++ []) told
+fault-at : (f : ClientTakeFault) (old new : Connection) (moment : DateTime) (asks : List Placed) (octets : List ℕ) (told : List ClientTold) → KeepsClient old new
+    → ClientGoes (channel_of_connection old) asks octets told
+    → ClientAnswers moment (untaken_of old) (Err f) (channel_of_connection new) asks octets told
+    → ListensAt moment (Err (of_take_fault f)) (channel_of_connection new) asks (octets ++ []) told
 fault-at take_fault.Closed old new moment asks octets told keeps g h = h
-fault-at take_fault.OutOfMemory old new moment asks octets told keeps g h = starves (channel_of old) (channel_of new) asks octets told keeps.same g h
+fault-at take_fault.OutOfMemory old new moment asks octets told keeps g h = starves (channel_of_connection old) (channel_of_connection new) asks octets told keeps.same g h
 
 of-channel : (f : ClientTakeFault) → is_channel_fault (of_take_fault f) ≡ true
 of-channel take_fault.Closed = refl
 of-channel take_fault.OutOfMemory = refl
 
-pub listens-fault : (old new : Connection) (moment : DateTime) (f : ClientTakeFault) → Keeps old new → untaken_of new ≡ untaken_of old
-    → Took old moment (channel_of new) (Err f) → Listens old new moment (Err (of_take_fault f))
+pub listens-fault : (old new : Connection) (moment : DateTime) (f : ClientTakeFault) → KeepsClient old new → untaken_of new ≡ untaken_of old
+    → Took old moment (channel_of_connection new) (Err f) → Listens old new moment (Err (of_take_fault f))
 listens-fault old new moment f keeps same h = record {
   taken = [];
   parts = sym same;
@@ -185,7 +185,7 @@ moves-writing x y sent a b same carried = record {
   taken = [];
   parts = append-nil (untaken_of x) ∙ sym same;
   first = inl refl;
-  few = λ h. subst (λ (o : List ℕ). length o ≤ most_octets) (sym same) h;
+  few = λ h. subst (λ (o : List ℕ). length o ≤ most_fragment_octets) (sym same) h;
   carried = carried;
 }
 
@@ -197,7 +197,7 @@ moves-from x mid new sent out a b c d same m carried = record {
   taken = m.taken;
   parts = ap (λ (o : List ℕ). o ++ m.got) (sym same) ∙ m.parts;
   first = subst (λ (o : List ℕ). (m.got ≡ []) ⊎ Extends o m.taken) same m.first;
-  few = λ h. m.few (subst (λ (o : List ℕ). length o ≤ most_octets) (sym same) h);
+  few = λ h. m.few (subst (λ (o : List ℕ). length o ≤ most_fragment_octets) (sym same) h);
   carried = carried;
 }
 
@@ -206,7 +206,7 @@ first-read : (u got part : List ℕ) → (got ≡ []) ⊎ (u ≡ []) → (got �
 first-read u got part (inl e) = inl e
 first-read u got part (inr e) = inr (record { more = part; parts = ap (λ (o : List ℕ). o ++ part) (sym e) })
 
-fewer-left : (part rest all : List ℕ) → all ≡ part ++ rest → length all ≤ most_octets → length rest ≤ most_octets
+fewer-left : (part rest all : List ℕ) → all ≡ part ++ rest → length all ≤ most_fragment_octets → length rest ≤ most_fragment_octets
 fewer-left part rest all e few = let l = ap length e ∙ length-append part rest in omega (arith, l, few)
 
 -- a read, and what the channel took of it
@@ -223,22 +223,22 @@ moves-reading now mid new at then left less result part f l = record {
 
 -- ---- up to an event
 
-pub keeps-all : (x : Connection) → Keeps x x
+pub keeps-all : (x : Connection) → KeepsClient x x
 keeps-all x = record { same = record { limits = refl; url = refl }; next = refl }
 
-pub keeps-then : (a b c : Connection) → Keeps a b → Keeps b c → Keeps a c
+pub keeps-then : (a b c : Connection) → KeepsClient a b → KeepsClient b c → KeepsClient a c
 keeps-then a b c h k = record { same = record { limits = h.same.limits ∙ k.same.limits; url = h.same.url ∙ k.same.url }; next = k.next ∙ h.next }
 
 -- a read does not touch the channel
-keeps-channel : (a b : Connection) → channel_of b ≡ channel_of a → Keeps a b
+keeps-channel : (a b : Connection) → channel_of_connection b ≡ channel_of_connection a → KeepsClient a b
 keeps-channel a b e = record { same = record { limits = ap client_limits (sym e); url = ap url_of (sym e) }; next = ap client_next e }
 
 -- so far nothing was told
 pub record Quiet (old now : Connection) (before at : Option Traffic) (reads left : ℕ) : Type 0 where
   pub moves : MovesConnection old now [] before at
-  pub keeps : Keeps old now
-  pub goes : (asks : List Placed) (octets : List ℕ) (told : List ClientTold) → ClientGoes (channel_of old) asks octets told
-      → ClientGoes (channel_of now) asks (octets ++ moves.taken) told
+  pub keeps : KeepsClient old now
+  pub goes : (asks : List Placed) (octets : List ℕ) (told : List ClientTold) → ClientGoes (channel_of_connection old) asks octets told
+      → ClientGoes (channel_of_connection now) asks (octets ++ moves.taken) told
   pub no_more : effort left now ≤ effort reads old
   pub spent : reads ≤ left + length moves.got
 
@@ -246,7 +246,7 @@ pub quiet-nothing : (x : Connection) (t : Option Traffic) (reads : ℕ) → Quie
 quiet-nothing x t reads = record {
   moves = moves-writing x x [] t t refl (carried-nothing t);
   keeps = keeps-all x;
-  goes = λ asks octets told g. subst (λ (o : List ℕ). ClientGoes (channel_of x) asks o told) (sym (append-nil octets)) g;
+  goes = λ asks octets told g. subst (λ (o : List ℕ). ClientGoes (channel_of_connection x) asks o told) (sym (append-nil octets)) g;
   no_more = omega arith;
   spent = omega arith;
 }
@@ -262,12 +262,12 @@ module _ (old now mid : Connection) (before at then : Option Traffic) (reads lef
   moves-then result new part f l = moves-behind old now new [] [] before at then q.moves (moves-reading now mid new at then left less result part f l)
 
   goes-then : {A : Type 0} (result : Result A ClientFault) → Fills now mid at then left less result
-      → (asks : List Placed) (octets : List ℕ) (told : List ClientTold) → ClientGoes (channel_of old) asks octets told
-      → ClientGoes (channel_of mid) asks (octets ++ q.moves.taken) told
+      → (asks : List Placed) (octets : List ℕ) (told : List ClientTold) → ClientGoes (channel_of_connection old) asks octets told
+      → ClientGoes (channel_of_connection mid) asks (octets ++ q.moves.taken) told
   goes-then result f asks octets told g = subst (λ (c : ClientChannel). ClientGoes c asks (octets ++ q.moves.taken) told) (sym f.channel)
       (q.goes asks octets told g)
 
-  keeps-here : {A : Type 0} (result : Result A ClientFault) → Fills now mid at then left less result → (new : Connection) → Keeps mid new → Keeps old new
+  keeps-here : {A : Type 0} (result : Result A ClientFault) → Fills now mid at then left less result → (new : Connection) → KeepsClient mid new → KeepsClient old new
   keeps-here result f new k = keeps-then old mid new (keeps-then old now mid q.keeps (keeps-channel now mid f.channel)) k
 
   spent-then : (more : List ℕ) → left ≤ less + length more → reads ≤ less + length (q.moves.got ++ more)
@@ -275,10 +275,10 @@ module _ (old now mid : Connection) (before at then : Option Traffic) (reads lef
 
   module _ {A : Type 0} (done : A) (f : Fills now mid at then left less (Ok done)) (new : Connection) (moment : DateTime) where
     listened : (result : Result (Option ClientEvent) ClientFault) (l : Listens mid new moment result) (asks : List Placed) (octets : List ℕ)
-        (told : List ClientTold) → ClientGoes (channel_of old) asks octets told
-        → ListensAt moment result (channel_of new) asks (octets ++ (q.moves.taken ++ l.taken)) told
+        (told : List ClientTold) → ClientGoes (channel_of_connection old) asks octets told
+        → ListensAt moment result (channel_of_connection new) asks (octets ++ (q.moves.taken ++ l.taken)) told
     listened result l asks octets told g =
-        subst (λ (o : List ℕ). ListensAt moment result (channel_of new) asks o told) (append_assoc octets q.moves.taken l.taken)
+        subst (λ (o : List ℕ). ListensAt moment result (channel_of_connection new) asks o told) (append_assoc octets q.moves.taken l.taken)
         (l.answers asks (octets ++ q.moves.taken) told (goes-then (Ok done) f asks octets told g))
 
     pub quiet-then : Listens mid new moment (Ok None) → Quiet old new before then reads less
@@ -312,7 +312,7 @@ module _ (old now mid : Connection) (before at then : Option Traffic) (reads lef
         }
 
     listen-fault : (x : ClientFault) (asks : List Placed) (octets : List ℕ) (told : List ClientTold)
-        → ListensAt moment (Err x) (channel_of new) asks octets told → HearsAt moment (Err x) (channel_of new) asks octets told
+        → ListensAt moment (Err x) (channel_of_connection new) asks octets told → HearsAt moment (Err x) (channel_of_connection new) asks octets told
     listen-fault (fault.Peer code) asks octets told h = h
     listen-fault (fault.Refused code) asks octets told h = h
     listen-fault fault.OutOfMemory asks octets told h = h
@@ -371,8 +371,8 @@ module _ (old now mid : Connection) (before at then : Option Traffic) (reads lef
     }
 
   moment-free : (moment : DateTime) (x : ClientFault) (got : List ℕ) → FillsAt {A = Unit {0}} left less got mid then (Err x)
-      → (asks : List Placed) (octets : List ℕ) (told : List ClientTold) → ClientGoes (channel_of mid) asks octets told
-      → HearsAt moment (Err x) (channel_of mid) asks octets told
+      → (asks : List Placed) (octets : List ℕ) (told : List ClientTold) → ClientGoes (channel_of_connection mid) asks octets told
+      → HearsAt moment (Err x) (channel_of_connection mid) asks octets told
   moment-free moment fault.TooLong got h asks octets told g = g
   moment-free moment fault.Ended got h asks octets told g = g
   moment-free moment fault.Read got h asks octets told g = g
@@ -427,7 +427,7 @@ module _ (old now mid : Connection) (before at then : Option Traffic) (reads lef
     moves = moves-then (Err x) mid [] f refl;
     keeps = keeps-here (Err x) f mid (keeps-all mid);
     answers = λ asks octets told g. moment-free moment x f.got f.found asks (octets ++ (q.moves.taken ++ [])) told
-        (subst (λ (t : List ℕ). ClientGoes (channel_of mid) asks (octets ++ t) told) (sym (append-nil q.moves.taken)) (goes-then (Err x) f asks octets told g));
+        (subst (λ (t : List ℕ). ClientGoes (channel_of_connection mid) asks (octets ++ t) told) (sym (append-nil q.moves.taken)) (goes-then (Err x) f asks octets told g));
     less = tt;
     faults = read-heard x f.got f.found;
     stops = read-stops x f.got f.found;

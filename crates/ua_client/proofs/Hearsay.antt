@@ -19,7 +19,7 @@ use Rattle.ua_channel.specs.Client.{ClientGoes, ClientGoesTelling, InPhase, clie
 use Rattle.ua_channel.specs.ClientTable.{client_rules}
 use Rattle.ua_channel.specs.ClientTold.{ClientTold, told_item}
 use Rattle.ua_channel.specs.ClientTold.ClientTold.{Agreed, Opened, Answered, GaveUp, Renewed}
-use Rattle.ua_channel_laws.specs.Paired.{as_list, delivered_under, first, paired, told_of_calls, with_all, with_first}
+use Rattle.ua_channel_laws.specs.Paired.{as_list, delivered_under, first, paired, told_of_calls, with_all, with_first_item}
 use Rattle.ua_channel.specs.Received.{Received, listed, received}
 use Rattle.ua_channel.specs.declared.client.channel.ClientChannel.{ClientChannel}
 use Rattle.ua_channel.specs.declared.client.phase.Phase.{Phase}
@@ -93,7 +93,7 @@ once-by : (b : Bool) (cs : List Chunk) (n id : ℕ) → eqb n id ≡ b → deliv
 once-by true cs n id same own rest = subst (λ (k : ℕ). delivered_under k cs ≡ listed (first (delivered_under k cs))) (eqb-true n id same) own
 once-by false cs n id other own rest = rest refl
 
-once-in : (cs : List Chunk) (ids : List ℕ) (id : ℕ) → map (with_all cs) ids ≡ map as_list (map (with_first cs) ids) → is_in id ids ≡ true
+once-in : (cs : List Chunk) (ids : List ℕ) (id : ℕ) → map (with_all cs) ids ≡ map as_list (map (with_first_item cs) ids) → is_in id ids ≡ true
     → delivered_under id cs ≡ listed (first (delivered_under id cs))
 once-in cs [] id e h = absurd cc
 once-in cs (n ∷ ids) id e h =

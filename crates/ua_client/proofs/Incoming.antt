@@ -16,7 +16,7 @@ use Rattle.ua_channel.specs.declared.client.channel.ClientChannel.{ClientChannel
 use Rattle.ua_channel.specs.declared.client.event.ClientEvent.{ClientEvent}
 use Rattle.ua_services.specs.declared.request.Request.{Request}
 use Rattle.ua_client.specs.Calls.{AreFrames, AreUntold, Collects, CollectsAt, ClientGoesOn, LastCame, none_for}
-use Rattle.ua_client.specs.Hearing.{channel_of, Keeps, MovesConnection, Says, Hears, HearsAt, StopsAt, is_line_fault}
+use Rattle.ua_client.specs.Hearing.{channel_of_connection, KeepsClient, MovesConnection, Says, Hears, HearsAt, StopsAt, is_line_fault}
 use Rattle.ua_client.specs.Replies.{AreSlots, IsFront, IsUntoldBefore, LacksAnswer, IsMisanswered, FillsSlots, front_of, is_reading_fault}
 use Rattle.ua_client.specs.Told.{IsFirstOf}
 use Rattle.ua_client.specs.declared.connection.Connection.{Connection}
@@ -71,15 +71,15 @@ reading-failures fault.TooLong h n = refl
 
 -- no reply came, or the last that was told was told while a reply was missing, and nothing stands behind its frame
 abbrev pub IsLast : List Request → ℕ → Connection → List Placed → List ℕ → List (Option Reply) → List ClientTold → Type 0
-IsLast requests first now asks octets slots all = (slots ≡ none_for requests) ⊎ LastCame (channel_of now) requests first asks octets all
+IsLast requests first now asks octets slots all = (slots ≡ none_for requests) ⊎ LastCame (channel_of_connection now) requests first asks octets all
 
 -- so far these replies came
 pub record Waiting (requests : List Request) (first : ℕ) (old now : Connection) (before at : Option Traffic) (reads left : ℕ)
     (slots : List (Option Reply)) : Type 0 where
   pub moves : MovesConnection old now [] before at
-  pub keeps : Keeps old now
-  pub goes : (asks : List Placed) (octets : List ℕ) (told : List ClientTold) → ClientGoes (channel_of old) asks octets told → AreUntold requests first told
-      → ClientGoesOn (channel_of now) asks (octets ++ moves.taken) told (λ all. AreSlots requests first all slots
+  pub keeps : KeepsClient old now
+  pub goes : (asks : List Placed) (octets : List ℕ) (told : List ClientTold) → ClientGoes (channel_of_connection old) asks octets told → AreUntold requests first told
+      → ClientGoesOn (channel_of_connection now) asks (octets ++ moves.taken) told (λ all. AreSlots requests first all slots
       × IsLast requests first now asks (octets ++ moves.taken) slots all)
   pub spent : reads ≤ left + length moves.got
   pub count : length slots ≡ length requests
@@ -95,8 +95,8 @@ waits-first requests first x t reads slots e = record {
   keeps = keeps-all x;
   goes = λ asks octets told g none. (
     [],
-    subst (λ (o : List ℕ). ClientGoes (channel_of x) asks o (told ++ [])) (sym (append-nil octets))
-        (subst (λ (h : List ClientTold). ClientGoes (channel_of x) asks octets h) (sym (append-nil told)) g),
+    subst (λ (o : List ℕ). ClientGoes (channel_of_connection x) asks o (told ++ [])) (sym (append-nil octets))
+        (subst (λ (h : List ClientTold). ClientGoes (channel_of_connection x) asks octets h) (sym (append-nil told)) g),
     (
       subst (λ (h : List ClientTold). AreSlots requests first h slots) (sym (append-nil told))
           (subst (λ (ss : List (Option Reply)). AreSlots requests first told ss) (sym e) (untold-slots requests first told none)),
@@ -131,7 +131,7 @@ none-missing (r ∷ rs) some e = absurd cc
 -- where no reply is missing, the last of them came
 last-came : (requests : List Request) (first : ℕ) (now : Connection) (asks : List Placed) (octets : List ℕ) (slots : List (Option Reply))
     (all : List ClientTold) → 0 < length requests → list_any is_none slots ≡ false
-    → IsLast requests first now asks octets slots all → LastCame (channel_of now) requests first asks octets all
+    → IsLast requests first now asks octets slots all → LastCame (channel_of_connection now) requests first asks octets all
 last-came requests first now asks octets slots all some none (inl e) =
     absurd (none-missing requests some (subst (λ (ss : List (Option Reply)). list_any is_none ss ≡ false) e none))
 last-came requests first now asks octets slots all some none (inr k) = k
@@ -148,24 +148,24 @@ module _ (requests : List Request) (first : ℕ) (old now new : Connection) (bef
 
   module _ (e : ClientEvent) (h : Hears now new moment at then left less (Ok e)) (goes_on : GoesOnBehind) (once : ToldOnce) where
     -- the history behind an event
-    behind : (P : List ClientTold → Type 0) (asks : List Placed) (octets : List ℕ) (told : List ClientTold) → ClientGoes (channel_of old) asks octets told
+    behind : (P : List ClientTold → Type 0) (asks : List Placed) (octets : List ℕ) (told : List ClientTold) → ClientGoes (channel_of_connection old) asks octets told
         → AreUntold requests first told
         → ((all : List ClientTold) (t : ClientTold) → Says moment e t
-        → ClientGoesTelling (channel_of new) asks (octets ++ (w.moves.taken ++ h.moves.taken)) all t → AreSlots requests first all slots
+        → ClientGoesTelling (channel_of_connection new) asks (octets ++ (w.moves.taken ++ h.moves.taken)) all t → AreSlots requests first all slots
         → P (all ++ t ∷ []))
-        → ClientGoesOn (channel_of new) asks (octets ++ (w.moves.taken ++ h.moves.taken)) told P
+        → ClientGoesOn (channel_of_connection new) asks (octets ++ (w.moves.taken ++ h.moves.taken)) told P
     behind P asks octets told g none filled =
         let on = w.goes asks octets told g none in
         let heard : List ClientTold = on.0 in
         let says = h.answers asks (octets ++ w.moves.taken) (told ++ heard) on.1 in
         let t : ClientTold = says.0 in
         let whole : List ℕ = octets ++ (w.moves.taken ++ h.moves.taken) in
-        let tells : ClientGoesTelling (channel_of new) asks whole (told ++ heard) t =
-        subst (λ (o : List ℕ). ClientGoesTelling (channel_of new) asks o (told ++ heard) t) (append_assoc octets w.moves.taken h.moves.taken) says.2 in
+        let tells : ClientGoesTelling (channel_of_connection new) asks whole (told ++ heard) t =
+        subst (λ (o : List ℕ). ClientGoesTelling (channel_of_connection new) asks o (told ++ heard) t) (append_assoc octets w.moves.taken h.moves.taken) says.2 in
         let is : P ((told ++ heard) ++ t ∷ []) = filled (told ++ heard) t says.1 tells on.2.0 in (
           heard ++ t ∷ [],
-          subst (λ (all : List ClientTold). ClientGoes (channel_of new) asks whole all) (append_assoc told heard (t ∷ []))
-              (goes_on (channel_of new) asks whole (told ++ heard) t tells),
+          subst (λ (all : List ClientTold). ClientGoes (channel_of_connection new) asks whole all) (append_assoc told heard (t ∷ []))
+              (goes_on (channel_of_connection new) asks whole (told ++ heard) t tells),
           subst P (append_assoc told heard (t ∷ [])) is,
         )
 
@@ -173,8 +173,8 @@ module _ (requests : List Request) (first : ℕ) (old now new : Connection) (bef
     first-filled : (P : List ClientTold → Type 0)
         → ((m : DateTime) (all : List ClientTold) (t : ClientTold) → Says m e t → IsFirstOf all t → AreSlots requests first all slots → P (all ++ t ∷ []))
         → (asks : List Placed) (octets : List ℕ) (all : List ClientTold) (t : ClientTold) → Says moment e t
-        → ClientGoesTelling (channel_of new) asks octets all t → AreSlots requests first all slots → P (all ++ t ∷ [])
-    first-filled P filled asks octets all t says tells s = filled moment all t says (once (channel_of new) asks octets all t tells) s
+        → ClientGoesTelling (channel_of_connection new) asks octets all t → AreSlots requests first all slots → P (all ++ t ∷ [])
+    first-filled P filled asks octets all t says tells s = filled moment all t says (once (channel_of_connection new) asks octets all t tells) s
 
     pub waits-more : (next : List (Option Reply)) → length next ≡ length slots → list_any is_none slots ≡ true
         → ((m : DateTime) (all : List ClientTold) (t : ClientTold) → Says m e t → IsFirstOf all t → AreSlots requests first all slots
@@ -196,14 +196,14 @@ module _ (requests : List Request) (first : ℕ) (old now new : Connection) (bef
 
     no-filling : ((m : DateTime) (all : List ClientTold) (t : ClientTold) → Says m e t → IsFirstOf all t → AreSlots requests first all slots → ⊥)
         → (asks : List Placed) (octets : List ℕ) (told : List ClientTold)
-        → ClientGoes (channel_of old) asks octets told → AreUntold requests first told → ⊥
+        → ClientGoes (channel_of_connection old) asks octets told → AreUntold requests first told → ⊥
     no-filling filled asks octets told g none =
         (behind (λ all. ⊥) asks octets told g none (first-filled (λ all. ⊥) filled asks (octets ++ (w.moves.taken ++ h.moves.taken)))).2
 
     misread-by : (A : Type 0) (x : ClientFault) (next : List (Option Reply)) → next ≡ slots → list_any is_none slots ≡ true
         → ((m : DateTime) (all : List ClientTold) (t : ClientTold) → Says m e t → IsFirstOf all t → AreSlots requests first all slots
         → FillsSlots requests first (all ++ t ∷ []) next (Err x))
-        → (asks : List Placed) (octets : List ℕ) (told : List ClientTold) → ClientGoes (channel_of old) asks octets told → AreUntold requests first told
+        → (asks : List Placed) (octets : List ℕ) (told : List ClientTold) → ClientGoes (channel_of_connection old) asks octets told → AreUntold requests first told
         → CollectsAt {A = A} next requests first new then (Err x) asks (octets ++ (w.moves.taken ++ h.moves.taken)) told
     misread-by A fault.UnknownResponse next same missing filled asks octets told g none =
         behind (λ all. IsMisanswered requests first all × IsFront LacksAnswer (front_of next) requests first all) asks octets told g none
@@ -212,7 +212,7 @@ module _ (requests : List Request) (first : ℕ) (old now new : Connection) (bef
     misread-by A fault.OutOfMemory next same missing filled asks octets told g none =
         let on = behind (IsFront IsUntoldBefore (front_of next) requests first) asks octets told g none
         (λ all t says tells s. subst (λ (ss : List (Option Reply)). IsFront IsUntoldBefore (front_of ss) requests first (all ++ t ∷ [])) (sym same)
-        (front-unread requests first all t slots (once (channel_of new) asks (octets ++ (w.moves.taken ++ h.moves.taken)) all t tells) s missing)) in
+        (front-unread requests first all t slots (once (channel_of_connection new) asks (octets ++ (w.moves.taken ++ h.moves.taken)) all t tells) s missing)) in
         (on.0, inr on.1, on.2)
     misread-by A fault.Read next same missing filled asks octets told g none = absurd (no-filling filled asks octets told g none)
     misread-by A fault.Write next same missing filled asks octets told g none = absurd (no-filling filled asks octets told g none)
@@ -229,20 +229,20 @@ module _ (requests : List Request) (first : ℕ) (old now new : Connection) (bef
 
   -- a fault of the line or of the channel while replies are missing
   heard-fault : (A : Type 0) (x : ClientFault) (h : Hears now new moment at then left less (Err x)) → list_any is_none slots ≡ true
-      → (asks : List Placed) (octets : List ℕ) (told : List ClientTold) → ClientGoes (channel_of old) asks octets told → AreUntold requests first told
+      → (asks : List Placed) (octets : List ℕ) (told : List ClientTold) → ClientGoes (channel_of_connection old) asks octets told → AreUntold requests first told
       → CollectsAt {A = A} slots requests first new then (Err x) asks (octets ++ (w.moves.taken ++ h.moves.taken)) told
   heard-fault A x h missing asks octets told g none =
-      by x (subst (λ (o : List ℕ). HearsAt moment (Err x) (channel_of new) asks o (told ++ on.0)) (append_assoc octets w.moves.taken h.moves.taken)
+      by x (subst (λ (o : List ℕ). HearsAt moment (Err x) (channel_of_connection new) asks o (told ++ on.0)) (append_assoc octets w.moves.taken h.moves.taken)
       (h.answers asks (octets ++ w.moves.taken) (told ++ on.0) on.1))
     where
-      on : ClientGoesOn (channel_of now) asks (octets ++ w.moves.taken) told (λ all. AreSlots requests first all slots
+      on : ClientGoesOn (channel_of_connection now) asks (octets ++ w.moves.taken) told (λ all. AreSlots requests first all slots
           × IsLast requests first now asks (octets ++ w.moves.taken) slots all)
       on = w.goes asks octets told g none
 
       some : AreSlots requests first (told ++ on.0) slots × (list_any is_none slots ≡ true)
       some = (on.2.0, missing)
 
-      by : (y : ClientFault) → HearsAt moment (Err y) (channel_of new) asks (octets ++ (w.moves.taken ++ h.moves.taken)) (told ++ on.0)
+      by : (y : ClientFault) → HearsAt moment (Err y) (channel_of_connection new) asks (octets ++ (w.moves.taken ++ h.moves.taken)) (told ++ on.0)
           → CollectsAt {A = A} slots requests first new then (Err y) asks (octets ++ (w.moves.taken ++ h.moves.taken)) told
       by (fault.Peer code) k = (on.0, k, some)
       by (fault.Refused code) k = (on.0, k, some)
@@ -333,8 +333,8 @@ collects-none requests first x t reads some = record {
   keeps = keeps-all x;
   answers = λ asks octets told g n. (
     [],
-    inr (subst (λ (o : List ℕ). ClientGoes (channel_of x) asks o (told ++ [])) (sym (append-nil octets))
-        (subst (λ (h : List ClientTold). ClientGoes (channel_of x) asks octets h) (sym (append-nil told)) g)),
+    inr (subst (λ (o : List ℕ). ClientGoes (channel_of_connection x) asks o (told ++ [])) (sym (append-nil octets))
+        (subst (λ (h : List ClientTold). ClientGoes (channel_of_connection x) asks octets h) (sym (append-nil told)) g)),
     subst (IsFront IsUntoldBefore (front_of (none_for requests)) requests first) (sym (append-nil told)) (front-first requests first told some n),
   );
   stops = tt;

@@ -4,7 +4,7 @@ use Rattle.std.proofs.Common.{◌∙◌, sym, ap, subst}
 use Rattle.ua_services.specs.declared.request.Request.{Request}
 use Rattle.ua_channel.specs.Line.{Traffic}
 use Rattle.ua_client.specs.Calls.{AnsweredAll, BrokenAll, CallsAll}
-use Rattle.ua_client.specs.Hearing.{channel_of, most_reads, StopsAt}
+use Rattle.ua_client.specs.Hearing.{channel_of_connection, most_reads, StopsAt}
 use Rattle.ua_client.specs.Kept.{CallsInto}
 use Rattle.ua_client.specs.declared.connection.Connection.{Connection}
 use Rattle.ua_client.specs.declared.fault.CallsFault.{CallsFault}
@@ -40,8 +40,8 @@ calls-one view requests request old new before after found reply e k c = record 
   moves = c.moves;
   same = c.same;
   answers = λ s at.
-      subst (λ (rs : List Reply). AnsweredAll (request ∷ []) s (channel_of new) c.sent c.moves.taken rs) k
-      (subst (λ (ms : List Request). AnsweredAll ms s (channel_of new) c.sent c.moves.taken (view found)) e (c.answers s at));
+      subst (λ (rs : List Reply). AnsweredAll (request ∷ []) s (channel_of_connection new) c.sent c.moves.taken rs) k
+      (subst (λ (ms : List Request). AnsweredAll ms s (channel_of_connection new) c.sent c.moves.taken (view found)) e (c.answers s at));
   stops = c.stops;
 }
 
@@ -79,7 +79,7 @@ all-answered view requests old new before after done found had have none same c 
   sent = c.sent;
   moves = c.moves;
   same = c.same;
-  answers = λ s at. subst (λ (rs : List Reply). AnsweredAll requests s (channel_of new) c.sent c.moves.taken rs)
+  answers = λ s at. subst (λ (rs : List Reply). AnsweredAll requests s (channel_of_connection new) c.sent c.moves.taken rs)
       (sym (sym same ∙ (c.have_is ∙ ap (λ (rs : List Reply). rs ++ c.added) none))) (c.answers s at);
   stops = c.stops;
 }

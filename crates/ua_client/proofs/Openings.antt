@@ -15,9 +15,9 @@ use Rattle.ua_channel.specs.declared.client.channel.ClientChannel.{ClientChannel
 use Rattle.ua_channel.specs.declared.client.event.ClientEvent.{ClientEvent}
 use Rattle.ua_channel.specs.declared.client.event.ClientEvent.TheVariants as event
 use Rattle.ua_client.specs.Carried.{Carries, IsPart, WritesFront}
-use Rattle.ua_client.specs.Hearing.{channel_of, BreaksOff, Keeps, MovesConnection, Says, Starved, Hears, HearsAt, StopsAt, most_reads}
+use Rattle.ua_client.specs.Hearing.{channel_of_connection, BreaksOff, KeepsClient, MovesConnection, Says, Starved, Hears, HearsAt, StopsAt, most_reads}
 use Rattle.ua_client.specs.Opening.{is_agreed, is_opened, EndsWithout, GoesWithout, GoesUntil, StarvesWithout, WaitsAt}
-use Rattle.ua_client.specs.Opening.{Waits, any_done, hello_octets, open_octets, BreaksOpening, IsOpened, Opens}
+use Rattle.ua_client.specs.Opening.{Waits, any_done, hello_octets, open_frame_octets, BreaksOpening, IsOpened, Opens}
 use Rattle.ua_client.specs.declared.connection.Connection.{Connection}
 use Rattle.ua_client.specs.declared.fault.ClientFault.{ClientFault}
 use Rattle.ua_client.specs.declared.fault.ClientFault.TheVariants as fault
@@ -108,9 +108,9 @@ any-left wanted (y ∷ us) vs i = or-more (wanted y) (list_any wanted us) (list_
 -- so far nothing was told that is waited for
 pub record Lacks (wanted : ClientTold → Bool) (old now : Connection) (before at : Option Traffic) (reads left : ℕ) : Type 0 where
   pub moves : MovesConnection old now [] before at
-  pub keeps : Keeps old now
-  pub goes : (asks : List Placed) (octets : List ℕ) (told : List ClientTold) → ClientGoes (channel_of old) asks octets told
-      → GoesWithout wanted (channel_of now) asks (octets ++ moves.taken) told
+  pub keeps : KeepsClient old now
+  pub goes : (asks : List Placed) (octets : List ℕ) (told : List ClientTold) → ClientGoes (channel_of_connection old) asks octets told
+      → GoesWithout wanted (channel_of_connection now) asks (octets ++ moves.taken) told
   pub spent : reads ≤ left + length moves.got
 
 pub lacks-first : (wanted : ClientTold → Bool) (x : Connection) (t : Option Traffic) (reads : ℕ) → Lacks wanted x x t t reads reads
@@ -120,8 +120,8 @@ lacks-first wanted x t reads = record {
   goes = λ asks octets told g. record {
     heard = [];
     none = refl;
-    goes = subst (λ (o : List ℕ). ClientGoes (channel_of x) asks o (told ++ [])) (sym (append-nil octets))
-        (subst (λ (h : List ClientTold). ClientGoes (channel_of x) asks octets h) (sym (append-nil told)) g);
+    goes = subst (λ (o : List ℕ). ClientGoes (channel_of_connection x) asks o (told ++ [])) (sym (append-nil octets))
+        (subst (λ (h : List ClientTold). ClientGoes (channel_of_connection x) asks octets h) (sym (append-nil told)) g);
   };
   spent = omega arith;
 }
@@ -143,11 +143,11 @@ module _ (test : ClientEvent → Bool) (wanted : ClientTold → Bool) (tests : T
         record {
           heard = on.heard ++ says.0 ∷ [];
           none = any-push wanted on.heard says.0 on.none (tests moment e says.0 says.1 ∙ other);
-          goes = subst (λ (o : List ℕ). ClientGoes (channel_of new) asks o (told ++ (on.heard ++ says.0 ∷ [])))
+          goes = subst (λ (o : List ℕ). ClientGoes (channel_of_connection new) asks o (told ++ (on.heard ++ says.0 ∷ [])))
               (append_assoc octets w.moves.taken h.moves.taken)
-              (subst (λ (all : List ClientTold). ClientGoes (channel_of new) asks ((octets ++ w.moves.taken) ++ h.moves.taken) all)
+              (subst (λ (all : List ClientTold). ClientGoes (channel_of_connection new) asks ((octets ++ w.moves.taken) ++ h.moves.taken) all)
               (append_assoc told on.heard (says.0 ∷ []))
-              (goes_on (channel_of new) asks ((octets ++ w.moves.taken) ++ h.moves.taken) (told ++ on.heard) says.0 says.2));
+              (goes_on (channel_of_connection new) asks ((octets ++ w.moves.taken) ++ h.moves.taken) (told ++ on.heard) says.0 says.2));
         };
     spent = spent-more h.moves.got h.stops;
   }
@@ -165,7 +165,7 @@ module _ (test : ClientEvent → Bool) (wanted : ClientTold → Bool) (tests : T
             none = on.none;
             last = says.0;
             is_wanted = tests moment e says.0 says.1 ∙ own;
-            tells = subst (λ (o : List ℕ). ClientGoesTelling (channel_of new) asks o (told ++ on.heard) says.0)
+            tells = subst (λ (o : List ℕ). ClientGoesTelling (channel_of_connection new) asks o (told ++ on.heard) says.0)
                 (append_assoc octets w.moves.taken h.moves.taken) says.2;
           },
           holds says.0 says.1,
@@ -182,14 +182,14 @@ module _ (test : ClientEvent → Bool) (wanted : ClientTold → Bool) (tests : T
     answers = λ asks octets told g.
         let on = w.goes asks octets told g in
         by x asks (octets ++ (w.moves.taken ++ h.moves.taken)) told on.heard on.none
-        (subst (λ (o : List ℕ). HearsAt moment (Err x) (channel_of new) asks o (told ++ on.heard)) (append_assoc octets w.moves.taken h.moves.taken)
+        (subst (λ (o : List ℕ). HearsAt moment (Err x) (channel_of_connection new) asks o (told ++ on.heard)) (append_assoc octets w.moves.taken h.moves.taken)
         (h.answers asks (octets ++ w.moves.taken) (told ++ on.heard) on.goes));
     faults = h.faults;
     stops = stops x h.moves.got h.stops;
   }
     where
       by : (y : ClientFault) (asks : List Placed) (octets : List ℕ) (told heard : List ClientTold) → list_any wanted heard ≡ false
-          → HearsAt moment (Err y) (channel_of new) asks octets (told ++ heard) → WaitsAt wanted P (Err y) (channel_of new) asks octets told
+          → HearsAt moment (Err y) (channel_of_connection new) asks octets (told ++ heard) → WaitsAt wanted P (Err y) (channel_of_connection new) asks octets told
       by (fault.Peer code) asks octets told heard none k = record { heard = heard; none = none; ended = k }
       by (fault.Refused code) asks octets told heard none k = record { heard = heard; none = none; ended = k }
       by fault.Ended asks octets told heard none k = record { heard = heard; none = none; goes = k }
@@ -342,7 +342,7 @@ opens-nothing moment x t = record {
 
 -- the HEL was not written whole
 pub opens-unwritten : {A : Type 0} (moment : DateTime) (x : Connection) (hello : List ℕ) (before after : Option Traffic)
-    → hello ≡ hello_octets (client_limits (channel_of x)) (url_of (channel_of x)) → 0 < length hello → IfTrafficKnown (WritesFront hello) before after
+    → hello ≡ hello_octets (client_limits (channel_of_connection x)) (url_of (channel_of_connection x)) → 0 < length hello → IfTrafficKnown (WritesFront hello) before after
     → Opens {A = A} moment x x before after (Err fault.Write)
 opens-unwritten moment x hello before after is some h =
     let front = sends-part hello before after some h in
@@ -361,7 +361,7 @@ sent-first x mid hello a b c w m =
     (carried-as m.got (hello ++ []) m.got hello a c refl (append-nil hello) (carried-then [] hello m.got [] a b c w m.carried))
 
 module _ (moment : DateTime) (x mid : Connection) (hello : List ℕ) (a b c : Option Traffic) (left : ℕ)
-    (is : hello ≡ hello_octets (client_limits (channel_of x)) (url_of (channel_of x))) (w : IfTrafficKnown (Carries [] hello) a b) where
+    (is : hello ≡ hello_octets (client_limits (channel_of_connection x)) (url_of (channel_of_connection x))) (w : IfTrafficKnown (Carries [] hello) a b) where
   -- no ACK came
   pub opens-unagreed : {A B : Type 0} (P : B → Type 0) (f : ClientFault) → Waits is_agreed P x mid b c most_reads left (Err f)
       → Opens {A = A} moment x mid a c (Err f)
@@ -373,14 +373,14 @@ module _ (moment : DateTime) (x mid : Connection) (hello : List ℕ) (a b c : Op
     stops = stops f h.stops;
   }
     where
-      by : (y : ClientFault) → WaitsAt is_agreed P (Err y) (channel_of mid) [] h.moves.taken []
-          → BreaksOpening (hello_octets (client_limits (channel_of x)) (url_of (channel_of x))) (open_octets moment) (channel_of mid) hello h.moves.taken y
-      by fault.Read k = inl (is, told-none is_agreed P [] none-agreed (channel_of mid) [] h.moves.taken fault.Read k)
-      by fault.Ended k = inl (is, told-none is_agreed P [] none-agreed (channel_of mid) [] h.moves.taken fault.Ended k)
-      by fault.TooLong k = inl (is, told-none is_agreed P [] none-agreed (channel_of mid) [] h.moves.taken fault.TooLong k)
-      by (fault.Peer code) k = inl (is, told-none is_agreed P [] none-agreed (channel_of mid) [] h.moves.taken (fault.Peer code) k)
-      by (fault.Refused code) k = inl (is, told-none is_agreed P [] none-agreed (channel_of mid) [] h.moves.taken (fault.Refused code) k)
-      by fault.OutOfMemory k = inr (inl (is, told-none is_agreed P [] none-agreed (channel_of mid) [] h.moves.taken fault.OutOfMemory k))
+      by : (y : ClientFault) → WaitsAt is_agreed P (Err y) (channel_of_connection mid) [] h.moves.taken []
+          → BreaksOpening (hello_octets (client_limits (channel_of_connection x)) (url_of (channel_of_connection x))) (open_frame_octets moment) (channel_of_connection mid) hello h.moves.taken y
+      by fault.Read k = inl (is, told-none is_agreed P [] none-agreed (channel_of_connection mid) [] h.moves.taken fault.Read k)
+      by fault.Ended k = inl (is, told-none is_agreed P [] none-agreed (channel_of_connection mid) [] h.moves.taken fault.Ended k)
+      by fault.TooLong k = inl (is, told-none is_agreed P [] none-agreed (channel_of_connection mid) [] h.moves.taken fault.TooLong k)
+      by (fault.Peer code) k = inl (is, told-none is_agreed P [] none-agreed (channel_of_connection mid) [] h.moves.taken (fault.Peer code) k)
+      by (fault.Refused code) k = inl (is, told-none is_agreed P [] none-agreed (channel_of_connection mid) [] h.moves.taken (fault.Refused code) k)
+      by fault.OutOfMemory k = inr (inl (is, told-none is_agreed P [] none-agreed (channel_of_connection mid) [] h.moves.taken fault.OutOfMemory k))
       by fault.Write k = absurd k
       by fault.UnknownResponse k = absurd k
       by (fault.Service code) k = absurd k
@@ -407,21 +407,21 @@ module _ (moment : DateTime) (x mid : Connection) (hello : List ℕ) (a b c : Op
       stops fault.OutOfMemory k = tt
 
   module _ {B : Type 0} (P : B → Type 0) (found : B) (h : Waits is_agreed P x mid b c most_reads left (Ok found)) (opening : List ℕ) (open_is : P found
-      → opening ≡ open_octets moment) where
+      → opening ≡ open_frame_octets moment) where
     -- the ACK
-    agreed-first : GoesOnBehind → ClientGoes (channel_of x) [] [] [] → (ack : Ack) × ClientGoesTelling (channel_of mid) [] h.moves.taken [] (Agreed ack)
-    agreed-first goes_on g = agreed-alone goes_on (channel_of mid) h.moves.taken (h.answers [] [] [] g).0
+    agreed-first : GoesOnBehind → ClientGoes (channel_of_connection x) [] [] [] → (ack : Ack) × ClientGoesTelling (channel_of_connection mid) [] h.moves.taken [] (Agreed ack)
+    agreed-first goes_on g = agreed-alone goes_on (channel_of_connection mid) h.moves.taken (h.answers [] [] [] g).0
 
     -- what it told
-    agreed-told : GoesOnBehind → ClientGoes (channel_of x) [] [] [] → (ack : Ack) × ClientGoes (channel_of mid) [] h.moves.taken (Agreed ack ∷ [])
-    agreed-told goes_on g = let a = agreed-first goes_on g in (a.0, goes_on (channel_of mid) [] h.moves.taken [] (Agreed a.0) a.1)
+    agreed-told : GoesOnBehind → ClientGoes (channel_of_connection x) [] [] [] → (ack : Ack) × ClientGoes (channel_of_connection mid) [] h.moves.taken (Agreed ack ∷ [])
+    agreed-told goes_on g = let a = agreed-first goes_on g in (a.0, goes_on (channel_of_connection mid) [] h.moves.taken [] (Agreed a.0) a.1)
 
-    opening-is : ClientGoes (channel_of x) [] [] [] → opening ≡ open_octets moment
+    opening-is : ClientGoes (channel_of_connection x) [] [] [] → opening ≡ open_frame_octets moment
     opening-is g = open_is (h.answers [] [] [] g).1
 
-    both-sent : ClientGoes (channel_of x) [] [] [] → hello ++ opening ≡ hello_octets (client_limits (channel_of x)) (url_of (channel_of x))
-        ++ open_octets moment
-    both-sent g = ap (λ (o : List ℕ). o ++ opening) is ∙ ap (λ (o : List ℕ). hello_octets (client_limits (channel_of x)) (url_of (channel_of x)) ++ o)
+    both-sent : ClientGoes (channel_of_connection x) [] [] [] → hello ++ opening ≡ hello_octets (client_limits (channel_of_connection x)) (url_of (channel_of_connection x))
+        ++ open_frame_octets moment
+    both-sent g = ap (λ (o : List ℕ). o ++ opening) is ∙ ap (λ (o : List ℕ). hello_octets (client_limits (channel_of_connection x)) (url_of (channel_of_connection x)) ++ o)
         (opening-is g)
 
     -- the OPN was not written whole
@@ -441,7 +441,7 @@ module _ (moment : DateTime) (x mid : Connection) (hello : List ℕ) (a b c : Op
                 front.0,
                 ap (λ (o : List ℕ). o ++ front.0) is,
                 subst (IsPart front.0) (opening-is g) front.1,
-                (t.0, subst (λ (o : List ℕ). ClientGoesTelling (channel_of mid) [] o [] (Agreed t.0)) (sym (append-nil h.moves.taken)) t.1),
+                (t.0, subst (λ (o : List ℕ). ClientGoesTelling (channel_of_connection mid) [] o [] (Agreed t.0)) (sym (append-nil h.moves.taken)) t.1),
               );
           stops = tt;
         }
@@ -461,7 +461,7 @@ module _ (moment : DateTime) (x mid : Connection) (hello : List ℕ) (a b c : Op
         keeps = keeps-then x mid new h.keeps k.keeps;
         answers = λ g.
             let t = agreed-told goes_on g in
-            (both-sent g, opened-next goes_on (channel_of new) (h.moves.taken ++ k.moves.taken) t.0 (k.answers [] h.moves.taken (Agreed t.0 ∷ []) t.1).0);
+            (both-sent g, opened-next goes_on (channel_of_connection new) (h.moves.taken ++ k.moves.taken) t.0 (k.answers [] h.moves.taken (Agreed t.0 ∷ []) t.1).0);
         stops = omega arith;
       }
 
@@ -475,31 +475,31 @@ module _ (moment : DateTime) (x mid : Connection) (hello : List ℕ) (a b c : Op
         stops = stops f k.stops;
       }
         where
-          by : (y : ClientFault) → ClientGoes (channel_of x) [] [] [] → (ack : Ack)
-              → WaitsAt is_opened any_done (Err y) (channel_of new) [] (h.moves.taken ++ k.moves.taken) (Agreed ack ∷ [])
-              → BreaksOpening (hello_octets (client_limits (channel_of x)) (url_of (channel_of x))) (open_octets moment) (channel_of new) (hello ++ opening)
+          by : (y : ClientFault) → ClientGoes (channel_of_connection x) [] [] [] → (ack : Ack)
+              → WaitsAt is_opened any_done (Err y) (channel_of_connection new) [] (h.moves.taken ++ k.moves.taken) (Agreed ack ∷ [])
+              → BreaksOpening (hello_octets (client_limits (channel_of_connection x)) (url_of (channel_of_connection x))) (open_frame_octets moment) (channel_of_connection new) (hello ++ opening)
               (h.moves.taken ++ k.moves.taken) y
           by fault.Read g ack i =
               inr (
                 both-sent g,
-                (ack, told-none is_opened any_done (Agreed ack ∷ []) (none-opened ack) (channel_of new) [] (h.moves.taken ++ k.moves.taken) fault.Read i),
+                (ack, told-none is_opened any_done (Agreed ack ∷ []) (none-opened ack) (channel_of_connection new) [] (h.moves.taken ++ k.moves.taken) fault.Read i),
               )
           by fault.Ended g ack i =
               inr (
                 both-sent g,
-                (ack, told-none is_opened any_done (Agreed ack ∷ []) (none-opened ack) (channel_of new) [] (h.moves.taken ++ k.moves.taken) fault.Ended i),
+                (ack, told-none is_opened any_done (Agreed ack ∷ []) (none-opened ack) (channel_of_connection new) [] (h.moves.taken ++ k.moves.taken) fault.Ended i),
               )
           by fault.TooLong g ack i =
               inr (
                 both-sent g,
-                (ack, told-none is_opened any_done (Agreed ack ∷ []) (none-opened ack) (channel_of new) [] (h.moves.taken ++ k.moves.taken) fault.TooLong i),
+                (ack, told-none is_opened any_done (Agreed ack ∷ []) (none-opened ack) (channel_of_connection new) [] (h.moves.taken ++ k.moves.taken) fault.TooLong i),
               )
           by (fault.Peer code) g ack i =
               inr (
                 both-sent g,
                 (
                   ack,
-                  told-none is_opened any_done (Agreed ack ∷ []) (none-opened ack) (channel_of new) [] (h.moves.taken ++ k.moves.taken)
+                  told-none is_opened any_done (Agreed ack ∷ []) (none-opened ack) (channel_of_connection new) [] (h.moves.taken ++ k.moves.taken)
                       (fault.Peer code) i,
                 ),
               )
@@ -508,7 +508,7 @@ module _ (moment : DateTime) (x mid : Connection) (hello : List ℕ) (a b c : Op
                 both-sent g,
                 (
                   ack,
-                  told-none is_opened any_done (Agreed ack ∷ []) (none-opened ack) (channel_of new) [] (h.moves.taken ++ k.moves.taken)
+                  told-none is_opened any_done (Agreed ack ∷ []) (none-opened ack) (channel_of_connection new) [] (h.moves.taken ++ k.moves.taken)
                       (fault.Refused code) i,
                 ),
               )
@@ -517,7 +517,7 @@ module _ (moment : DateTime) (x mid : Connection) (hello : List ℕ) (a b c : Op
                 both-sent g,
                 (
                   ack,
-                  told-none is_opened any_done (Agreed ack ∷ []) (none-opened ack) (channel_of new) [] (h.moves.taken ++ k.moves.taken) fault.OutOfMemory
+                  told-none is_opened any_done (Agreed ack ∷ []) (none-opened ack) (channel_of_connection new) [] (h.moves.taken ++ k.moves.taken) fault.OutOfMemory
                       i,
                 ),
               ))

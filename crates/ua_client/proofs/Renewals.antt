@@ -23,7 +23,7 @@ use Rattle.ua_channel.specs.Asks.{Asking, Placed, asked_before, asked_in, end_of
 use Rattle.ua_channel.specs.Asks.Asking.{Call, Renewal}
 use Rattle.ua_channel.specs.ClientTable.{client_reasons, client_rules, is_awaited, of_numbers}
 use Rattle.ua_channel.specs.ClientTokens.{answer_in, answer_behind, from_last, held_by, held_tokens}
-use Rattle.ua_channel.specs.ClientTokens.{id_listed, opened_ids, response_listed, responses, tokens_of}
+use Rattle.ua_channel.specs.ClientTokens.{id_listed, opened_ids, response_listed, open_responses, tokens_of}
 use Rattle.ua_channel.specs.ClientTold.{ClientTold, client_tells, told_ack, told_item, told_response}
 use Rattle.ua_channel.specs.ClientTold.ClientTold.{Agreed, Answered, GaveUp, Renewed}
 use Rattle.ua_channel.specs.Content.{Content, Opening, content}
@@ -195,17 +195,17 @@ was-so false e = absurd cc
 
 -- the request id of an OPN that is taken behind the first one is that of a renewal that is pending
 answers-pending : (limits : Limits) (before : Received) (place : ℕ) (asks : List Placed) (o : Opening) (n : ℕ × ℕ) (q : OpenResponse) (qs : List OpenResponse)
-    → o.numbers ≡ Some n → responses before.openings ≡ q ∷ qs
+    → o.numbers ≡ Some n → open_responses before.openings ≡ q ∷ qs
     → first_reason (client_reasons limits before (asked_before place asks) (Opens o)) ≡ None
     → is_in n.1 (pending_renewals (opened_ids before.openings) (asked_in asks)) ≡ true
 answers-pending limits before place asks o n q qs numbers some e =
     let all = none-holds (client_reasons limits before (asked_before place asks) (Opens o)) e in
-    let one : of_numbers (λ m. not (is_awaited (responses before.openings) (opened_ids before.openings) (asked_before place asks) m.1)) (Some n) ≡ false =
-    subst (λ (m : Option (ℕ × ℕ)). of_numbers (λ k. not (is_awaited (responses before.openings) (opened_ids before.openings) (asked_before place asks) k.1)) m
+    let one : of_numbers (λ m. not (is_awaited (open_responses before.openings) (opened_ids before.openings) (asked_before place asks) m.1)) (Some n) ≡ false =
+    subst (λ (m : Option (ℕ × ℕ)). of_numbers (λ k. not (is_awaited (open_responses before.openings) (opened_ids before.openings) (asked_before place asks) k.1)) m
     ≡ false) numbers all.1.1.1.1.1.1.1.1.1.1.1.1.0 in
     let awaited : is_awaited (q ∷ qs) (opened_ids before.openings) (asked_before place asks) n.1 ≡ true =
     ap (λ (rs : List OpenResponse). is_awaited rs (opened_ids before.openings) (asked_before place asks) n.1) (sym some)
-    ∙ was-so (is_awaited (responses before.openings) (opened_ids before.openings) (asked_before place asks) n.1) one in
+    ∙ was-so (is_awaited (open_responses before.openings) (opened_ids before.openings) (asked_before place asks) n.1) one in
     was-pending-all place (opened_ids before.openings) n.1 asks awaited
 
 ids-push : (os : List Opening) (o : Opening) → opened_ids (os ++ o ∷ []) ≡ opened_ids os ++ id_listed o.numbers
@@ -213,8 +213,8 @@ unfolding opened_ids
 ids-push os o = flat_map-append (λ (p : Opening). id_listed p.numbers) os (o ∷ [])
     ∙ ap (λ (ids : List ℕ). flat_map (λ (p : Opening). id_listed p.numbers) os ++ ids) (append-nil (id_listed o.numbers))
 
-responses-more : (os : List Opening) (o : Opening) → responses (os ++ o ∷ []) ≡ responses os ++ response_listed (answer_in o)
-unfolding responses
+responses-more : (os : List Opening) (o : Opening) → open_responses (os ++ o ∷ []) ≡ open_responses os ++ response_listed (answer_in o)
+unfolding open_responses
 responses-more os o =
     flat_map-append (λ (p : Opening). response_listed (answer_in p)) os (o ∷ [])
     ∙ ap (λ (rs : List OpenResponse). flat_map (λ (p : Opening). response_listed (answer_in p)) os ++ rs) (append-nil (response_listed (answer_in o)))
@@ -256,8 +256,8 @@ frame-pending limits asks place before (Acks ack) e = same-pending (pending-at b
 frame-pending limits asks place before (Fails error) e = same-pending (pending-at before asks) [] refl
 frame-pending limits asks place before (Opens o) e =
     subst (λ (ids : List ℕ). length (pending_renewals ids (asked_in asks)) + tokens-told
-    (map (told_response (responses before.openings)) (response_listed (answer_in o))) ≤ pending-at before asks) (sym (ids-push before.openings o))
-    (opens-by before asks o (responses before.openings) o.numbers (answer_in o) (unanswered o)
+    (map (told_response (open_responses before.openings)) (response_listed (answer_in o))) ≤ pending-at before asks) (sym (ids-push before.openings o))
+    (opens-by before asks o (open_responses before.openings) o.numbers (answer_in o) (unanswered o)
     (λ n q qs numbers some. answers-pending limits before place asks o n q qs numbers some e))
 frame-pending limits asks place before (Sends c) e = same-pending (pending-at before asks) (map told_item (given before.messages c))
     (items-none (given before.messages c))
@@ -321,13 +321,13 @@ some-mapped rs (q ∷ qs) h = refl
 
 -- there is a response
 abbrev has-opened : Received → Bool
-has-opened before = has_some (responses before.openings)
+has-opened before = has_some (open_responses before.openings)
 
 stays-opened : (before : Received) (c : Content) → has-opened before ≡ true → has-opened (after before c) ≡ true
 stays-opened before (Greets hello) h = h
 stays-opened before (Acks ack) h = h
 stays-opened before (Fails error) h = h
-stays-opened before (Opens o) h = ap has_some (responses-more before.openings o) ∙ some-left (responses before.openings) (response_listed (answer_in o)) h
+stays-opened before (Opens o) h = ap has_some (responses-more before.openings o) ∙ some-left (open_responses before.openings) (response_listed (answer_in o)) h
 stays-opened before (Sends c) h = h
 stays-opened before (Closes c) h = h
 stays-opened before Nothing h = h
@@ -338,7 +338,7 @@ told-opens before (Acks ack) h = let e = sym (ack-opens-none ack) ∙ h in absur
 told-opens before (Fails error) h = absurd cc
 told-opens before (Opens o) h =
     ap has_some (responses-more before.openings o)
-    ∙ some-right (responses before.openings) (response_listed (answer_in o)) (some-mapped (responses before.openings) (response_listed (answer_in o)) h)
+    ∙ some-right (open_responses before.openings) (response_listed (answer_in o)) (some-mapped (open_responses before.openings) (response_listed (answer_in o)) h)
 told-opens before (Sends c) h = let e = sym (is-opened-items (given before.messages c)) ∙ h in absurd cc
 told-opens before (Closes c) h = absurd cc
 told-opens before Nothing h = absurd cc
@@ -374,7 +374,7 @@ opened-from limits asks start (f ∷ fs) h =
 
 -- where it was told that the channel is open, there is a response
 pub told-opened : (limits : Limits) (asks : List Placed) (frames : List Frame) → list_any is_opened (events (client_rules limits asks) frames) ≡ true
-    → responses (received frames).openings ≡ [] → ⊥
+    → open_responses (received frames).openings ≡ [] → ⊥
 unfolding each_after
 told-opened limits asks frames h none = let e = sym (ap has_some none) ∙ opened-from limits asks [] frames h in absurd cc
 
@@ -402,9 +402,9 @@ newest-held : (before : Received) (o : Opening) (r : OpenResponse) (k : ℕ) →
     → latest (held_tokens (after before (Opens o))) ≡ Some k → k ≡ r.token_id
 unfolding held_tokens tokens_of
 newest-held before o r k is e =
-    let more : tokens_of (responses (before.openings ++ o ∷ [])) ≡ tokens_of (responses before.openings) ++ r.token_id ∷ [] =
-    ap tokens_of (responses-push before.openings o r is) ∙ map-append (λ (q : OpenResponse). q.token_id) (responses before.openings) (r ∷ []) in
-    latest-held before.used (tokens_of (responses before.openings)) r.token_id k (ap (λ (ms : List ℕ). latest (held_by before.used ms)) (sym more) ∙ e)
+    let more : tokens_of (open_responses (before.openings ++ o ∷ [])) ≡ tokens_of (open_responses before.openings) ++ r.token_id ∷ [] =
+    ap tokens_of (responses-push before.openings o r is) ∙ map-append (λ (q : OpenResponse). q.token_id) (open_responses before.openings) (r ∷ []) in
+    latest-held before.used (tokens_of (open_responses before.openings)) r.token_id k (ap (λ (ms : List ℕ). latest (held_by before.used ms)) (sym more) ∙ e)
 
 same-token : (t : ClientTold) (ts : List ClientTold) (token : ℕ) → t ∷ ts ≡ Renewed token ∷ [] → t ≡ Renewed token
 same-token t ts token e = cc
@@ -423,12 +423,12 @@ not-ack None token e = absurd cc
 not-ack (Some a) token e = let x = same-token (Agreed a) [] token e in absurd cc
 
 newest-by : (before : Received) (o : Opening) (answer : Option OpenAnswer) (token k : ℕ) → answer_in o ≡ answer
-    → map (told_response (responses before.openings)) (response_listed answer) ≡ Renewed token ∷ []
+    → map (told_response (open_responses before.openings)) (response_listed answer) ≡ Renewed token ∷ []
     → latest (held_tokens (after before (Opens o))) ≡ Some k → k ≡ token
 newest-by before o None token k is e h = absurd cc
 newest-by before o (Some (Fault f)) token k is e h = absurd cc
 newest-by before o (Some (Open r)) token k is e h = newest-held before o r k is h
-    ∙ told-token (responses before.openings) r token (same-token (told_response (responses before.openings) r) [] token e)
+    ∙ told-token (open_responses before.openings) r token (same-token (told_response (open_responses before.openings) r) [] token e)
 
 newest-told : (before : Received) (c : Content) (token k : ℕ) → client_tells before c ≡ Renewed token ∷ [] → latest (held_tokens (after before c)) ≡ Some k
     → k ≡ token

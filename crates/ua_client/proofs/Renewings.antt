@@ -16,7 +16,7 @@ use Rattle.ua_channel.specs.Asks.{Asking, Placed, asked_in, calls, next_id, pend
 use Rattle.ua_channel.specs.Asks.Asking.{Renewal}
 use Rattle.ua_channel.specs.Client.{ClientGoes, ClientGoesTelling, HasNoChannel, InPhase, IsNotOpen, IsRenewal, SameClient}
 use Rattle.ua_channel.specs.Client.{SendsRenewal, ClientStands, client_limits, client_next, phase_of, renew_refusal, renewal_refused}
-use Rattle.ua_channel.specs.ClientAsks.{IsFor, most_tokens, no_id}
+use Rattle.ua_channel.specs.ClientAsks.{IsAskFaultFor, most_tokens, no_id}
 use Rattle.ua_channel.specs.ClientSends.{renewal_frame}
 use Rattle.ua_channel.specs.ClientTokens.{held_tokens, opened_ids}
 use Rattle.ua_channel.specs.ClientTold.{ClientTold}
@@ -34,7 +34,7 @@ use Rattle.ua_channel.specs.declared.client.phase.Phase.TheVariants as phase
 use Rattle.ua_channel.proofs.Askings.{asked_in-push, renewals-push}
 use Rattle.ua_channel_laws.proofs.ClientReadings.{stands_once}
 use Rattle.ua_client.specs.Carried.{Carries, IsPart, WritesFront}
-use Rattle.ua_client.specs.Hearing.{channel_of, is_hearing_fault, untaken_of, most_reads, Keeps, MovesConnection, StopsAt}
+use Rattle.ua_client.specs.Hearing.{channel_of_connection, is_hearing_fault, untaken_of, most_reads, KeepsClient, MovesConnection, StopsAt}
 use Rattle.ua_client.specs.Opening.{is_opened, any_done, GoesUntil, IsOpened, WaitsAt, Waits}
 use Rattle.ua_client.specs.Renewing.{is_renewed, IsIdle, IsSettled, IsRefusal, StandsSettled, renewal_refusal}
 use Rattle.ua_client.specs.Renewing.{refused_by, of_renew_fault, renewal_at, asks_renewed, IsRenewed, RenewsAt, Renews}
@@ -144,7 +144,7 @@ nothing-refused false false h = refl
 abbrev Either : AskFault → Option AskFault → Type 0
 Either f reason = (reason ≡ Some f) ⊎ ((f ≡ ask_fault.OutOfMemory) × (reason ≡ None))
 
-either-for : (f : AskFault) (reason : Option AskFault) → IsFor reason f → Either f reason
+either-for : (f : AskFault) (reason : Option AskFault) → IsAskFaultFor reason f → Either f reason
 either-for ask_fault.NotOpen reason h = inl h
 either-for ask_fault.TooManyPending reason h = inl h
 either-for ask_fault.RenewPending reason h = inl h
@@ -168,11 +168,11 @@ module _ (A : Type 0) (s : ClientPlace) (moment : DateTime) (new : ClientChannel
   refuses-by false true f (inr e) = absurd cc
   refuses-by false false f (inr e) = subst (λ (g : AskFault). Refuses None g) (sym e.0) (refl, inl (refl, refl))
 
-  refuses-at : (x : ClientChannel) → StandsAt x s → IsIdle x s → (f : AskFault) → IsFor (renewal_refused x) f → Refuses (renewal_refusal s) f
+  refuses-at : (x : ClientChannel) → StandsAt x s → IsIdle x s → (f : AskFault) → IsAskFaultFor (renewal_refused x) f → Refuses (renewal_refusal s) f
   refuses-at x at idle f h =
       refuses-by (nat_le most_tokens (length (held_tokens s.before))) (nat_le no_id (id_at s)) f
       (either-for f (asked-reasons (nat_le most_tokens (length (held_tokens s.before))) (nat_le no_id (id_at s)))
-      (subst (λ (r : Option AskFault). IsFor r f) (channel-refuses x s at idle) h))
+      (subst (λ (r : Option AskFault). IsAskFaultFor r f) (channel-refuses x s at idle) h))
 
 -- a refusal does not stop what is read
 refusal-stops : (A : Type 0) (f : AskFault) (x : Connection) (t : Option Traffic) → StopsAt {A = A} most_reads most_reads [] x t (Err (of_renew_fault f))
@@ -185,18 +185,18 @@ refusal-stops A ask_fault.RequestTooLarge x t = tt
 refusal-stops A ask_fault.OutOfMemory x t = tt
 
 -- it was not asked
-pub renews-refused : {A : Type 0} (moment : DateTime) (x y : Connection) (t : Option Traffic) (f : AskFault) → y ≡ x → IsFor (renewal_refused (channel_of x)) f
-    → ((s : ClientPlace) → StandsAt (channel_of x) s → IsIdle (channel_of x) s) → Renews {A = A} moment x y t t (Err (of_renew_fault f))
+pub renews-refused : {A : Type 0} (moment : DateTime) (x y : Connection) (t : Option Traffic) (f : AskFault) → y ≡ x → IsAskFaultFor (renewal_refused (channel_of_connection x)) f
+    → ((s : ClientPlace) → StandsAt (channel_of_connection x) s → IsIdle (channel_of_connection x) s) → Renews {A = A} moment x y t t (Err (of_renew_fault f))
 renews-refused {A} moment x y t f same h idle = record {
   sent = [];
   moves = moves-writing x y [] t t (ap untaken_of same) (carried-nothing t);
   same = record {
-    limits = ap (λ (z : Connection). client_limits (channel_of z)) (sym same);
-    url = ap (λ (z : Connection). (channel_of z).address.url)
+    limits = ap (λ (z : Connection). client_limits (channel_of_connection z)) (sym same);
+    url = ap (λ (z : Connection). (channel_of_connection z).address.url)
         (sym same);
   };
-  judged = λ s at. (refuses-at A s moment (channel_of y) (channel_of x) at (idle s at) f h).0;
-  answers = λ s at. (refuses-at A s moment (channel_of y) (channel_of x) at (idle s at) f h).1;
+  judged = λ s at. (refuses-at A s moment (channel_of_connection y) (channel_of_connection x) at (idle s at) f h).0;
+  answers = λ s at. (refuses-at A s moment (channel_of_connection y) (channel_of_connection x) at (idle s at) f h).1;
   stops = refusal-stops A f y t;
 }
 
@@ -276,9 +276,9 @@ settled-more s heard token before octets number h =
 
 -- ---- what comes of it
 
-module _ (moment : DateTime) (x mid new : Connection) (id : ℕ) (out : List ℕ) (asked : Asks moment (channel_of x) (channel_of mid) id out)
+module _ (moment : DateTime) (x mid new : Connection) (id : ℕ) (out : List ℕ) (asked : Asks moment (channel_of_connection x) (channel_of_connection mid) id out)
     (untaken : untaken_of mid ≡ untaken_of x) (a b c : Option Traffic)
-    (stands : StandsSettled (channel_of x)) (idle : (s : ClientPlace) → StandsAt (channel_of x) s → IsIdle (channel_of x) s) where
+    (stands : StandsSettled (channel_of_connection x)) (idle : (s : ClientPlace) → StandsAt (channel_of_connection x) s → IsIdle (channel_of_connection x) s) where
   -- the OPN was not written whole
   pub renews-unwritten : {A : Type 0} → new ≡ mid → 0 < length out → IfTrafficKnown (WritesFront out) a c → Renews {A = A} moment x new a c (Err fault.Write)
   renews-unwritten same some h =
@@ -286,9 +286,9 @@ module _ (moment : DateTime) (x mid new : Connection) (id : ℕ) (out : List ℕ
       record {
         sent = front.0;
         moves = moves-writing x new front.0 a c (ap untaken_of same ∙ untaken) front.2;
-        same = subst (λ (z : Connection). SameClient (channel_of x) (channel_of z)) (sym same) asked.same;
-        judged = λ s at. sym (none-refused moment (channel_of x) (channel_of mid) id out asked s at (idle s at));
-        answers = λ s at. (subst (IsPart front.0) (out-is moment (channel_of x) (channel_of mid) id out asked s at) front.1, refl);
+        same = subst (λ (z : Connection). SameClient (channel_of_connection x) (channel_of_connection z)) (sym same) asked.same;
+        judged = λ s at. sym (none-refused moment (channel_of_connection x) (channel_of_connection mid) id out asked s at (idle s at));
+        answers = λ s at. (subst (IsPart front.0) (out-is moment (channel_of_connection x) (channel_of_connection mid) id out asked s at) front.1, refl);
         stops = tt;
       }
 
@@ -296,24 +296,24 @@ module _ (moment : DateTime) (x mid new : Connection) (id : ℕ) (out : List ℕ
     abbrev sent-from : MovesConnection mid new [] b c → MovesConnection x new out a c
     sent-from m = let n : MovesConnection mid new out a c = sent-first mid new out a b c w m in moves-from x mid new out out a a c c untaken n n.carried
 
-    same-behind : Keeps mid new → SameClient (channel_of x) (channel_of new)
+    same-behind : KeepsClient mid new → SameClient (channel_of_connection x) (channel_of_connection new)
     same-behind k = record { limits = asked.same.limits ∙ k.same.limits; url = asked.same.url ∙ k.same.url }
 
     -- where a further token came
-    module _ (taken : List ℕ) (k : Keeps mid new) (s : ClientPlace) (at : StandsAt (channel_of x) s)
-        (u : GoesUntil is_renewed (channel_of new) (asks_renewed s) (s.octets ++ taken) s.told) where
+    module _ (taken : List ℕ) (k : KeepsClient mid new) (s : ClientPlace) (at : StandsAt (channel_of_connection x) s)
+        (u : GoesUntil is_renewed (channel_of_connection new) (asks_renewed s) (s.octets ++ taken) s.told) where
       token-told : (token : ℕ) × (u.last ≡ Renewed token)
       token-told = the-token u.last u.is_wanted
 
-      tells-token : ClientGoesTelling (channel_of new) (asks_renewed s) (s.octets ++ taken) (s.told ++ u.heard) (Renewed token-told.0)
-      tells-token = subst (λ (e : ClientTold). ClientGoesTelling (channel_of new) (asks_renewed s) (s.octets ++ taken) (s.told ++ u.heard) e) token-told.1
+      tells-token : ClientGoesTelling (channel_of_connection new) (asks_renewed s) (s.octets ++ taken) (s.told ++ u.heard) (Renewed token-told.0)
+      tells-token = subst (λ (e : ClientTold). ClientGoesTelling (channel_of_connection new) (asks_renewed s) (s.octets ++ taken) (s.told ++ u.heard) e) token-told.1
           u.tells
 
-      goes-behind : ClientGoes (channel_of new) (asks_renewed s) (s.octets ++ taken) (s.told ++ (u.heard ++ Renewed token-told.0 ∷ []))
+      goes-behind : ClientGoes (channel_of_connection new) (asks_renewed s) (s.octets ++ taken) (s.told ++ (u.heard ++ Renewed token-told.0 ∷ []))
       goes-behind =
-          subst (λ (all : List ClientTold). ClientGoes (channel_of new) (asks_renewed s) (s.octets ++ taken) all)
+          subst (λ (all : List ClientTold). ClientGoes (channel_of_connection new) (asks_renewed s) (s.octets ++ taken) all)
           (append_assoc s.told u.heard (Renewed token-told.0 ∷ []))
-          (goes_on (channel_of new) (asks_renewed s) (s.octets ++ taken) (s.told ++ u.heard) (Renewed token-told.0) tells-token)
+          (goes_on (channel_of_connection new) (asks_renewed s) (s.octets ++ taken) (s.told ++ u.heard) (Renewed token-told.0) tells-token)
 
       abbrev behind : ClientPlace
       behind = record {
@@ -324,13 +324,13 @@ module _ (moment : DateTime) (x mid new : Connection) (id : ℕ) (out : List ℕ
         number = next_number s.number;
       }
 
-      at-behind : StandsAt (channel_of new) behind
-      at-behind = record { goes = goes-behind; before_is = refl; number_is = k.next ∙ next-is moment (channel_of x) (channel_of mid) id out asked s at }
+      at-behind : StandsAt (channel_of_connection new) behind
+      at-behind = record { goes = goes-behind; before_is = refl; number_is = k.next ∙ next-is moment (channel_of_connection x) (channel_of_connection mid) id out asked s at }
 
       settled-behind : IsSettled s → IsSettled behind
       settled-behind settled = settled-more s u.heard token-told.0 (received goes-behind.frames) (s.octets ++ taken) (next_number s.number) settled
 
-      renewed-behind : (HasNoChannel (channel_of new) → ⊥) → IsRenewed (channel_of new) s behind taken
+      renewed-behind : (HasNoChannel (channel_of_connection new) → ⊥) → IsRenewed (channel_of_connection new) s behind taken
       renewed-behind opened = record {
         at = at-behind;
         asks = refl;
@@ -341,7 +341,7 @@ module _ (moment : DateTime) (x mid new : Connection) (id : ℕ) (out : List ℕ
         none_before = u.none;
         tells = tells-token;
         told = refl;
-        newest = newest-at (channel_of new) behind at-behind opened (s.told ++ u.heard) token-told.0 tells-token;
+        newest = newest-at (channel_of_connection new) behind at-behind opened (s.told ++ u.heard) token-told.0 tells-token;
         settled = settled-behind;
       }
 
@@ -350,36 +350,36 @@ module _ (moment : DateTime) (x mid new : Connection) (id : ℕ) (out : List ℕ
       sent = out;
       moves = sent-from h.moves;
       same = same-behind h.keeps;
-      judged = λ s at. sym (none-refused moment (channel_of x) (channel_of mid) id out asked s at (idle s at));
+      judged = λ s at. sym (none-refused moment (channel_of_connection x) (channel_of_connection mid) id out asked s at (idle s at));
       answers = λ s at. (
-        out-is moment (channel_of x) (channel_of mid) id out asked s at,
+        out-is moment (channel_of_connection x) (channel_of_connection mid) id out asked s at,
         (behind h.moves.taken h.keeps s at (until s at), renewed-behind h.moves.taken h.keeps s at (until s at) opened),
       );
       stops = omega arith;
     }
       where
-        until : (s : ClientPlace) → StandsAt (channel_of x) s → GoesUntil is_renewed (channel_of new) (asks_renewed s) (s.octets ++ h.moves.taken) s.told
-        until s at = (h.answers (asks_renewed s) s.octets s.told (goes-asked moment (channel_of x) (channel_of mid) id out asked s at)).0
+        until : (s : ClientPlace) → StandsAt (channel_of_connection x) s → GoesUntil is_renewed (channel_of_connection new) (asks_renewed s) (s.octets ++ h.moves.taken) s.told
+        until s at = (h.answers (asks_renewed s) s.octets s.told (goes-asked moment (channel_of_connection x) (channel_of_connection mid) id out asked s at)).0
 
-        opened : HasNoChannel (channel_of new) → ⊥
-        opened n = ∥∥₁_elim stands ⊥_prop (λ (w : (s : ClientPlace) × StandsAt (channel_of x) s × IsSettled s).
-            is-open (channel_of new) (behind h.moves.taken h.keeps w.0 w.1 (until w.0 w.1)) (at-behind h.moves.taken h.keeps w.0 w.1 (until w.0 w.1))
+        opened : HasNoChannel (channel_of_connection new) → ⊥
+        opened n = ∥∥₁_elim stands ⊥_prop (λ (w : (s : ClientPlace) × StandsAt (channel_of_connection x) s × IsSettled s).
+            is-open (channel_of_connection new) (behind h.moves.taken h.keeps w.0 w.1 (until w.0 w.1)) (at-behind h.moves.taken h.keeps w.0 w.1 (until w.0 w.1))
             (settled-behind h.moves.taken h.keeps w.0 w.1 (until w.0 w.1) w.2) n)
     renews-last (Err f) h = record {
       sent = out;
       moves = sent-from h.moves;
       same = same-behind h.keeps;
       judged = λ s at.
-          unrefused f s h.moves.taken (h.answers (asks_renewed s) s.octets s.told (goes-asked moment (channel_of x) (channel_of mid) id out asked s at))
-          ∙ sym (none-refused moment (channel_of x) (channel_of mid) id out asked s at (idle s at));
+          unrefused f s h.moves.taken (h.answers (asks_renewed s) s.octets s.told (goes-asked moment (channel_of_connection x) (channel_of_connection mid) id out asked s at))
+          ∙ sym (none-refused moment (channel_of_connection x) (channel_of_connection mid) id out asked s at (idle s at));
       answers = λ s at.
-          by f s h.moves.taken (out-is moment (channel_of x) (channel_of mid) id out asked s at)
-          (h.answers (asks_renewed s) s.octets s.told (goes-asked moment (channel_of x) (channel_of mid) id out asked s at));
+          by f s h.moves.taken (out-is moment (channel_of_connection x) (channel_of_connection mid) id out asked s at)
+          (h.answers (asks_renewed s) s.octets s.told (goes-asked moment (channel_of_connection x) (channel_of_connection mid) id out asked s at));
       stops = stops f h.stops;
     }
       where
         unrefused : (y : ClientFault) (s : ClientPlace) (taken : List ℕ)
-            → WaitsAt is_renewed any_done (Err y) (channel_of new) (asks_renewed s) (s.octets ++ taken) s.told → refused_by {A = Unit {0}} (Err y) ≡ None
+            → WaitsAt is_renewed any_done (Err y) (channel_of_connection new) (asks_renewed s) (s.octets ++ taken) s.told → refused_by {A = Unit {0}} (Err y) ≡ None
         unrefused fault.Read s taken k = refl
         unrefused fault.Ended s taken k = refl
         unrefused fault.TooLong s taken k = refl
@@ -396,8 +396,8 @@ module _ (moment : DateTime) (x mid new : Connection) (id : ℕ) (out : List ℕ
         unrefused fault.Closed s taken k = refl
 
         by : (y : ClientFault) (s : ClientPlace) (taken : List ℕ) → out ≡ renewal_at s moment
-            → WaitsAt is_renewed any_done (Err y) (channel_of new) (asks_renewed s) (s.octets ++ taken) s.told
-            → RenewsAt {A = Unit {0}} s moment (channel_of new) out taken (Err y)
+            → WaitsAt is_renewed any_done (Err y) (channel_of_connection new) (asks_renewed s) (s.octets ++ taken) s.told
+            → RenewsAt {A = Unit {0}} s moment (channel_of_connection new) out taken (Err y)
         by fault.Read s taken e k = (e, k)
         by fault.Ended s taken e k = (e, k)
         by fault.TooLong s taken e k = (e, k)

@@ -8,7 +8,7 @@ use Rattle.ua_builtin.specs.Reasons.{first_reason}
 use Rattle.ua_builtin.specs.declared.date_time.DateTime.{DateTime}
 use Rattle.ua_builtin.specs.declared.node_id.NodeId.{NodeId}
 use Rattle.ua_services.specs.Request.{request as message}
-use Rattle.ua_services.specs.Response.{Answers, Structure, kind_of, responses, response_parts}
+use Rattle.ua_services.specs.Response.{Answers, ResponseStructure, kind_of_response, responses, response_parts}
 use Rattle.ua_services.proofs.ResponseLawful.{are_responses}
 use Rattle.ua_services.specs.declared.request.Request.{Request}
 use Rattle.ua_services.specs.declared.request.RequestKind.TheVariants as request_kind
@@ -25,7 +25,7 @@ use Rattle.ua_channel.specs.Line.{Traffic}
 use Rattle.ua_channel.specs.declared.client.channel.ClientChannel.{ClientChannel}
 use Rattle.ua_client.specs.Calls.{Answered, BreaksAt}
 use Rattle.ua_client.specs.Kept.{CallsGroup, GroupAt}
-use Rattle.ua_client.specs.Hearing.{channel_of, most_reads, StopsAt}
+use Rattle.ua_client.specs.Hearing.{channel_of_connection, most_reads, StopsAt}
 use Rattle.ua_client.specs.Session.{ActivatesBehind, BeginsAt, BeginsSessionAs, CallsOneAt, DoesIdle, FailsAt, IsFailure}
 use Rattle.ua_client.specs.Session.{IsReplied, LacksToken, MakesRequest, Replies, ServesAt, TriesSession, activating_at}
 use Rattle.ua_client.specs.Session.{brings_any, brings_token, creating_at, is_reply, reply_failure, session_alone, token_in}
@@ -85,7 +85,7 @@ one-replied request requests old new before after reads left had have reply e no
 }
   where
     replied : (s : ClientPlace) → GroupAt {A = Unit {0}} (request ∷ []) s new g.sent g.moves.taken (Ok tt) g.added
-        → Replies request s (channel_of new) g.sent g.moves.taken (is_reply reply)
+        → Replies request s (channel_of_connection new) g.sent g.moves.taken (is_reply reply)
     replied s a =
         let alone : g.added ≡ reply ∷ [] = sym (sym one ∙ (g.have_is ∙ ap (λ (rs : List Reply). rs ++ g.added) none)) in
         record {
@@ -195,7 +195,7 @@ module _ (request : Request) (old new : Connection) (before after : Option Traff
       })
 
   -- a request that is made where the client stands
-  module _ (made : ClientPlace → Request) (is : (s : ClientPlace) → StandsAt (channel_of old) s → request ≡ made s) where
+  module _ (made : ClientPlace → Request) (is : (s : ClientPlace) → StandsAt (channel_of_connection old) s → request ≡ made s) where
     -- the fault of its service
     pub made-broken : {A : Type 0} (brings : A → Reply → Type 0) (f : ClientFault)
         → DoesIdle {A = Reply} (λ s sent taken. ServesAt request is_reply s new sent taken (Err f)) old new before after reads left (Err f)
@@ -220,7 +220,7 @@ module _ (request : Request) (old new : Connection) (before after : Option Traff
       same = d.same;
       answers = λ s at idle.
           let a = d.answers s at idle in
-          subst (λ (r : Request). Replies r s (channel_of new) d.sent d.moves.taken (λ x. (reply_failure x ≡ None) × brings found x)) (is s at)
+          subst (λ (r : Request). Replies r s (channel_of_connection new) d.sent d.moves.taken (λ x. (reply_failure x ≡ None) × brings found x)) (is s at)
           (record {
             behind = a.behind;
             at = a.at;
@@ -245,7 +245,7 @@ made-unasked made brings x t reads = record {
 
 -- a request that cannot be encoded
 made-unwritable : {A : Type 0} (made : ClientPlace → Request) (brings : A → Reply → Type 0) (x : Connection) (t : Option Traffic) (reads : ℕ)
-    → ((s : ClientPlace) → StandsAt (channel_of x) s → IsFalse (message.encodable (made s)))
+    → ((s : ClientPlace) → StandsAt (channel_of_connection x) s → IsFalse (message.encodable (made s)))
     → DoesIdle {A = A} (λ s sent taken. ServesAt (made s) brings s x sent taken (Err fault.NotWritable)) x x t t reads reads (Err fault.NotWritable)
 made-unwritable made brings x t reads unfit = record {
   sent = [];
@@ -267,7 +267,7 @@ made-unwritable made brings x t reads unfit = record {
 
 -- a request that was not made
 pub made-not : {A : Type 0} (made : ClientPlace → Request) (brings : A → Reply → Type 0) (x : Connection) (t : Option Traffic) (reads : ℕ) (f : ClientFault)
-    → MakesRequest made (channel_of x) (Err f)
+    → MakesRequest made (channel_of_connection x) (Err f)
     → DoesIdle {A = A} (λ s sent taken. ServesAt (made s) brings s x sent taken (Err f)) x x t t reads reads (Err f)
 made-not made brings x t reads fault.NotWritable h = made-unwritable made brings x t reads h
 made-not made brings x t reads fault.OutOfMemory h = made-unasked made brings x t reads
@@ -296,12 +296,12 @@ brings-session s good none = absurd cc
 brings-fault : (s : ServiceFault) → Brings (response.ServiceFault s)
 brings-fault s good none = absurd cc
 
-brings-of : (k : ResponseKind) (s : Structure k) → Answers k request_kind.CreateSession → Brings (responses.make k s)
-brings-of k s (inl e) = subst (λ (t : ResponseKind). (s : Structure t) → Brings (responses.make t s)) (sym e) brings-session s
-brings-of k s (inr e) = subst (λ (t : ResponseKind). (s : Structure t) → Brings (responses.make t s)) (sym e) brings-fault s
+brings-of : (k : ResponseKind) (s : ResponseStructure k) → Answers k request_kind.CreateSession → Brings (responses.make k s)
+brings-of k s (inl e) = subst (λ (t : ResponseKind). (s : ResponseStructure t) → Brings (responses.make t s)) (sym e) brings-session s
+brings-of k s (inr e) = subst (λ (t : ResponseKind). (s : ResponseStructure t) → Brings (responses.make t s)) (sym e) brings-fault s
 
-has-token : (m : Response) → Answers (kind_of m) request_kind.CreateSession → Brings m
-has-token m a = subst Brings (sym (are_responses.back m)) (brings-of (kind_of m) (response_parts m).1 a)
+has-token : (m : Response) → Answers (kind_of_response m) request_kind.CreateSession → Brings m
+has-token m a = subst Brings (sym (are_responses.back m)) (brings-of (kind_of_response m) (response_parts m).1 a)
 
 brings-some : (x : ClientChannel) (url : Option (List ℕ)) (moment : DateTime) (s t : ClientPlace) (sent taken : List ℕ) (reply : Reply)
     → IsReplied x (creating_at url moment s) s t sent taken reply
@@ -310,7 +310,7 @@ brings-some x url moment s t sent taken (Aborted code) h good none = absurd cc
 brings-some x url moment s t sent taken (Responds m) h good none = has-token m h.answered.replies_are.0.2.2.1 good none
 
 module _ (url : Option (List ℕ)) (moment : DateTime) (request : Request) (old new : Connection) (before after : Option Traffic) (reads left : ℕ)
-    (is : (s : ClientPlace) → StandsAt (channel_of old) s → request ≡ creating_at url moment s) (reply : Reply)
+    (is : (s : ClientPlace) → StandsAt (channel_of_connection old) s → request ≡ creating_at url moment s) (reply : Reply)
     (d : DoesIdle {A = Reply} (λ s sent taken. ServesAt request is_reply s new sent taken (Ok reply)) old new before after reads left (Ok reply)) where
   -- what becomes of it by the reply
   pub created : (result : Result NodeId ClientFault) → IfOk result (λ token. brings_token token reply) → IfErr result (λ f. LacksToken reply f)
@@ -324,8 +324,8 @@ module _ (url : Option (List ℕ)) (moment : DateTime) (request : Request) (old 
         same = d.same;
         answers = λ s at idle.
             let a = d.answers s at idle in
-            absurd (brings-some (channel_of new) url moment s a.behind d.sent d.moves.taken a.reply
-            (subst (λ (r : Request). IsReplied (channel_of new) r s a.behind d.sent d.moves.taken a.reply) (is s at) a.replied) a.says.0
+            absurd (brings-some (channel_of_connection new) url moment s a.behind d.sent d.moves.taken a.reply
+            (subst (λ (r : Request). IsReplied (channel_of_connection new) r s a.behind d.sent d.moves.taken a.reply) (is s at) a.replied) a.says.0
             (sym (ap token_in a.says.1) ∙ none));
         stops = tt;
       })
@@ -334,9 +334,9 @@ module _ (url : Option (List ℕ)) (moment : DateTime) (request : Request) (old 
 
 -- CreateSession failed
 pub begins-first : (policy_id : Option (List ℕ)) (moment : DateTime) (old new : Connection) (before after : Option Traffic) (left : ℕ) (f : ClientFault)
-    → DoesIdle {A = NodeId} (λ s sent taken. ServesAt (creating_at (url_of (channel_of old)) moment s) brings_token s new sent taken (Err f)) old new before
+    → DoesIdle {A = NodeId} (λ s sent taken. ServesAt (creating_at (url_of (channel_of_connection old)) moment s) brings_token s new sent taken (Err f)) old new before
     after most_reads left (Err f)
-    → ((s : ClientPlace) → StandsAt (channel_of old) s → IsIdle (channel_of old) s)
+    → ((s : ClientPlace) → StandsAt (channel_of_connection old) s → IsIdle (channel_of_connection old) s)
     → TriesSession policy_id moment old new before after (Err (record { token = None; fault = f }))
 begins-first policy_id moment old new before after left f d idle = record {
   sent = d.sent;
@@ -358,27 +358,27 @@ begins-unasked policy_id moment x t = record {
 }
 
 module _ (policy_id : Option (List ℕ)) (moment : DateTime) (old mid new : Connection) (before between after : Option Traffic) (left less : ℕ) (token : NodeId)
-    (d : DoesIdle {A = NodeId} (λ s sent taken. ServesAt (creating_at (url_of (channel_of old)) moment s) brings_token s mid sent taken (Ok token)) old mid
+    (d : DoesIdle {A = NodeId} (λ s sent taken. ServesAt (creating_at (url_of (channel_of_connection old)) moment s) brings_token s mid sent taken (Ok token)) old mid
     before between most_reads left (Ok token))
-    (stands : StandsSettled (channel_of old)) (idle : IdleStanding) where
+    (stands : StandsSettled (channel_of_connection old)) (idle : IdleStanding) where
   -- behind CreateSession it may be called again
-  stands-between : StandsSettled (channel_of mid)
-  stands-between = ∥∥₁_map stands (λ (w : (s : ClientPlace) × StandsAt (channel_of old) s × IsSettled s).
-      let a = d.answers w.0 w.1 (idle (channel_of old) w.0 stands w.1) in
+  stands-between : StandsSettled (channel_of_connection mid)
+  stands-between = ∥∥₁_map stands (λ (w : (s : ClientPlace) × StandsAt (channel_of_connection old) s × IsSettled s).
+      let a = d.answers w.0 w.1 (idle (channel_of_connection old) w.0 stands w.1) in
       (a.behind, a.at, a.settled w.2))
 
   -- what becomes of ActivateSession
   second : (result : Result (Unit {0}) ClientFault) (P : NodeId → Type 0) → P token
       → (e : DoesIdle {A = Unit {0}} (λ s sent taken. ServesAt (activating_at policy_id token moment s) brings_any s new sent taken result) mid new between
       after left less result)
-      → (s : ClientPlace) → StandsAt (channel_of old) s → ActivatesBehind (url_of (channel_of old)) policy_id moment s new (d.sent ++ e.sent)
+      → (s : ClientPlace) → StandsAt (channel_of_connection old) s → ActivatesBehind (url_of (channel_of_connection old)) policy_id moment s new (d.sent ++ e.sent)
       (d.moves.taken ++ e.moves.taken) P result
   second result P p e s at =
-      let a = d.answers s at (idle (channel_of old) s stands at) in
+      let a = d.answers s at (idle (channel_of_connection old) s stands at) in
       record {
         token = token;
         between = a.behind;
-        channel = channel_of mid;
+        channel = channel_of_connection mid;
         same = e.same;
         at = a.at;
         settled = a.settled;
@@ -392,10 +392,10 @@ module _ (policy_id : Option (List ℕ)) (moment : DateTime) (old mid new : Conn
         created = a.replied;
         good = a.says.0;
         brought = a.says.1;
-        further = (p, e.answers a.behind a.at (idle (channel_of mid) a.behind stands-between a.at));
+        further = (p, e.answers a.behind a.at (idle (channel_of_connection mid) a.behind stands-between a.at));
       }
 
-  same-then : SameClient (channel_of mid) (channel_of new) → SameClient (channel_of old) (channel_of new)
+  same-then : SameClient (channel_of_connection mid) (channel_of_connection new) → SameClient (channel_of_connection old) (channel_of_connection new)
   same-then k = record { limits = d.same.limits ∙ k.limits; url = d.same.url ∙ k.url }
 
   -- both are done
@@ -463,6 +463,6 @@ begins-told policy_id moment old new before after (Err c) d = record {
   sent = d.sent;
   moves = d.moves;
   same = d.same;
-  answers = λ s at. failed-there (url_of (channel_of old)) policy_id moment s new d.sent d.moves.taken c.token c.fault (d.answers s at);
+  answers = λ s at. failed-there (url_of (channel_of_connection old)) policy_id moment s new d.sent d.moves.taken c.token c.fault (d.answers s at);
   stops = d.stops;
 }

@@ -12,7 +12,7 @@ use Rattle.ua_channel.specs.ClientTold.{ClientTold, Why, ours, peers}
 use Rattle.ua_channel.specs.Line.{Traffic}
 use Rattle.ua_channel.specs.declared.client.channel.ClientChannel.{ClientChannel}
 use Rattle.ua_services.specs.declared.request.Request.{Request}
-use Rattle.ua_client.specs.Hearing.{channel_of, most_reads, Keeps, MovesConnection, Starved, StopsAt}
+use Rattle.ua_client.specs.Hearing.{channel_of_connection, most_reads, KeepsClient, MovesConnection, Starved, StopsAt}
 use Rattle.ua_client.specs.Renewing.{IsSettled}
 use Rattle.ua_client.specs.ClientPlace.{ClientPlace, StandsAt, id_at, lane_behind}
 use Rattle.ua_client.specs.Told.{told_of}
@@ -76,22 +76,22 @@ pub record LastCame (x : ClientChannel) (requests : List Request) (id : ℕ) (as
 abbrev pub CollectsAt : {A : Type 0} → List (Option Reply) → List Request → ℕ → Connection → Option Traffic → Result A ClientFault → List Placed → List ℕ
     → List ClientTold → Type 0
 CollectsAt slots requests first new after (Ok found) asks octets told =
-    ClientGoesOn (channel_of new) asks octets told (λ all. AreSlots requests first all slots × (list_any is_none slots ≡ false)
-    × LastCame (channel_of new) requests first asks octets all)
-CollectsAt slots requests first new after (Err (fault.Peer code)) asks octets told = EndsOn (channel_of new) asks octets told (peers code.code)
+    ClientGoesOn (channel_of_connection new) asks octets told (λ all. AreSlots requests first all slots × (list_any is_none slots ≡ false)
+    × LastCame (channel_of_connection new) requests first asks octets all)
+CollectsAt slots requests first new after (Err (fault.Peer code)) asks octets told = EndsOn (channel_of_connection new) asks octets told (peers code.code)
     (λ all. AreSlots requests first all slots × (list_any is_none slots ≡ true))
-CollectsAt slots requests first new after (Err (fault.Refused code)) asks octets told = EndsOn (channel_of new) asks octets told (ours code.code)
+CollectsAt slots requests first new after (Err (fault.Refused code)) asks octets told = EndsOn (channel_of_connection new) asks octets told (ours code.code)
     (λ all. AreSlots requests first all slots × (list_any is_none slots ≡ true))
 CollectsAt slots requests first new after (Err fault.Ended) asks octets told =
-    ClientGoesOn (channel_of new) asks octets told (λ all. AreSlots requests first all slots × (list_any is_none slots ≡ true))
+    ClientGoesOn (channel_of_connection new) asks octets told (λ all. AreSlots requests first all slots × (list_any is_none slots ≡ true))
 CollectsAt slots requests first new after (Err fault.Read) asks octets told =
-    ClientGoesOn (channel_of new) asks octets told (λ all. AreSlots requests first all slots × (list_any is_none slots ≡ true))
+    ClientGoesOn (channel_of_connection new) asks octets told (λ all. AreSlots requests first all slots × (list_any is_none slots ≡ true))
 CollectsAt slots requests first new after (Err fault.TooLong) asks octets told =
-    ClientGoesOn (channel_of new) asks octets told (λ all. AreSlots requests first all slots × (list_any is_none slots ≡ true))
+    ClientGoesOn (channel_of_connection new) asks octets told (λ all. AreSlots requests first all slots × (list_any is_none slots ≡ true))
 CollectsAt slots requests first new after (Err fault.UnknownResponse) asks octets told =
-    ClientGoesOn (channel_of new) asks octets told (λ all. IsMisanswered requests first all × IsFront LacksAnswer (front_of slots) requests first all)
+    ClientGoesOn (channel_of_connection new) asks octets told (λ all. IsMisanswered requests first all × IsFront LacksAnswer (front_of slots) requests first all)
 CollectsAt slots requests first new after (Err fault.OutOfMemory) asks octets told = (heard : List ClientTold)
-    × LacksMemory (channel_of new) asks octets (told ++ heard) × IsFront IsUntoldBefore (front_of slots) requests first (told ++ heard)
+    × LacksMemory (channel_of_connection new) asks octets (told ++ heard) × IsFront IsUntoldBefore (front_of slots) requests first (told ++ heard)
 CollectsAt slots requests first new after (Err other) asks octets told = ⊥
 
 -- no reply to any of these
@@ -107,8 +107,8 @@ AreUntold (request ∷ requests) id told = (told_of id told ≡ []) × AreUntold
 pub record Collects {A : Type 0} (slots : List (Option Reply)) (requests : List Request) (first : ℕ) (old new : Connection) (before after : Option Traffic)
     (reads left : ℕ) (result : Result A ClientFault) : Type 0 where
   pub moves : MovesConnection old new [] before after
-  pub keeps : Keeps old new
-  pub answers : (asks : List Placed) (octets : List ℕ) (told : List ClientTold) → ClientGoes (channel_of old) asks octets told → AreUntold requests first told
+  pub keeps : KeepsClient old new
+  pub answers : (asks : List Placed) (octets : List ℕ) (told : List ClientTold) → ClientGoes (channel_of_connection old) asks octets told → AreUntold requests first told
       → CollectsAt slots requests first new after result asks (octets ++ moves.taken) told
   pub stops : StopsAt reads left moves.got new after result
 
@@ -129,33 +129,33 @@ pub record Answered (requests : List Request) (s t : ClientPlace) (taken : List 
 
 -- a group of calls is refused here, or is not answered
 abbrev pub BreaksAt : List Request → ClientPlace → Connection → List ℕ → List ℕ → ClientFault → Type 0
-BreaksAt requests s new sent taken (fault.Peer code) = IsSentAt requests s sent × EndsOn (channel_of new) (asked_at s requests) (s.octets ++ taken) s.told
+BreaksAt requests s new sent taken (fault.Peer code) = IsSentAt requests s sent × EndsOn (channel_of_connection new) (asked_at s requests) (s.octets ++ taken) s.told
     (peers code.code) (AreAwaited requests (id_at s))
-BreaksAt requests s new sent taken (fault.Refused code) = IsSentAt requests s sent × EndsOn (channel_of new) (asked_at s requests) (s.octets ++ taken) s.told
+BreaksAt requests s new sent taken (fault.Refused code) = IsSentAt requests s sent × EndsOn (channel_of_connection new) (asked_at s requests) (s.octets ++ taken) s.told
     (ours code.code) (AreAwaited requests (id_at s))
-BreaksAt requests s new sent taken fault.Ended = IsSentAt requests s sent × ClientGoesOn (channel_of new) (asked_at s requests) (s.octets ++ taken) s.told
+BreaksAt requests s new sent taken fault.Ended = IsSentAt requests s sent × ClientGoesOn (channel_of_connection new) (asked_at s requests) (s.octets ++ taken) s.told
     (AreAwaited requests (id_at s))
-BreaksAt requests s new sent taken fault.Read = IsSentAt requests s sent × ClientGoesOn (channel_of new) (asked_at s requests) (s.octets ++ taken) s.told
+BreaksAt requests s new sent taken fault.Read = IsSentAt requests s sent × ClientGoesOn (channel_of_connection new) (asked_at s requests) (s.octets ++ taken) s.told
     (AreAwaited requests (id_at s))
-BreaksAt requests s new sent taken fault.TooLong = IsSentAt requests s sent × ClientGoesOn (channel_of new) (asked_at s requests) (s.octets ++ taken) s.told
+BreaksAt requests s new sent taken fault.TooLong = IsSentAt requests s sent × ClientGoesOn (channel_of_connection new) (asked_at s requests) (s.octets ++ taken) s.told
     (AreAwaited requests (id_at s))
-BreaksAt requests s new sent taken fault.UnknownResponse = IsSentAt requests s sent × ClientGoesOn (channel_of new) (asked_at s requests)
+BreaksAt requests s new sent taken fault.UnknownResponse = IsSentAt requests s sent × ClientGoesOn (channel_of_connection new) (asked_at s requests)
     (s.octets ++ taken) s.told (IsMisanswered requests (id_at s))
 BreaksAt requests s new sent taken fault.Write = (refusal_at s requests ≡ None) × Extends sent (sent_at s requests) × (taken ≡ [])
     × (length sent < length (sent_at s requests))
 BreaksAt requests s new sent taken fault.OutOfMemory =
     ((sent ≡ []) × (taken ≡ []))
-    ⊎ (IsSentAt requests s sent × ((heard : List ClientTold) × LacksMemory (channel_of new) (asked_at s requests) (s.octets ++ taken) (s.told ++ heard)))
-BreaksAt requests s new sent taken fault.TooLarge = (sent ≡ []) × (taken ≡ []) × StandsAt (channel_of new) s × (refusal_at s requests ≡ Some fault.TooLarge)
-BreaksAt requests s new sent taken fault.NotWritable = (sent ≡ []) × (taken ≡ []) × StandsAt (channel_of new) s
+    ⊎ (IsSentAt requests s sent × ((heard : List ClientTold) × LacksMemory (channel_of_connection new) (asked_at s requests) (s.octets ++ taken) (s.told ++ heard)))
+BreaksAt requests s new sent taken fault.TooLarge = (sent ≡ []) × (taken ≡ []) × StandsAt (channel_of_connection new) s × (refusal_at s requests ≡ Some fault.TooLarge)
+BreaksAt requests s new sent taken fault.NotWritable = (sent ≡ []) × (taken ≡ []) × StandsAt (channel_of_connection new) s
     × (refusal_at s requests ≡ Some fault.NotWritable)
-BreaksAt requests s new sent taken fault.Exhausted = (sent ≡ []) × (taken ≡ []) × StandsAt (channel_of new) s × (refusal_at s requests ≡ Some fault.Exhausted)
+BreaksAt requests s new sent taken fault.Exhausted = (sent ≡ []) × (taken ≡ []) × StandsAt (channel_of_connection new) s × (refusal_at s requests ≡ Some fault.Exhausted)
 BreaksAt requests s new sent taken other = ⊥
 
 -- ---- groups of calls, one after another
 
 -- after a group of calls a channel of this client has that state, in which the last reply came
-pub record StandsBehind (client x : ClientChannel) (requests : List Request) (s t : ClientPlace) : Type 0 where
+pub record ClientStandsBehind (client x : ClientChannel) (requests : List Request) (s t : ClientPlace) : Type 0 where
   pub same : SameClient x client
   pub at : StandsAt x t
   pub came : LastCame x requests (id_at s) t.asks t.octets t.told
@@ -166,7 +166,7 @@ pub data Rounds (client : ClientChannel) (s : ClientPlace) : List (List Request)
   NoRound : Rounds client s [] s [] [] []
   OneRound : {groups : List (List Request)} {m t : ClientPlace} {sent taken part : List ℕ} {replies added : List Reply} (group : List Request)
       (x : ClientChannel)
-      → Rounds client s groups m sent taken replies → StandsBehind client x group m t → Answered group m t part added
+      → Rounds client s groups m sent taken replies → ClientStandsBehind client x group m t → Answered group m t part added
       → Rounds client s (groups ++ group ∷ []) t (sent ++ sent_at m group) (taken ++ part) (replies ++ added)
 
 -- ---- all calls
@@ -210,12 +210,12 @@ pub record BrokenAll (requests : List Request) (s : ClientPlace) (new : Connecti
   pub taken_then : List ℕ
   pub taken_parts : taken ≡ taken_before ++ taken_then
   pub replies : List Reply
-  pub rounds : Rounds (channel_of new) s groups behind sent_before taken_before replies
+  pub rounds : Rounds (channel_of_connection new) s groups behind sent_before taken_before replies
   pub breaks : BreaksAt group behind new sent_then taken_then f
 
 -- the outcome of requests that are called there
 abbrev pub AllAt : {A : Type 0} → (A → List Reply) → List Request → ClientPlace → Connection → List ℕ → List ℕ → Result A ClientFault → Type 0
-AllAt view requests s new sent taken (Ok found) = AnsweredAll requests s (channel_of new) sent taken (view found)
+AllAt view requests s new sent taken (Ok found) = AnsweredAll requests s (channel_of_connection new) sent taken (view found)
 AllAt view requests s new sent taken (Err f) = BrokenAll requests s new sent taken f
 
 -- requests that are called in groups
@@ -223,6 +223,6 @@ pub record CallsAll {A : Type 0} (view : A → List Reply) (requests : List Requ
     (result : Result A ClientFault) : Type 0 where
   pub sent : List ℕ
   pub moves : MovesConnection old new sent before after
-  pub same : SameClient (channel_of old) (channel_of new)
-  pub answers : (s : ClientPlace) → StandsAt (channel_of old) s → AllAt view requests s new sent moves.taken result
+  pub same : SameClient (channel_of_connection old) (channel_of_connection new)
+  pub answers : (s : ClientPlace) → StandsAt (channel_of_connection old) s → AllAt view requests s new sent moves.taken result
   pub stops : StopsAt most_reads most_reads moves.got new after result

@@ -10,7 +10,7 @@ use Rattle.ua_channel.specs.Line.{Traffic, IfTrafficKnown}
 use Rattle.ua_channel.specs.declared.client.channel.ClientChannel.{ClientChannel}
 use Rattle.ua_client.specs.ClientPlace.{ClientPlace, StandsAt, id_at, lane_behind}
 use Rattle.ua_client.specs.Carried.{Carries, IsPart}
-use Rattle.ua_client.specs.Hearing.{channel_of, untaken_of}
+use Rattle.ua_client.specs.Hearing.{channel_of_connection, untaken_of}
 use Rattle.ua_client.specs.Opening.{Opens}
 use Rattle.ua_client.specs.declared.client.Client.{Client}
 use Rattle.ua_client.specs.declared.connection.Connection.{Connection}
@@ -28,8 +28,8 @@ abbrev pub client_channel : Client → ClientChannel
 client_channel x = x.connection.channel
 
 -- a client that failed or was closed
-abbrev pub IsDone : Client → Type 0
-IsDone x = x.is_done ≡ true
+abbrev pub HasFailedOrClosed : Client → Type 0
+HasFailedOrClosed x = x.is_done ≡ true
 
 -- a client that may be called
 abbrev pub IsReady : Client → Type 0
@@ -37,33 +37,33 @@ IsReady x = x.is_done ≡ false
 
 -- a client is done after this fault: after all faults except those of calls that were refused, and
 -- that of a service that failed
-abbrev pub ends : ClientFault → Bool
-ends (fault.Service code) = false
-ends fault.TooLarge = false
-ends fault.NotWritable = false
-ends fault.Exhausted = false
-ends fault.TooManyTokens = false
-ends other = true
+abbrev pub ends_client : ClientFault → Bool
+ends_client (fault.Service code) = false
+ends_client fault.TooLarge = false
+ends_client fault.NotWritable = false
+ends_client fault.Exhausted = false
+ends_client fault.TooManyTokens = false
+ends_client other = true
 
 -- a client after a call: it may be called again, except after a fault after which it is done
 abbrev pub IsLeft : {A : Type 0} → Result A ClientFault → Client → Type 0
 IsLeft (Ok found) x = x.is_done ≡ false
-IsLeft (Err f) x = x.is_done ≡ ends f
+IsLeft (Err f) x = x.is_done ≡ ends_client f
 
 -- ---- opening
 
 -- a connection over which nothing was sent and nothing came, to the server of a URL
 pub record IsFresh (limits : Limits) (url : Option (List ℕ)) (x : Connection) : Type 0 where
-  pub goes : ClientGoes (channel_of x) [] [] []
+  pub goes : ClientGoes (channel_of_connection x) [] [] []
   pub untaken : untaken_of x ≡ []
-  pub limits_are : client_limits (channel_of x) ≡ limits
-  pub url_is : url_of (channel_of x) ≡ url
-  pub next_is : client_next (channel_of x) ≡ 2
+  pub limits_are : client_limits (channel_of_connection x) ≡ limits
+  pub url_is : url_of (channel_of_connection x) ≡ url
+  pub next_is : client_next (channel_of_connection x) ≡ 2
 
 -- a client was opened over this connection
-abbrev pub IsOver : Result Client ClientFault → Connection → Type 0
-IsOver (Ok x) last = (connection_of x ≡ last) × (x.is_done ≡ false)
-IsOver (Err f) last = Unit {0}
+abbrev pub IsOpenedOver : Result Client ClientFault → Connection → Type 0
+IsOpenedOver (Ok x) last = (connection_of x ≡ last) × (x.is_done ≡ false)
+IsOpenedOver (Err f) last = Unit {0}
 
 -- what was done to open a client
 pub record OpensClient (limits : Limits) (url : Option (List ℕ)) (moment : DateTime) (before after : Option Traffic) (result : Result Client ClientFault) : Type
@@ -72,7 +72,7 @@ pub record OpensClient (limits : Limits) (url : Option (List ℕ)) (moment : Dat
   pub fresh : IsFresh limits url begun
   pub last : Connection
   pub opens : Opens moment begun last before after result
-  pub over : IsOver result last
+  pub over : IsOpenedOver result last
 
 -- nothing was done, since an allocation failed
 abbrev pub OpensNothing : Option Traffic → Option Traffic → Result Client ClientFault → Type 0

@@ -5,7 +5,7 @@ use Rattle.ua_frame.specs.declared.ack.Ack.{Ack}
 use Rattle.ua_channel.specs.Asks.{Placed, asked_in, next_id}
 use Rattle.ua_channel.specs.Client.{ClientGoes, client_next}
 use Rattle.ua_channel.specs.ClientAsks.{no_id, room_of}
-use Rattle.ua_channel.specs.ClientTokens.{responses, channel_in, held_tokens}
+use Rattle.ua_channel.specs.ClientTokens.{open_responses, first_channel, held_tokens}
 use Rattle.ua_channel.specs.ClientTold.{ClientTold}
 use Rattle.ua_channel.specs.Received.{Received, latest, received}
 use Rattle.ua_channel.specs.declared.client.channel.ClientChannel.{ClientChannel}
@@ -44,4 +44,4 @@ lane_by None channel token = None
 -- the lane of calls after what was received: to the channel of the first OPN response, under the
 -- newest token, in chunks that the server receives (OPC 10000-6, 6.7.2 and 7.1.2.4)
 abbrev pub lane_behind : Received → Option Lane
-lane_behind before = lane_by before.ack (channel_in (responses before.openings)) (latest (held_tokens before))
+lane_behind before = lane_by before.ack (first_channel (open_responses before.openings)) (latest (held_tokens before))

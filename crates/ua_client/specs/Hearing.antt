@@ -30,17 +30,17 @@ use Rattle.ua_client.specs.declared.fault.ClientFault.TheVariants as fault
 -- ---- a connection
 
 -- the channel of a connection
-abbrev pub channel_of : Connection → ClientChannel
-channel_of x = x.channel
+abbrev pub channel_of_connection : Connection → ClientChannel
+channel_of_connection x = x.channel
 
 -- what was read from the transport and is not taken yet
 abbrev pub untaken_of : Connection → List ℕ
 untaken_of x = x.piece
 
 -- the channel keeps its limits and its URL, and sends next what it would have sent
-pub record Keeps (old new : Connection) : Type 0 where
-  pub same : SameClient (channel_of old) (channel_of new)
-  pub next : client_next (channel_of new) ≡ client_next (channel_of old)
+pub record KeepsClient (old new : Connection) : Type 0 where
+  pub same : SameClient (channel_of_connection old) (channel_of_connection new)
+  pub next : client_next (channel_of_connection new) ≡ client_next (channel_of_connection old)
 
 -- ---- faults of the transport
 
@@ -73,12 +73,12 @@ of_take_fault take_fault.OutOfMemory = fault.OutOfMemory
 -- ---- bytes
 
 -- the most bytes of a fragment
-abbrev pub most_octets : ℕ
-most_octets = 4096
+abbrev pub most_fragment_octets : ℕ
+most_fragment_octets = 4096
 
 -- there are at most as many untaken bytes as a fragment has
-abbrev pub IsWithinPiece : Connection → Type 0
-IsWithinPiece x = length (untaken_of x) ≤ most_octets
+abbrev pub FitsFragment : Connection → Type 0
+FitsFragment x = length (untaken_of x) ≤ most_fragment_octets
 
 -- between two times these bytes were taken, of those that were untaken and those that were read;
 -- what was untaken was taken before anything was read
@@ -87,7 +87,7 @@ pub record MovesConnection (old new : Connection) (sent : List ℕ) (before afte
   pub taken : List ℕ
   pub parts : untaken_of old ++ got ≡ taken ++ untaken_of new
   pub first : (got ≡ []) ⊎ Extends (untaken_of old) taken
-  pub few : IsWithinPiece old → IsWithinPiece new
+  pub few : FitsFragment old → FitsFragment new
   pub carried : IfTrafficKnown (Carries got sent) before after
 
 -- ---- what is told
@@ -158,11 +158,11 @@ LeavesLess old new (Err f) = Unit {0}
 pub record Listens (old new : Connection) (moment : DateTime) (result : Result (Option ClientEvent) ClientFault) : Type 0 where
   pub taken : List ℕ
   pub parts : untaken_of old ≡ taken ++ untaken_of new
-  pub keeps : Keeps old new
+  pub keeps : KeepsClient old new
   pub left : LeavesLess old new result
   pub faults : IfErr result (λ f. is_channel_fault f ≡ true)
-  pub answers : (asks : List Placed) (octets : List ℕ) (told : List ClientTold) → ClientGoes (channel_of old) asks octets told
-      → ListensAt moment result (channel_of new) asks (octets ++ taken) told
+  pub answers : (asks : List Placed) (octets : List ℕ) (told : List ClientTold) → ClientGoes (channel_of_connection old) asks octets told
+      → ListensAt moment result (channel_of_connection new) asks (octets ++ taken) told
 
 -- ---- a read
 
@@ -189,9 +189,9 @@ FillsAt reads left got new after (Err other) = ⊥
 pub record Fills {A : Type 0} (old new : Connection) (before after : Option Traffic) (reads left : ℕ) (result : Result A ClientFault) : Type 0 where
   pub got : List ℕ
   pub untaken : untaken_of new ≡ untaken_of old ++ got
-  pub channel : channel_of new ≡ channel_of old
+  pub channel : channel_of_connection new ≡ channel_of_connection old
   pub next : (got ≡ []) ⊎ (untaken_of old ≡ [])
-  pub few : IsWithinPiece old → IsWithinPiece new
+  pub few : FitsFragment old → FitsFragment new
   pub carried : IfTrafficKnown (Carries got []) before after
   pub no_more : effort left new ≤ effort reads old
   pub found : FillsAt reads left got new after result
@@ -228,9 +228,9 @@ StopsAt reads left got new after (Err other) = Unit {0}
 pub record Hears (old new : Connection) (moment : DateTime) (before after : Option Traffic) (reads left : ℕ) (result : Result ClientEvent ClientFault) : Type
     0 where
   pub moves : MovesConnection old new [] before after
-  pub keeps : Keeps old new
-  pub answers : (asks : List Placed) (octets : List ℕ) (told : List ClientTold) → ClientGoes (channel_of old) asks octets told
-      → HearsAt moment result (channel_of new) asks (octets ++ moves.taken) told
+  pub keeps : KeepsClient old new
+  pub answers : (asks : List Placed) (octets : List ℕ) (told : List ClientTold) → ClientGoes (channel_of_connection old) asks octets told
+      → HearsAt moment result (channel_of_connection new) asks (octets ++ moves.taken) told
   pub less : IfOk result (λ e. effort left new < effort reads old)
   pub faults : IfErr result (λ f. is_hearing_fault f ≡ true)
   pub stops : StopsAt reads left moves.got new after result

@@ -6,7 +6,7 @@ use Rattle.ua_channel.specs.Line.{Traffic}
 use Rattle.ua_services.specs.declared.request.Request.{Request}
 use Rattle.ua_client.specs.Calls.{Answered, AnsweredAll, BreaksAt, BrokenAll, EndsOn, ClientGoesOn}
 use Rattle.ua_client.specs.Calls.{LacksMemory, LastCame, all_of, asked_at, refusal_at, sent_at}
-use Rattle.ua_client.specs.Hearing.{channel_of, fault_alone, most_reads, MovesConnection, StopsAt}
+use Rattle.ua_client.specs.Hearing.{channel_of_connection, fault_alone, most_reads, MovesConnection, StopsAt}
 use Rattle.ua_client.specs.Renewing.{IsIdle}
 use Rattle.ua_client.specs.Replies.{IsFront, IsUntold, IsUntoldBefore, LacksAnswer}
 use Rattle.ua_client.specs.ClientPlace.{ClientPlace, StandsAt, id_at}
@@ -19,18 +19,18 @@ use Rattle.ua_client.specs.declared.reply.Reply.{Reply}
 -- ---- the request that a fault names
 
 -- a client is closed, and the fault names this request
-abbrev pub closed_at : ℕ → CallsFault
-closed_at n = record { request = n; fault = fault.Closed }
+abbrev pub closed_at_request : ℕ → CallsFault
+closed_at_request n = record { request = n; fault = fault.Closed }
 
 -- a fault as one that names this request
-abbrev pub named : {A : Type 0} → ℕ → Result A ClientFault → Result A CallsFault
-named n (Ok found) = Ok found
-named n (Err f) = Err (record { request = n; fault = f })
+abbrev pub naming_request : {A : Type 0} → ℕ → Result A ClientFault → Result A CallsFault
+naming_request n (Ok found) = Ok found
+naming_request n (Err f) = Err (record { request = n; fault = f })
 
 -- a group is refused there for its request at this place: there is no reason against those before
 -- it, and this is the first against it
-abbrev pub IsRefusedFor : List Request → ClientPlace → ClientFault → ℕ → Type 0
-IsRefusedFor requests s f n = (refusal_at s (take n requests) ≡ None) × (refusal_at s (take (n + 1) requests) ≡ Some f)
+abbrev pub IsGroupRefusedFor : List Request → ClientPlace → ClientFault → ℕ → Type 0
+IsGroupRefusedFor requests s f n = (refusal_at s (take n requests) ≡ None) × (refusal_at s (take (n + 1) requests) ≡ Some f)
 
 -- ---- a group of calls
 
@@ -38,32 +38,32 @@ IsRefusedFor requests s f n = (refusal_at s (take n requests) ≡ None) × (refu
 -- that came up to the first that is missing, which is named; none of a group that is refused or not
 -- written, and named is the request for which it is refused, else the first
 abbrev pub KeepsAt : List Request → ClientPlace → Connection → List ℕ → ClientFault → ℕ → List Reply → Type 0
-KeepsAt requests s new taken (fault.Peer code) n kept = (n ≡ length kept) × EndsOn (channel_of new) (asked_at s requests) (s.octets ++ taken) s.told
+KeepsAt requests s new taken (fault.Peer code) n kept = (n ≡ length kept) × EndsOn (channel_of_connection new) (asked_at s requests) (s.octets ++ taken) s.told
     (peers code.code) (IsFront IsUntold kept requests (id_at s))
-KeepsAt requests s new taken (fault.Refused code) n kept = (n ≡ length kept) × EndsOn (channel_of new) (asked_at s requests) (s.octets ++ taken) s.told
+KeepsAt requests s new taken (fault.Refused code) n kept = (n ≡ length kept) × EndsOn (channel_of_connection new) (asked_at s requests) (s.octets ++ taken) s.told
     (ours code.code) (IsFront IsUntold kept requests (id_at s))
-KeepsAt requests s new taken fault.Ended n kept = (n ≡ length kept) × ClientGoesOn (channel_of new) (asked_at s requests) (s.octets ++ taken) s.told
+KeepsAt requests s new taken fault.Ended n kept = (n ≡ length kept) × ClientGoesOn (channel_of_connection new) (asked_at s requests) (s.octets ++ taken) s.told
     (IsFront IsUntold kept requests (id_at s))
-KeepsAt requests s new taken fault.Read n kept = (n ≡ length kept) × ClientGoesOn (channel_of new) (asked_at s requests) (s.octets ++ taken) s.told
+KeepsAt requests s new taken fault.Read n kept = (n ≡ length kept) × ClientGoesOn (channel_of_connection new) (asked_at s requests) (s.octets ++ taken) s.told
     (IsFront IsUntold kept requests (id_at s))
-KeepsAt requests s new taken fault.TooLong n kept = (n ≡ length kept) × ClientGoesOn (channel_of new) (asked_at s requests) (s.octets ++ taken) s.told
+KeepsAt requests s new taken fault.TooLong n kept = (n ≡ length kept) × ClientGoesOn (channel_of_connection new) (asked_at s requests) (s.octets ++ taken) s.told
     (IsFront IsUntold kept requests (id_at s))
-KeepsAt requests s new taken fault.UnknownResponse n kept = (n ≡ length kept) × ClientGoesOn (channel_of new) (asked_at s requests) (s.octets ++ taken) s.told
+KeepsAt requests s new taken fault.UnknownResponse n kept = (n ≡ length kept) × ClientGoesOn (channel_of_connection new) (asked_at s requests) (s.octets ++ taken) s.told
     (IsFront LacksAnswer kept requests (id_at s))
 KeepsAt requests s new taken fault.OutOfMemory n kept = (n ≡ length kept) ×
     (((taken ≡ []) × (kept ≡ []))
-    ⊎ ((heard : List ClientTold) × LacksMemory (channel_of new) (asked_at s requests) (s.octets ++ taken) (s.told ++ heard)
+    ⊎ ((heard : List ClientTold) × LacksMemory (channel_of_connection new) (asked_at s requests) (s.octets ++ taken) (s.told ++ heard)
     × IsFront IsUntoldBefore kept requests (id_at s) (s.told ++ heard)))
 KeepsAt requests s new taken fault.Write n kept = (n ≡ 0) × (kept ≡ [])
-KeepsAt requests s new taken fault.TooLarge n kept = IsRefusedFor requests s fault.TooLarge n × (kept ≡ [])
-KeepsAt requests s new taken fault.NotWritable n kept = IsRefusedFor requests s fault.NotWritable n × (kept ≡ [])
-KeepsAt requests s new taken fault.Exhausted n kept = IsRefusedFor requests s fault.Exhausted n × (kept ≡ [])
+KeepsAt requests s new taken fault.TooLarge n kept = IsGroupRefusedFor requests s fault.TooLarge n × (kept ≡ [])
+KeepsAt requests s new taken fault.NotWritable n kept = IsGroupRefusedFor requests s fault.NotWritable n × (kept ≡ [])
+KeepsAt requests s new taken fault.Exhausted n kept = IsGroupRefusedFor requests s fault.Exhausted n × (kept ≡ [])
 KeepsAt requests s new taken other n kept = ⊥
 
 -- the outcome of a group of calls here, with the replies that are added
 abbrev pub GroupAt : {A : Type 0} → List Request → ClientPlace → Connection → List ℕ → List ℕ → Result A CallsFault → List Reply → Type 0
 GroupAt requests s new sent taken (Ok done) added = (sent ≡ sent_at s requests)
-    × ((t : ClientPlace) × StandsAt (channel_of new) t × LastCame (channel_of new) requests (id_at s) t.asks t.octets t.told
+    × ((t : ClientPlace) × StandsAt (channel_of_connection new) t × LastCame (channel_of_connection new) requests (id_at s) t.asks t.octets t.told
     × Answered requests s t taken added)
 GroupAt requests s new sent taken (Err c) added = BreaksAt requests s new sent taken c.fault × KeepsAt requests s new taken c.fault c.request added
 
@@ -72,10 +72,10 @@ pub record CallsGroup {A : Type 0} (requests : List Request) (old new : Connecti
     (result : Result A CallsFault) (had have : List Reply) : Type 0 where
   pub sent : List ℕ
   pub moves : MovesConnection old new sent before after
-  pub same : SameClient (channel_of old) (channel_of new)
+  pub same : SameClient (channel_of_connection old) (channel_of_connection new)
   pub added : List Reply
   pub have_is : have ≡ had ++ added
-  pub answers : (s : ClientPlace) → StandsAt (channel_of old) s → IsIdle (channel_of old) s → GroupAt requests s new sent moves.taken result added
+  pub answers : (s : ClientPlace) → StandsAt (channel_of_connection old) s → IsIdle (channel_of_connection old) s → GroupAt requests s new sent moves.taken result added
   pub stops : StopsAt reads left moves.got new after (fault_alone result)
 
 -- ---- all calls
@@ -94,7 +94,7 @@ pub record BrokenInto (requests : List Request) (s : ClientPlace) (new : Connect
 
 -- the outcome of requests that are called there, with the replies that are added
 abbrev pub IntoAt : {A : Type 0} → List Request → ClientPlace → Connection → List ℕ → List ℕ → Result A CallsFault → List Reply → Type 0
-IntoAt requests s new sent taken (Ok done) added = AnsweredAll requests s (channel_of new) sent taken added
+IntoAt requests s new sent taken (Ok done) added = AnsweredAll requests s (channel_of_connection new) sent taken added
 IntoAt requests s new sent taken (Err c) added = BrokenInto requests s new sent taken c added
 
 -- requests that are called in groups, whose replies are added to those that were there
@@ -102,8 +102,8 @@ pub record CallsInto {A : Type 0} (requests : List Request) (old new : Connectio
     (had have : List Reply) : Type 0 where
   pub sent : List ℕ
   pub moves : MovesConnection old new sent before after
-  pub same : SameClient (channel_of old) (channel_of new)
+  pub same : SameClient (channel_of_connection old) (channel_of_connection new)
   pub added : List Reply
   pub have_is : have ≡ had ++ added
-  pub answers : (s : ClientPlace) → StandsAt (channel_of old) s → IntoAt requests s new sent moves.taken result added
+  pub answers : (s : ClientPlace) → StandsAt (channel_of_connection old) s → IntoAt requests s new sent moves.taken result added
   pub stops : StopsAt most_reads most_reads moves.got new after (fault_alone result)

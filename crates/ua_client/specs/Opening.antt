@@ -15,7 +15,7 @@ use Rattle.ua_channel.specs.ClientTold.ClientTold.{Agreed, Opened, Answered, Gav
 use Rattle.ua_channel.specs.Line.{Traffic}
 use Rattle.ua_channel.specs.declared.client.channel.ClientChannel.{ClientChannel}
 use Rattle.ua_client.specs.Carried.{IsPart}
-use Rattle.ua_client.specs.Hearing.{channel_of, is_hearing_fault, most_reads, BreaksOff, Keeps, MovesConnection, Starved, StopsAt}
+use Rattle.ua_client.specs.Hearing.{channel_of_connection, is_hearing_fault, most_reads, BreaksOff, KeepsClient, MovesConnection, Starved, StopsAt}
 use Rattle.ua_client.specs.declared.connection.Connection.{Connection}
 use Rattle.ua_client.specs.declared.fault.ClientFault.{ClientFault}
 use Rattle.ua_client.specs.declared.fault.ClientFault.TheVariants as fault
@@ -80,9 +80,9 @@ WaitsAt wanted P (Err other) new asks octets told = ⊥
 pub record Waits {A : Type 0} (wanted : ClientTold → Bool) (P : A → Type 0) (old new : Connection) (before after : Option Traffic) (reads left : ℕ)
     (result : Result A ClientFault) : Type 0 where
   pub moves : MovesConnection old new [] before after
-  pub keeps : Keeps old new
-  pub answers : (asks : List Placed) (octets : List ℕ) (told : List ClientTold) → ClientGoes (channel_of old) asks octets told
-      → WaitsAt wanted P result (channel_of new) asks (octets ++ moves.taken) told
+  pub keeps : KeepsClient old new
+  pub answers : (asks : List Placed) (octets : List ℕ) (told : List ClientTold) → ClientGoes (channel_of_connection old) asks octets told
+      → WaitsAt wanted P result (channel_of_connection new) asks (octets ++ moves.taken) told
   pub faults : IfErr result (λ f. is_hearing_fault f ≡ true)
   pub stops : StopsAt reads left moves.got new after result
 
@@ -97,8 +97,8 @@ abbrev pub hello_octets : Limits → Option (List ℕ) → List ℕ
 hello_octets limits url = frame_octets (hello_frame (hello_to limits url))
 
 -- the OPN at this time (OPC 10000-6, 6.7.2)
-abbrev pub open_octets : DateTime → List ℕ
-open_octets moment = frame_octets (first_open moment)
+abbrev pub open_frame_octets : DateTime → List ℕ
+open_frame_octets moment = frame_octets (first_open moment)
 
 -- the channel of this connection is open: an ACK was told, and nothing more until the last of the
 -- frames told that it is open; nothing follows it
@@ -143,7 +143,7 @@ OpensAt hello opening new sent taken (Err f) = BreaksOpening hello opening new s
 pub record Opens {A : Type 0} (moment : DateTime) (old new : Connection) (before after : Option Traffic) (result : Result A ClientFault) : Type 0 where
   pub sent : List ℕ
   pub moves : MovesConnection old new sent before after
-  pub keeps : Keeps old new
-  pub answers : ClientGoes (channel_of old) [] [] [] → OpensAt (hello_octets (client_limits (channel_of old)) (url_of (channel_of old))) (open_octets moment)
-      (channel_of new) sent moves.taken result
+  pub keeps : KeepsClient old new
+  pub answers : ClientGoes (channel_of_connection old) [] [] [] → OpensAt (hello_octets (client_limits (channel_of_connection old)) (url_of (channel_of_connection old))) (open_frame_octets moment)
+      (channel_of_connection new) sent moves.taken result
   pub stops : StopsAt most_reads most_reads moves.got new after result

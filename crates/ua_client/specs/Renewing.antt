@@ -19,7 +19,7 @@ use Rattle.ua_channel.specs.declared.client.channel.ClientChannel.{ClientChannel
 use Rattle.ua_channel.specs.declared.client.fault.AskFault.{AskFault}
 use Rattle.ua_channel.specs.declared.client.fault.AskFault.TheVariants as ask_fault
 use Rattle.ua_client.specs.Carried.{IsPart}
-use Rattle.ua_client.specs.Hearing.{channel_of, most_reads, MovesConnection, StopsAt}
+use Rattle.ua_client.specs.Hearing.{channel_of_connection, most_reads, MovesConnection, StopsAt}
 use Rattle.ua_client.specs.Opening.{is_opened, any_done, WaitsAt}
 use Rattle.ua_client.specs.Sent.{by_channel}
 use Rattle.ua_client.specs.ClientPlace.{ClientPlace, StandsAt, id_at, lane_behind}
@@ -139,10 +139,10 @@ RenewsAt s moment new sent taken (Err other) = ⊥
 pub record Renews {A : Type 0} (moment : DateTime) (old new : Connection) (before after : Option Traffic) (result : Result A ClientFault) : Type 0 where
   pub sent : List ℕ
   pub moves : MovesConnection old new sent before after
-  pub same : SameClient (channel_of old) (channel_of new)
+  pub same : SameClient (channel_of_connection old) (channel_of_connection new)
   -- it is refused exactly for the first reason that holds in the state of the client
-  pub judged : (s : ClientPlace) → StandsAt (channel_of old) s → refused_by result ≡ renewal_refusal s
-  pub answers : (s : ClientPlace) → StandsAt (channel_of old) s → RenewsAt s moment (channel_of new) sent moves.taken result
+  pub judged : (s : ClientPlace) → StandsAt (channel_of_connection old) s → refused_by result ≡ renewal_refusal s
+  pub answers : (s : ClientPlace) → StandsAt (channel_of_connection old) s → RenewsAt s moment (channel_of_connection new) sent moves.taken result
   pub stops : StopsAt most_reads most_reads moves.got new after result
 
 -- ---- the client after it

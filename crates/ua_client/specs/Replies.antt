@@ -4,8 +4,8 @@ use Rattle.std.specs.List.{list_any}
 use Rattle.ua_channel.specs.ClientTold.{ClientTold}
 use Rattle.ua_channel.specs.ClientTold.ClientTold.{Answered, GaveUp}
 use Rattle.ua_opening.specs.Message.{IsBody}
-use Rattle.ua_services.specs.Request.{kind_of}
-use Rattle.ua_services.specs.Response.{response, Answers, kind_of as kind_of_response}
+use Rattle.ua_services.specs.Request.{kind_of_request}
+use Rattle.ua_services.specs.Response.{response, Answers, kind_of_response}
 use Rattle.ua_services.specs.declared.request.Request.{Request}
 use Rattle.ua_services.specs.declared.request.RequestKind.{RequestKind}
 use Rattle.ua_services.specs.declared.response.Response.{Response}
@@ -52,8 +52,8 @@ abbrev pub IsMisanswer : RequestKind → ℕ → ClientTold → Type 0
 IsMisanswer kind id t = (octets : List ℕ) × (t ≡ Answered id octets) × IsNoAnswer kind octets
 
 -- the reply to a request is the one thing that was told of its call
-abbrev pub IsReply : Request → ℕ → List ClientTold → Reply → Type 0
-IsReply request id told reply = (t : ClientTold) × (told_of id told ≡ t ∷ []) × IsReplyBy (kind_of request) id t reply
+abbrev pub IsReplyTo : Request → ℕ → List ClientTold → Reply → Type 0
+IsReplyTo request id told reply = (t : ClientTold) × (told_of id told ≡ t ∷ []) × IsReplyBy (kind_of_request request) id t reply
 
 -- each reply is that of its own request, where the calls of the requests have RequestIds from this
 -- one on
@@ -61,14 +61,14 @@ abbrev pub AreReplies : List Request → ℕ → List ClientTold → List Reply 
 AreReplies [] id told [] = Unit {0}
 AreReplies [] id told (reply ∷ replies) = ⊥
 AreReplies (request ∷ requests) id told [] = ⊥
-AreReplies (request ∷ requests) id told (reply ∷ replies) = IsReply request id told reply × AreReplies requests (id + 1) told replies
+AreReplies (request ∷ requests) id told (reply ∷ replies) = IsReplyTo request id told reply × AreReplies requests (id + 1) told replies
 
 -- ---- replies that are still waited for
 
 -- the reply to a request, if there is one: nothing was told of its call, or the reply was
 abbrev pub IsSlot : Request → ℕ → List ClientTold → Option Reply → Type 0
 IsSlot request id told None = told_of id told ≡ []
-IsSlot request id told (Some reply) = IsReply request id told reply
+IsSlot request id told (Some reply) = IsReplyTo request id told reply
 
 -- the replies to requests, as far as there are any
 abbrev pub AreSlots : List Request → ℕ → List ClientTold → List (Option Reply) → Type 0
@@ -96,7 +96,7 @@ front_of (Some reply ∷ slots) = reply ∷ front_of slots
 abbrev pub IsFront : (Request → ℕ → List ClientTold → Type 0) → List Reply → List Request → ℕ → List ClientTold → Type 0
 IsFront Misses replies [] id told = ⊥
 IsFront Misses [] (request ∷ requests) id told = Misses request id told
-IsFront Misses (reply ∷ replies) (request ∷ requests) id told = IsReply request id told reply × IsFront Misses replies requests (id + 1) told
+IsFront Misses (reply ∷ replies) (request ∷ requests) id told = IsReplyTo request id told reply × IsFront Misses replies requests (id + 1) told
 
 -- nothing was told of its call
 abbrev pub IsUntold : Request → ℕ → List ClientTold → Type 0
@@ -104,7 +104,7 @@ IsUntold request id told = told_of id told ≡ []
 
 -- nothing was told of its call, or a message that is no answer to it
 abbrev pub LacksAnswer : Request → ℕ → List ClientTold → Type 0
-LacksAnswer request id told = (told_of id told ≡ []) ⊎ ((t : ClientTold) × (told_of id told ≡ t ∷ []) × IsMisanswer (kind_of request) id t)
+LacksAnswer request id told = (told_of id told ≡ []) ⊎ ((t : ClientTold) × (told_of id told ≡ t ∷ []) × IsMisanswer (kind_of_request request) id t)
 
 -- nothing was told of its call except, maybe, the last of all that was told
 abbrev pub IsUntoldBefore : Request → ℕ → List ClientTold → Type 0
@@ -114,10 +114,10 @@ IsUntoldBefore request id told = (told_of id told ≡ [])
 -- ---- the place of a reply
 
 -- the request at an index of a list
-abbrev pub IsAt : List Request → ℕ → Request → Type 0
-IsAt [] n request = ⊥
-IsAt (r ∷ rs) zero request = request ≡ r
-IsAt (r ∷ rs) (suc n) request = IsAt rs n request
+abbrev pub IsRequestAt : List Request → ℕ → Request → Type 0
+IsRequestAt [] n request = ⊥
+IsRequestAt (r ∷ rs) zero request = request ≡ r
+IsRequestAt (r ∷ rs) (suc n) request = IsRequestAt rs n request
 
 -- the last that was told is a message that is no answer to the request of its call, of which
 -- nothing was told before; and before it each of the calls was answered, or nothing was told of it
@@ -129,9 +129,9 @@ pub record IsMisanswered (requests : List Request) (id : ℕ) (told : List Clien
   pub slots_are : AreSlots requests id before slots
   pub place : ℕ
   pub request : Request
-  pub request_is : IsAt requests place request
+  pub request_is : IsRequestAt requests place request
   pub untold : told_of (id + place) before ≡ []
-  pub misanswers : IsMisanswer (kind_of request) (id + place) last
+  pub misanswers : IsMisanswer (kind_of_request request) (id + place) last
 
 -- what was told is of none of this many calls from this RequestId on
 abbrev pub IsOfNone : ℕ → ℕ → ClientTold → Type 0
@@ -146,8 +146,8 @@ IsPlace first id count (Some n) = (n < count) × (id ≡ first + n)
 -- their calls
 abbrev pub PlacesReply : List Request → ℕ → ClientTold → Result (Option (ℕ × Reply)) ClientFault → Type 0
 PlacesReply requests first t (Ok None) = IsOfNone first (length requests) t
-PlacesReply requests first t (Ok (Some (n, reply))) = (request : Request) × IsAt requests n request × IsReplyBy (kind_of request) (first + n) t reply
-PlacesReply requests first t (Err fault.UnknownResponse) = (n : ℕ) × (request : Request) × IsAt requests n request × IsMisanswer (kind_of request) (first + n) t
+PlacesReply requests first t (Ok (Some (n, reply))) = (request : Request) × IsRequestAt requests n request × IsReplyBy (kind_of_request request) (first + n) t reply
+PlacesReply requests first t (Err fault.UnknownResponse) = (n : ℕ) × (request : Request) × IsRequestAt requests n request × IsMisanswer (kind_of_request request) (first + n) t
 PlacesReply requests first t (Err fault.OutOfMemory) = Unit {0}
 PlacesReply requests first t (Err other) = ⊥
 

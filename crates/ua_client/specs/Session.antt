@@ -6,7 +6,7 @@ use Rattle.ua_builtin.specs.declared.date_time.DateTime.{DateTime}
 use Rattle.ua_builtin.specs.declared.node_id.NodeId.{NodeId}
 use Rattle.ua_builtin.specs.declared.status_code.StatusCode.{StatusCode}
 use Rattle.ua_services.specs.Request.{request}
-use Rattle.ua_services.specs.Response.{header_of, kind_of}
+use Rattle.ua_services.specs.Response.{header_of_response, kind_of_response}
 use Rattle.ua_services.specs.declared.request.Request.{Request}
 use Rattle.ua_services.specs.declared.response.Response.{Response}
 use Rattle.ua_services.specs.declared.response.Response.TheVariants.{CreateSession}
@@ -17,7 +17,7 @@ use Rattle.ua_channel.specs.Client.{SameClient, url_of}
 use Rattle.ua_channel.specs.Line.{Traffic}
 use Rattle.ua_channel.specs.declared.client.channel.ClientChannel.{ClientChannel}
 use Rattle.ua_client.specs.Calls.{Answered, BreaksAt, LastCame, sent_at}
-use Rattle.ua_client.specs.Hearing.{channel_of, most_reads, MovesConnection, StopsAt}
+use Rattle.ua_client.specs.Hearing.{channel_of_connection, most_reads, MovesConnection, StopsAt}
 use Rattle.ua_client.specs.Renewing.{IsIdle, IsSettled}
 use Rattle.ua_client.specs.ClientPlace.{ClientPlace, StandsAt, id_at}
 use Rattle.ua_client.specs.declared.connection.Connection.{Connection}
@@ -57,11 +57,11 @@ is_fault other = false
 -- the service failed by this response: it is a ServiceFault, whatever its code, or its
 -- ServiceResult is bad (OPC 10000-4, 5.3 and 7.34)
 abbrev pub is_failure : Response → Bool
-is_failure m = is_fault (kind_of m) || is_bad (header_of m).service_result
+is_failure m = is_fault (kind_of_response m) || is_bad (header_of_response m).service_result
 
 -- the code by which it failed, if it did
 abbrev pub response_failure : Response → Option StatusCode
-response_failure m = cond (is_failure m) (Some (header_of m).service_result) None
+response_failure m = cond (is_failure m) (Some (header_of_response m).service_result) None
 
 -- the code by which a service failed, if it did: that of the response, or that with which the
 -- server aborted its response
@@ -115,14 +115,14 @@ pub record Replies (request : Request) (s : ClientPlace) (x : ClientChannel) (se
 
 -- the outcome of a request that is called there by itself: the reply, or a fault of the call
 abbrev pub CallsOneAt : Request → ClientPlace → Connection → List ℕ → List ℕ → Result Reply ClientFault → Type 0
-CallsOneAt request s new sent taken (Ok found) = Replies request s (channel_of new) sent taken (is_reply found)
+CallsOneAt request s new sent taken (Ok found) = Replies request s (channel_of_connection new) sent taken (is_reply found)
 CallsOneAt request s new sent taken (Err f) = BreaksAt (request ∷ []) s new sent taken f
 
 -- the outcome of a service whose request is called there by itself: a reply by which it did not
 -- fail, and what that brings; the code of one by which it failed; or a fault of the call
 abbrev pub ServesAt : {A : Type 0} → Request → (A → Reply → Type 0) → ClientPlace → Connection → List ℕ → List ℕ → Result A ClientFault → Type 0
-ServesAt request brings s new sent taken (Ok found) = Replies request s (channel_of new) sent taken (λ reply. (reply_failure reply ≡ None) × brings found reply)
-ServesAt request brings s new sent taken (Err (fault.Service code)) = Replies request s (channel_of new) sent taken (λ reply. reply_failure reply ≡ Some code)
+ServesAt request brings s new sent taken (Ok found) = Replies request s (channel_of_connection new) sent taken (λ reply. (reply_failure reply ≡ None) × brings found reply)
+ServesAt request brings s new sent taken (Err (fault.Service code)) = Replies request s (channel_of_connection new) sent taken (λ reply. reply_failure reply ≡ Some code)
 ServesAt request brings s new sent taken (Err f) = BreaksAt (request ∷ []) s new sent taken f
 
 -- ---- both services
@@ -154,7 +154,7 @@ pub record BehindCreating (client : ClientChannel) (url : Option (List ℕ)) (mo
 abbrev pub ActivatesBehind : Option (List ℕ) → Option (List ℕ) → DateTime → ClientPlace → Connection → List ℕ → List ℕ → (NodeId → Type 0)
     → Result (Unit {0}) ClientFault → Type 0
 ActivatesBehind url policy_id moment s new sent taken P result =
-    BehindCreating (channel_of new) url moment s sent taken (λ token t sent_then taken_then. P token
+    BehindCreating (channel_of_connection new) url moment s sent taken (λ token t sent_then taken_then. P token
     × ServesAt (activating_at policy_id token moment t) brings_any t new sent_then taken_then result)
 
 -- the outcome of a session that is begun there: both services are done, and the first brought this
@@ -193,24 +193,24 @@ pub record Does {A : Type 0} (P : ClientPlace → List ℕ → List ℕ → Type
     (result : Result A ClientFault) : Type 0 where
   pub sent : List ℕ
   pub moves : MovesConnection old new sent before after
-  pub same : SameClient (channel_of old) (channel_of new)
-  pub answers : (s : ClientPlace) → StandsAt (channel_of old) s → P s sent moves.taken
+  pub same : SameClient (channel_of_connection old) (channel_of_connection new)
+  pub answers : (s : ClientPlace) → StandsAt (channel_of_connection old) s → P s sent moves.taken
   pub stops : StopsAt reads left moves.got new after result
 
 -- the same, for a channel that is idle
 abbrev pub DoesIdle : {A : Type 0} → (ClientPlace → List ℕ → List ℕ → Type 0) → Connection → Connection → Option Traffic → Option Traffic → ℕ → ℕ
     → Result A ClientFault → Type 0
-DoesIdle P old new before after reads left result = Does (λ s sent taken. IsIdle (channel_of old) s → P s sent taken) old new before after reads left result
+DoesIdle P old new before after reads left result = Does (λ s sent taken. IsIdle (channel_of_connection old) s → P s sent taken) old new before after reads left result
 
 -- a session is begun at this time over a transport, by the token policy with this PolicyId
 abbrev pub BeginsSessionAs : Option (List ℕ) → DateTime → Connection → Connection → Option Traffic → Option Traffic → Result NodeId ClientFault → Type 0
 BeginsSessionAs policy_id moment old new before after result =
-    Does (λ s sent taken. BeginsAt (url_of (channel_of old)) policy_id moment s new sent taken result) old new before after most_reads most_reads result
+    Does (λ s sent taken. BeginsAt (url_of (channel_of_connection old)) policy_id moment s new sent taken result) old new before after most_reads most_reads result
 
 -- the same, with the token of a session that was created and not activated
 abbrev pub TriesSession : Option (List ℕ) → DateTime → Connection → Connection → Option Traffic → Option Traffic → Result NodeId SessionFault → Type 0
 TriesSession policy_id moment old new before after result =
-    Does (λ s sent taken. TriesAt (url_of (channel_of old)) policy_id moment s new sent taken result) old new before after most_reads most_reads
+    Does (λ s sent taken. TriesAt (url_of (channel_of_connection old)) policy_id moment s new sent taken result) old new before after most_reads most_reads
     (session_alone result)
 
 -- a session is begun by the token policy `anonymous`

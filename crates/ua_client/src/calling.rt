@@ -2,8 +2,8 @@
 
 ghost use Rattle.std.specs.Prelude.{◌≡◌, ◌+◌, ◌-◌, ◌<◌, ◌≤◌, length, None, IfErr, OnOk, OnErr};
 ghost use Rattle.ua_channel.specs.Client.{phase_of};
-ghost use Rattle.ua_client.specs.Hearing.{channel_of, failures_behind, fault_alone};
-ghost use Rattle.ua_client.specs.Kept.{CallsGroup, CallsInto, named};
+ghost use Rattle.ua_client.specs.Hearing.{channel_of_connection, failures_behind, fault_alone};
+ghost use Rattle.ua_client.specs.Kept.{CallsGroup, CallsInto, naming_request};
 ghost use Rattle.ua_client.specs.Renewing.{StandsSettled};
 ghost use Rattle.ua_client.specs.Sent.{bodies_of, group_refusal};
 
@@ -52,9 +52,9 @@ impl Connection {
         requires some { 0 < length requests.now }
         requires few { length requests.now ≤ 64 }
         requires bodies { bodies.now ≡ bodies_of requests.now }
-        requires judged { group_refusal (phase_of (channel_of self.old)) 0 requests.now ≡ None }
+        requires judged { group_refusal (phase_of (channel_of_connection self.old)) 0 requests.now ≡ None }
         ensures calls { CallsGroup requests.now self.old self.new (L.traffic line.old) (L.traffic line.new) reads.old
-            reads.new (named (length replies.new.items - length replies.old.items) result) replies.old.items
+            reads.new (naming_request (length replies.new.items - length replies.old.items) result) replies.old.items
             replies.new.items }
         ensures more { length replies.old.items ≤ length replies.new.items }
         ensures count { OnOk result (length replies.new.items ≡ length replies.old.items + length requests.now) }
@@ -116,7 +116,7 @@ impl Connection {
         moment: DateTime,
         replies: &mut Vec<Reply>,
     ) -> Result<(), CallsFault>
-        requires settled { StandsSettled (channel_of self.old) }
+        requires settled { StandsSettled (channel_of_connection self.old) }
         ensures calls { CallsInto requests.now self.old self.new (L.traffic line.old) (L.traffic line.new) result
             replies.old.items replies.new.items }
         ensures count { OnOk result (length replies.new.items ≡ length replies.old.items + length requests.now) }

@@ -42,10 +42,10 @@ impl Client {
     ghost use Rattle.ua_frame.specs.declared.frame.Frame.{Frame};
     ghost use Rattle.ua_channel.specs.Received.{received};
     ghost use Rattle.ua_client.specs.Calls.{CallsAll};
-    ghost use Rattle.ua_client.specs.Client.{OpensNothing, OpensClient, IsDone, IsReady};
+    ghost use Rattle.ua_client.specs.Client.{OpensNothing, OpensClient, HasFailedOrClosed, IsReady};
     ghost use Rattle.ua_client.specs.Client.{IsLeft, Closes, client_channel, connection_of};
     ghost use Rattle.ua_client.specs.Hearing.{failures_behind, fault_alone};
-    ghost use Rattle.ua_client.specs.Kept.{CallsInto, closed_at};
+    ghost use Rattle.ua_client.specs.Kept.{CallsInto, closed_at_request};
     ghost use Rattle.ua_client.specs.Renewing.{Renews, IsRefusal};
     ghost use Rattle.ua_client.specs.Session.{BeginsSession, BeginsSessionAs};
     ghost use Rattle.ua_client.specs.Session.{TriesSession, session_alone, session_closed};
@@ -90,7 +90,7 @@ impl Client {
         ensures begins { IsReady self.old → BeginsSession moment (connection_of self.old) (connection_of self.new)
             (L.traffic line.old) (L.traffic line.new) result }
         ensures left { IsReady self.old → IsLeft result self.new }
-        ensures closed { IsDone self.old → (result ≡ Err Closed) × (self.new ≡ self.old) × (line.new ≡ line.old) }
+        ensures closed { HasFailedOrClosed self.old → (result ≡ Err Closed) × (self.new ≡ self.old) × (line.new ≡ line.old) }
         ensures failed { L.failures line.new ≡ failures_behind (L.failures line.old) result }
     {
         if self.is_done {
@@ -127,7 +127,7 @@ impl Client {
         ensures begins { IsReady self.old → BeginsSessionAs policy_id moment (connection_of self.old)
             (connection_of self.new) (L.traffic line.old) (L.traffic line.new) result }
         ensures left { IsReady self.old → IsLeft result self.new }
-        ensures closed { IsDone self.old → (result ≡ Err Closed) × (self.new ≡ self.old) × (line.new ≡ line.old) }
+        ensures closed { HasFailedOrClosed self.old → (result ≡ Err Closed) × (self.new ≡ self.old) × (line.new ≡ line.old) }
         ensures failed { L.failures line.new ≡ failures_behind (L.failures line.old) result }
     {
         match self.try_begin_session(line, policy_id, moment) {
@@ -150,7 +150,7 @@ impl Client {
             → TriesSession policy_id moment (connection_of self.old) (connection_of self.new) (L.traffic line.old)
             (L.traffic line.new) result }
         ensures left { IsReady self.old → IsLeft (session_alone result) self.new }
-        ensures closed { IsDone self.old → (result ≡ Err session_closed) × (self.new ≡ self.old)
+        ensures closed { HasFailedOrClosed self.old → (result ≡ Err session_closed) × (self.new ≡ self.old)
             × (line.new ≡ line.old) }
         ensures failed { L.failures line.new ≡ failures_behind (L.failures line.old) (session_alone result) }
     {
@@ -182,7 +182,7 @@ impl Client {
         ensures calls { IsReady self.old → CallsAll (λ reply. reply ∷ []) (request.now ∷ []) (connection_of self.old)
             (connection_of self.new) (L.traffic line.old) (L.traffic line.new) result }
         ensures left { IsReady self.old → IsLeft result self.new }
-        ensures closed { IsDone self.old → (result ≡ Err Closed) × (self.new ≡ self.old) × (line.new ≡ line.old) }
+        ensures closed { HasFailedOrClosed self.old → (result ≡ Err Closed) × (self.new ≡ self.old) × (line.new ≡ line.old) }
         ensures failed { L.failures line.new ≡ failures_behind (L.failures line.old) result }
     {
         match self.call_all(line, slice::from_ref(request), moment) {
@@ -209,7 +209,7 @@ impl Client {
             (connection_of self.new) (L.traffic line.old) (L.traffic line.new) result }
         ensures count { IfOk result (λ replies. length replies.items ≡ length requests.now) }
         ensures left { IsReady self.old → IsLeft result self.new }
-        ensures closed { IsDone self.old → (result ≡ Err Closed) × (self.new ≡ self.old) × (line.new ≡ line.old) }
+        ensures closed { HasFailedOrClosed self.old → (result ≡ Err Closed) × (self.new ≡ self.old) × (line.new ≡ line.old) }
         ensures failed { L.failures line.new ≡ failures_behind (L.failures line.old) result }
     {
         let mut replies = no_replies(self.alloc, requests.len());
@@ -244,7 +244,7 @@ impl Client {
         ensures count { OnOk result (length replies.new.items ≡ length replies.old.items + length requests.now) }
         ensures names { IsReady self.old → IfErr result (λ calls. calls.request < length requests.now) }
         ensures left { IsReady self.old → IsLeft (fault_alone result) self.new }
-        ensures closed { IsDone self.old → (result ≡ Err (closed_at 0)) × (self.new ≡ self.old) × (line.new ≡ line.old)
+        ensures closed { HasFailedOrClosed self.old → (result ≡ Err (closed_at_request 0)) × (self.new ≡ self.old) × (line.new ≡ line.old)
             × (replies.new ≡ replies.old) }
         ensures failed { L.failures line.new ≡ failures_behind (L.failures line.old) (fault_alone result) }
     {
@@ -295,7 +295,7 @@ impl Client {
     pub fn next_id(&self) -> Option<u32>
         ensures ready { IsReady self.now → (s : ClientPlace) → StandsAt (client_channel self.now) s
             → result ≡ usable_id (id_at s) }
-        ensures done { IsDone self.now → result ≡ None }
+        ensures done { HasFailedOrClosed self.now → result ≡ None }
     {
         if self.is_done {
             return None;
@@ -317,7 +317,7 @@ impl Client {
             (L.traffic line.old) (L.traffic line.new) result }
         ensures left { IsReady self.old → IsLeft result self.new }
         ensures unchanged { IsRefusal result → (self.new ≡ self.old) × (line.new ≡ line.old) }
-        ensures closed { IsDone self.old → (result ≡ Err Closed) × (self.new ≡ self.old) × (line.new ≡ line.old) }
+        ensures closed { HasFailedOrClosed self.old → (result ≡ Err Closed) × (self.new ≡ self.old) × (line.new ≡ line.old) }
         ensures failed { L.failures line.new ≡ failures_behind (L.failures line.old) result }
     {
         if self.is_done {
@@ -336,8 +336,8 @@ impl Client {
     pub fn close<L: Line>(&mut self, line: &mut L, moment: DateTime) -> Result<(), ClientFault>
         ensures closes { IsReady self.old → Closes moment (client_channel self.old) (L.traffic line.old)
             (L.traffic line.new) result }
-        ensures done { IsDone self.new }
-        ensures closed { IsDone self.old → (result ≡ Err Closed) × (self.new ≡ self.old) × (line.new ≡ line.old) }
+        ensures done { HasFailedOrClosed self.new }
+        ensures closed { HasFailedOrClosed self.old → (result ≡ Err Closed) × (self.new ≡ self.old) × (line.new ≡ line.old) }
         ensures failed { L.failures line.new ≡ failures_behind (L.failures line.old) result }
     {
         if self.is_done {

@@ -56,12 +56,12 @@ pub enum ClientFault {
 
 impl ClientFault {
     ghost use Rattle.std.specs.Prelude.{◌≡◌};
-    ghost use Rattle.ua_client.specs.Client.{ends};
+    ghost use Rattle.ua_client.specs.Client.{ends_client};
 
     /// Whether a client is done after this fault: after all but those found before anything is
     /// sent, and a service that failed.
     pub(crate) fn ends(self) -> bool
-        ensures { result ≡ ends self }
+        ensures { result ≡ ends_client self }
     {
         !matches!(
             self,

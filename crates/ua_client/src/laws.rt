@@ -14,7 +14,7 @@ ghost use Rattle.ua_channel_laws.specs.ClientReads.{AtClient, ClientReads};
 ghost use Rattle.ua_channel.specs.ClientTold.{ClientTold};
 ghost use Rattle.ua_channel.specs.declared.client.channel.ClientChannel.{ClientChannel};
 ghost use Rattle.ua_client.specs.Calls.{Answered, BreaksAt, asked_at};
-ghost use Rattle.ua_client.specs.Hearing.{channel_of};
+ghost use Rattle.ua_client.specs.Hearing.{channel_of_connection};
 ghost use Rattle.ua_client.specs.Opening.{IsOpened};
 ghost use Rattle.ua_client.specs.Renewing.{IsIdle, IsSettled, StandsSettled};
 ghost use Rattle.ua_client.specs.Replies.{AreReplies};
@@ -89,13 +89,13 @@ pub fn clients_follow_asking()
         (code : StatusCode) (later : List Placed) (more : List ℕ) (all : List ClientTold) (at : AtClient) →
         BreaksAt requests s new sent taken (Peer code)
         → AllByRecursion (λ (a : Placed). length (s.octets ++ taken) ≤ a.0) later →
-        ClientReads (client_limits (channel_of new)) (asked_at s requests ++ later) ((s.octets ++ taken) ++ more) all at
+        ClientReads (client_limits (channel_of_connection new)) (asked_at s requests ++ later) ((s.octets ++ taken) ++ more) all at
         → ⊥ }
     ensures not_refused { (requests : List Request) (s : ClientPlace) (new : Connection) (sent taken : List ℕ)
         (code : StatusCode) (later : List Placed) (more : List ℕ) (all : List ClientTold) (at : AtClient) →
         BreaksAt requests s new sent taken (Refused code)
         → AllByRecursion (λ (a : Placed). length (s.octets ++ taken) ≤ a.0) later →
-        ClientReads (client_limits (channel_of new)) (asked_at s requests ++ later) ((s.octets ++ taken) ++ more) all at
+        ClientReads (client_limits (channel_of_connection new)) (asked_at s requests ++ later) ((s.octets ++ taken) ++ more) all at
         → ⊥ }
 {
     client_follows_asking();

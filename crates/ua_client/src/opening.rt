@@ -4,8 +4,8 @@ ghost use Rattle.std.specs.Prelude.{◌≡◌, [], IsTrue, IfOk, OnErr, Err};
 ghost use Rattle.ua_wire.specs.Counted.{text};
 ghost use Rattle.ua_channel.specs.Client.{ClientStands, client_limits, url_of, client_next};
 ghost use Rattle.ua_client.specs.Client.{Closes};
-ghost use Rattle.ua_client.specs.Hearing.{channel_of, untaken_of, failures_behind};
-ghost use Rattle.ua_client.specs.Opening.{Waits, Opens, is_agreed, is_opened, open_octets, any_done};
+ghost use Rattle.ua_client.specs.Hearing.{channel_of_connection, untaken_of, failures_behind};
+ghost use Rattle.ua_client.specs.Opening.{Waits, Opens, is_agreed, is_opened, open_frame_octets, any_done};
 ghost use Rattle.ua_client.specs.declared.fault.ClientFault.TheVariants.{OutOfMemory};
 
 use crate::connection::Connection;
@@ -22,11 +22,11 @@ impl Connection {
     /// A connection that has sent and received nothing.
     pub fn new(alloc: Global, limits: Limits, url: UaString) -> Result<Connection, ClientFault>
         requires { IsTrue (text.encodable url) }
-        ensures stands { IfOk result (λ x. ClientStands (channel_of x) [] [] [] []) }
+        ensures stands { IfOk result (λ x. ClientStands (channel_of_connection x) [] [] [] []) }
         ensures untaken { IfOk result (λ x. untaken_of x ≡ []) }
-        ensures limits { IfOk result (λ x. client_limits (channel_of x) ≡ limits) }
-        ensures url { IfOk result (λ x. url_of (channel_of x) ≡ url) }
-        ensures next { IfOk result (λ x. client_next (channel_of x) ≡ 2) }
+        ensures limits { IfOk result (λ x. client_limits (channel_of_connection x) ≡ limits) }
+        ensures url { IfOk result (λ x. url_of (channel_of_connection x) ≡ url) }
+        ensures next { IfOk result (λ x. client_next (channel_of_connection x) ≡ 2) }
         ensures memory { OnErr result (result ≡ Err OutOfMemory) }
     {
         match Piece::new(alloc) {
@@ -45,7 +45,7 @@ impl Connection {
         reads: &mut u64,
         moment: DateTime,
     ) -> Result<Vec<u8>, ClientFault>
-        ensures waits { Waits is_agreed (λ octets. octets.items ≡ open_octets moment) self.old self.new
+        ensures waits { Waits is_agreed (λ octets. octets.items ≡ open_frame_octets moment) self.old self.new
             (L.traffic line.old) (L.traffic line.new) reads.old reads.new result }
         ensures failed { L.failures line.new ≡ failures_behind (L.failures line.old) result }
     {
@@ -101,7 +101,7 @@ impl Connection {
 
     /// Sends the CLO.
     pub fn close<L: Line>(&mut self, line: &mut L, moment: DateTime) -> Result<(), ClientFault>
-        ensures closes { Closes moment (channel_of self.old) (L.traffic line.old) (L.traffic line.new) result }
+        ensures closes { Closes moment (channel_of_connection self.old) (L.traffic line.old) (L.traffic line.new) result }
         ensures failed { L.failures line.new ≡ failures_behind (L.failures line.old) result }
     {
         let Ok(octets) = self.channel.close(moment) else {

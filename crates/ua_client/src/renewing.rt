@@ -1,7 +1,7 @@
 //! The renewal of a channel's token over a transport.
 
 ghost use Rattle.std.specs.Prelude.{◌≡◌};
-ghost use Rattle.ua_client.specs.Hearing.{channel_of, failures_behind};
+ghost use Rattle.ua_client.specs.Hearing.{channel_of_connection, failures_behind};
 ghost use Rattle.ua_client.specs.Opening.{Waits, any_done};
 ghost use Rattle.ua_client.specs.Renewing.{Renews, IsRefusal, StandsSettled, is_renewed, of_renew_fault};
 
@@ -50,7 +50,7 @@ impl Connection {
 
     /// Sends the OPN that renews the token, and waits until the new one arrives.
     pub fn renew<L: Line>(&mut self, line: &mut L, moment: DateTime) -> Result<(), ClientFault>
-        requires settled { StandsSettled (channel_of self.old) }
+        requires settled { StandsSettled (channel_of_connection self.old) }
         ensures renews { Renews moment self.old self.new (L.traffic line.old) (L.traffic line.new) result }
         ensures unchanged { IsRefusal result → (self.new ≡ self.old) × (line.new ≡ line.old) }
         ensures failed { L.failures line.new ≡ failures_behind (L.failures line.old) result }

@@ -5,7 +5,7 @@ ghost use Rattle.std.specs.Prelude.{true, Some, IfOk, IfErr, IfSome, OnErr};
 ghost use Rattle.std.specs.List.{concat};
 ghost use Rattle.ua_channel.specs.ClientTold.{ClientTold};
 ghost use Rattle.ua_channel.specs.ClientTold.ClientTold.{Answered};
-ghost use Rattle.ua_services.specs.Response.{Answers, kind_of as kind_of_response};
+ghost use Rattle.ua_services.specs.Response.{Answers, kind_of_response};
 ghost use Rattle.ua_client.specs.declared.fault.ClientFault.TheVariants.{UnknownResponse};
 ghost use Rattle.ua_client.specs.Replies.{ReadsAnswer, IsPlace, PlacesReply, AreSlots, FillsSlots, is_reading_fault};
 ghost use Rattle.ua_client.specs.Told.{IsFirstOf};

@@ -2,7 +2,7 @@
 
 ghost use Rattle.std.specs.Prelude.{◌≡◌, None, IfOk, IfErr};
 ghost use Rattle.ua_channel.specs.Client.{url_of};
-ghost use Rattle.ua_client.specs.Hearing.{channel_of, failures_behind};
+ghost use Rattle.ua_client.specs.Hearing.{channel_of_connection, failures_behind};
 ghost use Rattle.ua_client.specs.Session.{CallsOneAt, DoesIdle, IsFailure, LacksToken, MakesRequest, ServesAt};
 ghost use Rattle.ua_client.specs.Session.{TriesSession, activating_at, brings_any, brings_token, creating_at};
 ghost use Rattle.ua_client.specs.Session.{is_reply, reply_failure, response_failure, session_alone};
@@ -115,8 +115,8 @@ impl Connection {
 
     /// The CreateSession that would be sent next.
     fn creating(&self, alloc: Global, moment: DateTime) -> Result<Request, AllocError>
-        ensures { (s : ClientPlace) → StandsAt (channel_of self.now) s
-            → IfOk result (λ r. r ≡ creating_at (url_of (channel_of self.now)) moment s) }
+        ensures { (s : ClientPlace) → StandsAt (channel_of_connection self.now) s
+            → IfOk result (λ r. r ≡ creating_at (url_of (channel_of_connection self.now)) moment s) }
     {
         let url = self.channel.url().try_clone()?;
         create_session_request(alloc, url, moment, self.channel.next_id())
@@ -130,7 +130,7 @@ impl Connection {
         policy_id: UaString,
         moment: DateTime,
     ) -> Result<Request, ClientFault>
-        ensures { MakesRequest (activating_at policy_id token.now moment) (channel_of self.now) result }
+        ensures { MakesRequest (activating_at policy_id token.now moment) (channel_of_connection self.now) result }
     {
         let Ok(token) = token.try_clone() else {
             return Err(ClientFault::OutOfMemory);
@@ -152,7 +152,7 @@ impl Connection {
         moment: DateTime,
     ) -> Result<NodeId, ClientFault>
         ensures creates { DoesIdle
-            (λ s sent taken. ServesAt (creating_at (url_of (channel_of self.old)) moment s) brings_token s self.new sent
+            (λ s sent taken. ServesAt (creating_at (url_of (channel_of_connection self.old)) moment s) brings_token s self.new sent
             taken result) self.old self.new (L.traffic line.old) (L.traffic line.new) reads.old reads.new result }
         ensures failed { L.failures line.new ≡ failures_behind (L.failures line.old) result }
     {
@@ -202,7 +202,7 @@ impl Connection {
         policy_id: UaString,
         moment: DateTime,
     ) -> Result<NodeId, SessionFault>
-        requires settled { StandsSettled (channel_of self.old) }
+        requires settled { StandsSettled (channel_of_connection self.old) }
         ensures begins { TriesSession policy_id moment self.old self.new (L.traffic line.old) (L.traffic line.new)
             result }
         ensures failed { L.failures line.new ≡ failures_behind (L.failures line.old) (session_alone result) }

@@ -6,7 +6,7 @@ use Rattle.ua_server.specs.State.{State}
 use Rattle.ua_server.specs.declared.connection.Connection.{Connection}
 use Rattle.ua_server.specs.declared.session.Session.{Session}
 use Rattle.ua_concurrent.specs.Carried.{Carried}
-use Rattle.ua_concurrent.specs.Standing.{HasCome, Stands, Went, own_id}
+use Rattle.ua_concurrent.specs.Standing.{HasCome, TalkStands, Went, own_id}
 use Rattle.ua_concurrent.specs.Talk.{Talk}
 use Rattle.ua_concurrent.specs.declared.outcome.Phase.{Phase}
 use Rattle.ua_concurrent.specs.declared.outcome.Phase.TheVariants as phase
@@ -33,12 +33,12 @@ others_trans k es more again first before mid now a b =
 -- ---- one conversation
 
 module _ {S : Type 0} (heard : S → Option Carried) where
-  pub went_none : (es : List SharedEvent) (first now : State) (t : Talk S) → (shared_over own_id (opened first) es).state ≡ now → Stands heard es first now t
+  pub went_none : (es : List SharedEvent) (first now : State) (t : Talk S) → (shared_over own_id (opened first) es).state ≡ now → TalkStands heard es first now t
       → Went heard es first now now t
   went_none es first now t state s = record {
     more = [];
     state_is = subst (λ (all : List SharedEvent). (shared_over own_id (opened first) all).state ≡ now) (sym (append-nil es)) state;
-    stands = subst (λ (all : List SharedEvent). Stands heard all first now t) (sym (append-nil es)) s;
+    stands = subst (λ (all : List SharedEvent). TalkStands heard all first now t) (sym (append-nil es)) s;
     others = others_none t.number es first now;
   }
 
@@ -47,14 +47,14 @@ module _ {S : Type 0} (heard : S → Option Carried) where
   went_trans es first before mid now t u w same v = record {
     more = w.more ++ v.more;
     state_is = subst (λ (all : List SharedEvent). (shared_over own_id (opened first) all).state ≡ now) (append_assoc es w.more v.more) v.state_is;
-    stands = subst (λ (all : List SharedEvent). Stands heard all first now u) (append_assoc es w.more v.more) v.stands;
+    stands = subst (λ (all : List SharedEvent). TalkStands heard all first now u) (append_assoc es w.more v.more) v.stands;
     others = others_trans u.number es w.more v.more first before mid now
         (subst (λ (k : ℕ). OthersStand own_id k es w.more first before mid) (sym same) w.others) v.others;
   }
 
   -- where it stands on without a further event
   pub went_on : (es : List SharedEvent) (first before now : State) (t u : Talk S) → u.number ≡ t.number
-      → ((all : List SharedEvent) → Stands heard all first now t → Stands heard all first now u) → Went heard es first before now t
+      → ((all : List SharedEvent) → TalkStands heard all first now t → TalkStands heard all first now u) → Went heard es first before now t
       → Went heard es first before now u
   went_on es first before now t u same on w = record {
     more = w.more;
@@ -65,15 +65,15 @@ module _ {S : Type 0} (heard : S → Option Carried) where
 
   -- one did this, and then that
   pub went_then : (first before mid now : State) (a b c : Talk S)
-      → ((es : List SharedEvent) → Stands heard es first before a → Went heard es first before mid b) → c.number ≡ b.number
-      → ((es : List SharedEvent) → Stands heard es first mid b → Went heard es first mid now c) → (es : List SharedEvent) → Stands heard es first before a
+      → ((es : List SharedEvent) → TalkStands heard es first before a → Went heard es first before mid b) → c.number ≡ b.number
+      → ((es : List SharedEvent) → TalkStands heard es first mid b → Went heard es first mid now c) → (es : List SharedEvent) → TalkStands heard es first before a
       → Went heard es first before now c
   went_then first before mid now a b c f same h es s = let w = f es s in went_trans es first before mid now b c w same (h (es ++ w.more) w.stands)
 
   -- another conversation stands on
   pub stands_beside : (k : ℕ) (es more : List SharedEvent) (first before now : State) (t : Talk S) → (t.number ≡ k → ⊥)
       → OthersStand own_id k es more first before now
-      → Stands heard es first before t → Stands heard (es ++ more) first now t
+      → TalkStands heard es first before t → TalkStands heard (es ++ more) first now t
   stands_beside k es more first before now t apart others s = record {
     octets = s.octets;
     written = s.written;

@@ -8,11 +8,11 @@ use Rattle.ua_server.specs.Sharing.{SharedEvent}
 use Rattle.ua_server.specs.State.{State}
 use Rattle.ua_server.specs.declared.step.End.{End}
 use Rattle.ua_server.specs.declared.step.End.TheVariants as ending
-use Rattle.ua_concurrent.specs.Carried.{Carried, with_read, with_written}
-use Rattle.ua_concurrent.specs.Standing.{HasCome, Stands}
+use Rattle.ua_concurrent.specs.Carried.{Carried, with_read, with_more_written}
+use Rattle.ua_concurrent.specs.Standing.{HasCome, TalkStands}
 use Rattle.ua_concurrent.specs.Talk.{Talk, are_there, is_going, is_ready, ready_of}
-use Rattle.ua_concurrent.specs.Turning.{Answered, CameTo, Failed, Finished, Finishes, HadTurn, IsIdle, IsOver, Moves}
-use Rattle.ua_concurrent.specs.Turning.{Read, Reads, ReadsNothing, ReadsSome, Stepped, Stopped, Turned, Writes, Wrote}
+use Rattle.ua_concurrent.specs.Turning.{SteppedAndWrote, CameTo, Failed, Finished, FinishesTalk, HadTurn, IsTalkIdle, IsTalkOver, Moves}
+use Rattle.ua_concurrent.specs.Turning.{Read, ReadsSocket, ReadsNothing, ReadsSome, Stepped, Stopped, Turned, WritesSocket, WroteToSocket}
 use Rattle.ua_concurrent.specs.declared.outcome.Failure.{Failure}
 use Rattle.ua_concurrent.specs.declared.outcome.Failure.TheVariants as failure
 use Rattle.ua_concurrent.specs.declared.outcome.Phase.{Phase}
@@ -37,24 +37,24 @@ some_there (x ∷ xs) h = refl
 module _ {S : Type 0} (heard : S → Option Carried) where
   -- ---- it stands where it stood
 
-  pub stands_wrote : (es : List SharedEvent) (first now : State) (a b : Talk S) → Wrote heard a b → Stands heard es first now a → Stands heard es first now b
+  pub stands_wrote : (es : List SharedEvent) (first now : State) (a b : Talk S) → WroteToSocket heard a b → TalkStands heard es first now a → TalkStands heard es first now b
   stands_wrote es first now a b w s =
       let n = w.count in
       let sent : (s.written ++ take n a.waiting) ++ drop n a.waiting ≡ s.written ++ a.waiting =
       append_assoc s.written (take n a.waiting) (drop n a.waiting) ∙ ap (λ (x : List ℕ). s.written ++ x) (take-append-drop n a.waiting) in
-      subst (λ (t : Talk S). Stands heard es first now t) (sym w.is) (record {
+      subst (λ (t : Talk S). TalkStands heard es first now t) (sym w.is) (record {
         octets = s.octets;
         written = s.written ++ take n a.waiting;
         come = subst (λ (x : List ℕ). HasCome a.phase a.number a.connection s.octets es first now x) (sym sent) s.come;
-        carried = λ c e. let before = heard_before (with_written (take n a.waiting)) (heard a.socket) (heard b.socket) c w.heard_is e in
+        carried = λ c e. let before = heard_before (with_more_written (take n a.waiting)) (heard a.socket) (heard b.socket) c w.heard_is e in
             let was = s.carried before.0 before.1 in
             (ap (λ (x : Carried). x.read) before.2 ∙ was.0, ap (λ (x : Carried). x.written) before.2 ∙ ap (λ (x : List ℕ). x ++ take n a.waiting) was.1);
       })
 
-  pub stands_read : (es : List SharedEvent) (first now : State) (a b : Talk S) → a.unread ≡ [] → Read heard a b → Stands heard es first now a
-      → Stands heard es first now b
+  pub stands_read : (es : List SharedEvent) (first now : State) (a b : Talk S) → a.unread ≡ [] → Read heard a b → TalkStands heard es first now a
+      → TalkStands heard es first now b
   stands_read es first now a b none w s =
-      subst (λ (t : Talk S). Stands heard es first now t) (sym w.is) (record {
+      subst (λ (t : Talk S). TalkStands heard es first now t) (sym w.is) (record {
         octets = s.octets;
         written = s.written;
         come = s.come;
@@ -65,10 +65,10 @@ module _ {S : Type 0} (heard : S → Option Carried) where
             );
       })
 
-  pub stands_finished : (es : List SharedEvent) (first now : State) (a b : Talk S) → a.unread ≡ [] → Finished heard a b → Stands heard es first now a
-      → Stands heard es first now b
+  pub stands_finished : (es : List SharedEvent) (first now : State) (a b : Talk S) → a.unread ≡ [] → Finished heard a b → TalkStands heard es first now a
+      → TalkStands heard es first now b
   stands_finished es first now a b none w s =
-      subst (λ (t : Talk S). Stands heard es first now t) (sym w.is) (record {
+      subst (λ (t : Talk S). TalkStands heard es first now t) (sym w.is) (record {
         octets = s.octets;
         written = s.written;
         come = s.come;
@@ -79,34 +79,34 @@ module _ {S : Type 0} (heard : S → Option Carried) where
             );
       })
 
-  pub stands_stopped : (able : S → Bool) (es : List SharedEvent) (first now : State) (a b : Talk S) → Stopped heard able a b → Stands heard es first now a
-      → Stands heard es first now b
+  pub stands_stopped : (able : S → Bool) (es : List SharedEvent) (first now : State) (a b : Talk S) → Stopped heard able a b → TalkStands heard es first now a
+      → TalkStands heard es first now b
   stands_stopped able es first now a b w s =
-      subst (λ (t : Talk S). Stands heard es first now t) (sym w.is) (record {
+      subst (λ (t : Talk S). TalkStands heard es first now t) (sym w.is) (record {
         octets = s.octets;
         written = s.written;
         come = s.come;
         carried = λ c e. s.carried c (sym w.heard_is ∙ e);
       })
 
-  pub stands_failed : (failure : Failure) (es : List SharedEvent) (first now : State) (a b : Talk S) → Failed heard failure a b → Stands heard es first now a
-      → Stands heard es first now b
+  pub stands_failed : (failure : Failure) (es : List SharedEvent) (first now : State) (a b : Talk S) → Failed heard failure a b → TalkStands heard es first now a
+      → TalkStands heard es first now b
   stands_failed failure es first now a b w s =
-      subst (λ (t : Talk S). Stands heard es first now t) (sym w.is) (record {
+      subst (λ (t : Talk S). TalkStands heard es first now t) (sym w.is) (record {
         octets = s.octets;
         written = s.written;
         come = s.come;
         carried = λ c e. s.carried c (sym w.heard_is ∙ e);
       })
 
-  pub stands_writes : (writable : S → Bool) (es : List SharedEvent) (first now : State) (a b : Talk S) → Writes heard writable a b → Stands heard es first now a
-      → Stands heard es first now b
+  pub stands_writes : (writable : S → Bool) (es : List SharedEvent) (first now : State) (a b : Talk S) → WritesSocket heard writable a b → TalkStands heard es first now a
+      → TalkStands heard es first now b
   stands_writes writable es first now a b (inl w) s = stands_wrote es first now a b w s
   stands_writes writable es first now a b (inr (inl w)) s = stands_stopped writable es first now a b w s
   stands_writes writable es first now a b (inr (inr w)) s = stands_failed failure.Write es first now a b w s
 
-  pub stands_reads : (readable : S → Bool) (es : List SharedEvent) (first now : State) (a b : Talk S) → a.unread ≡ [] → Reads heard readable a b
-      → Stands heard es first now a → Stands heard es first now b
+  pub stands_reads : (readable : S → Bool) (es : List SharedEvent) (first now : State) (a b : Talk S) → a.unread ≡ [] → ReadsSocket heard readable a b
+      → TalkStands heard es first now a → TalkStands heard es first now b
   stands_reads readable es first now a b none (inl w) s = stands_read es first now a b none w s
   stands_reads readable es first now a b none (inr (inl w)) s = stands_finished es first now a b none w s
   stands_reads readable es first now a b none (inr (inr (inl w))) s = stands_stopped readable es first now a b w s
@@ -114,12 +114,12 @@ module _ {S : Type 0} (heard : S → Option Carried) where
 
   -- ---- the number stays
 
-  pub number_writes : (writable : S → Bool) (a b : Talk S) → Writes heard writable a b → b.number ≡ a.number
+  pub number_writes : (writable : S → Bool) (a b : Talk S) → WritesSocket heard writable a b → b.number ≡ a.number
   number_writes writable a b (inl w) = ap (λ (t : Talk S). t.number) w.is
   number_writes writable a b (inr (inl w)) = ap (λ (t : Talk S). t.number) w.is
   number_writes writable a b (inr (inr w)) = ap (λ (t : Talk S). t.number) w.is
 
-  pub number_reads : (readable : S → Bool) (a b : Talk S) → Reads heard readable a b → b.number ≡ a.number
+  pub number_reads : (readable : S → Bool) (a b : Talk S) → ReadsSocket heard readable a b → b.number ≡ a.number
   number_reads readable a b (inl w) = ap (λ (t : Talk S). t.number) w.is
   number_reads readable a b (inr (inl w)) = ap (λ (t : Talk S). t.number) w.is
   number_reads readable a b (inr (inr (inl w))) = ap (λ (t : Talk S). t.number) w.is
@@ -130,19 +130,19 @@ module _ {S : Type 0} (heard : S → Option Carried) where
   told_on : (f : Carried → Carried) (x y : Option Carried) (c : Carried) → y ≡ option_map f x → x ≡ Some c → y ≡ Some (f c)
   told_on f x y c e s = e ∙ ap (option_map f) s
 
-  pub nothing_writes : (writable : S → Bool) (a b : Talk S) → Writes heard writable a b → ReadsNothing heard a b
+  pub nothing_writes : (writable : S → Bool) (a b : Talk S) → WritesSocket heard writable a b → ReadsNothing heard a b
   nothing_writes writable a b (inl w) = λ c e.
-      (with_written (take w.count a.waiting) c, told_on (with_written (take w.count a.waiting)) (heard a.socket) (heard b.socket) c w.heard_is e, refl)
+      (with_more_written (take w.count a.waiting) c, told_on (with_more_written (take w.count a.waiting)) (heard a.socket) (heard b.socket) c w.heard_is e, refl)
   nothing_writes writable a b (inr (inl w)) = λ c e. (c, w.heard_is ∙ e, refl)
   nothing_writes writable a b (inr (inr w)) = λ c e. (c, w.heard_is ∙ e, refl)
 
-  over_none : (x : Option (Result End Failure)) (t : Talk S) → x ≡ None → IsOver x t
-  over_none x t e = subst (λ (o : Option (Result End Failure)). IsOver o t) (sym e) tt
+  over_none : (x : Option (Result End Failure)) (t : Talk S) → x ≡ None → IsTalkOver x t
+  over_none x t e = subst (λ (o : Option (Result End Failure)). IsTalkOver o t) (sym e) tt
 
-  over_as : (x y : Option (Result End Failure)) (t : Talk S) → x ≡ y → IsOver y t → IsOver x t
-  over_as x y t e o = subst (λ (o : Option (Result End Failure)). IsOver o t) (sym e) o
+  over_as : (x y : Option (Result End Failure)) (t : Talk S) → x ≡ y → IsTalkOver y t → IsTalkOver x t
+  over_as x y t e o = subst (λ (o : Option (Result End Failure)). IsTalkOver o t) (sym e) o
 
-  pub over_writes : (writable : S → Bool) (a b : Talk S) → a.outcome ≡ None → 0 < length a.waiting → Writes heard writable a b → IsOver b.outcome b
+  pub over_writes : (writable : S → Bool) (a b : Talk S) → a.outcome ≡ None → 0 < length a.waiting → WritesSocket heard writable a b → IsTalkOver b.outcome b
   over_writes writable a b still some (inl w) = over_none b.outcome b (ap (λ (t : Talk S). t.outcome) w.is ∙ still)
   over_writes writable a b still some (inr (inl w)) = over_none b.outcome b (ap (λ (t : Talk S). t.outcome) w.is ∙ still)
   over_writes writable a b still some (inr (inr w)) = over_as b.outcome (Some (Err failure.Write)) b (ap (λ (t : Talk S). t.outcome) w.is)
@@ -170,7 +170,7 @@ module _ {S : Type 0} (heard : S → Option Carried) where
   nothing_trans : (a b c : Talk S) → ReadsNothing heard a b → ReadsNothing heard b c → ReadsNothing heard a c
   nothing_trans a b c f g = λ x e. let d = f x e in let z = g d.0 d.1 in (z.0, z.1, z.2 ∙ d.2)
 
-  pub answered_stepped : (a b : Talk S) → a.outcome ≡ None → Stepped a b → Answered heard a b
+  pub answered_stepped : (a b : Talk S) → a.outcome ≡ None → Stepped a b → SteppedAndWrote heard a b
   answered_stepped a b still s = record {
     number_is = s.number_is;
     fewer = s.fewer;
@@ -178,8 +178,8 @@ module _ {S : Type 0} (heard : S → Option Carried) where
     over = over_none b.outcome b (s.outcome_is ∙ still);
   }
 
-  pub answered_writes : (writable : S → Bool) (a b d : Talk S) → a.outcome ≡ None → Stepped a b → 0 < length b.waiting → Writes heard writable b d
-      → Answered heard a d
+  pub answered_writes : (writable : S → Bool) (a b d : Talk S) → a.outcome ≡ None → Stepped a b → 0 < length b.waiting → WritesSocket heard writable b d
+      → SteppedAndWrote heard a d
   answered_writes writable a b d still s some w = record {
     number_is = number_writes writable b d w ∙ s.number_is;
     fewer = subst (λ (p : Phase). (is_going p ≡ false) ⊎ (length d.unread < length a.unread)) (sym (phase_writes w))
@@ -188,12 +188,12 @@ module _ {S : Type 0} (heard : S → Option Carried) where
     over = over_writes writable b d (s.outcome_is ∙ still) some w;
   }
     where
-      phase_writes : Writes heard writable b d → d.phase ≡ b.phase
+      phase_writes : WritesSocket heard writable b d → d.phase ≡ b.phase
       phase_writes (inl w) = ap (λ (t : Talk S). t.phase) w.is
       phase_writes (inr (inl w)) = ap (λ (t : Talk S). t.phase) w.is
       phase_writes (inr (inr w)) = ap (λ (t : Talk S). t.phase) w.is
 
-      unread_writes : Writes heard writable b d → d.unread ≡ b.unread
+      unread_writes : WritesSocket heard writable b d → d.unread ≡ b.unread
       unread_writes (inl w) = ap (λ (t : Talk S). t.unread) w.is
       unread_writes (inr (inl w)) = ap (λ (t : Talk S). t.unread) w.is
       unread_writes (inr (inr w)) = ap (λ (t : Talk S). t.unread) w.is
@@ -201,20 +201,20 @@ module _ {S : Type 0} (heard : S → Option Carried) where
   -- ---- turns
 
   module _ (readable writable : S → Bool) where
-    pub turned_answered : (a b : Talk S) → Answered heard a b → Turned heard readable writable a b
+    pub turned_answered : (a b : Talk S) → SteppedAndWrote heard a b → Turned heard readable writable a b
     turned_answered a b s = record { number_is = s.number_is; moves = by s.fewer; over = s.over }
       where
         by : (is_going b.phase ≡ false) ⊎ (length b.unread < length a.unread) → Moves heard readable writable a b
         by (inl e) = inr (inr (inr (inl e)))
         by (inr e) = inr (inr (inl e))
 
-    came_finished : (end : End) (t : Talk S) → IsIdle t → Finishes end t → IsOver (Some (Ok end)) t
+    came_finished : (end : End) (t : Talk S) → IsTalkIdle t → FinishesTalk end t → IsTalkOver (Some (Ok end)) t
     came_finished ending.NoClose t i f = (i, f)
     came_finished ending.Cut t i f = (i, f)
     came_finished ending.Closed t i f = absurd f
     came_finished (ending.Refused code) t i f = absurd f
 
-    ready_idle : (t : Talk S) → t.outcome ≡ None → IsIdle t → is_ready readable writable t ≡ readable t.socket
+    ready_idle : (t : Talk S) → t.outcome ≡ None → IsTalkIdle t → is_ready readable writable t ≡ readable t.socket
     ready_idle t still i =
         let r = readable t.socket in
         let w = writable t.socket in
@@ -223,27 +223,27 @@ module _ {S : Type 0} (heard : S → Option Carried) where
         ∙ ap (λ (p : Phase). ready_of None [] p t.unread r w) i.0
         ∙ ap (λ (x : List ℕ). ready_of None [] phase.Going x r w) i.1
 
-    pub turned_reads : (a b : Talk S) → IsIdle a → a.outcome ≡ None → length b.unread ≡ 0 → Reads heard readable a b → Turned heard readable writable a b
+    pub turned_reads : (a b : Talk S) → IsTalkIdle a → a.outcome ≡ None → length b.unread ≡ 0 → ReadsSocket heard readable a b → Turned heard readable writable a b
     turned_reads a b i still none r = record { number_is = number_reads readable a b r; moves = moves r; over = over r }
       where
-        idle_b : (t : Talk S) → b ≡ t → IsIdle t → IsIdle b
-        idle_b t e j = subst (λ (x : Talk S). IsIdle x) (sym e) j
+        idle_b : (t : Talk S) → b ≡ t → IsTalkIdle t → IsTalkIdle b
+        idle_b t e j = subst (λ (x : Talk S). IsTalkIdle x) (sym e) j
 
-        moves : Reads heard readable a b → Moves heard readable writable a b
+        moves : ReadsSocket heard readable a b → Moves heard readable writable a b
         moves (inl w) = let more : 0 < length b.unread = subst (λ (x : List ℕ). 0 < length x) (sym (ap (λ (t : Talk S). t.unread) w.is)) w.some in absurd
             (omega (arith, none, more))
         moves (inr (inl w)) = inl (ap (λ (t : Talk S). is_some t.outcome) w.is)
         moves (inr (inr (inl w))) = inr (inr (inr (inr (inr (ready_idle b (ap (λ (t : Talk S). t.outcome) w.is ∙ still) (idle_b _ w.is i) ∙ w.unable)))))
         moves (inr (inr (inr w))) = inl (ap (λ (t : Talk S). is_some t.outcome) w.is)
 
-        over : Reads heard readable a b → IsOver b.outcome b
+        over : ReadsSocket heard readable a b → IsTalkOver b.outcome b
         over (inl w) = over_none b.outcome b (ap (λ (t : Talk S). t.outcome) w.is ∙ still)
         over (inr (inl w)) = over_as b.outcome (Some (Ok w.end)) b (ap (λ (t : Talk S). t.outcome) w.is)
             (came_finished w.end b (idle_b _ w.is (i.0, refl, i.2)) w.fits)
         over (inr (inr (inl w))) = over_none b.outcome b (ap (λ (t : Talk S). t.outcome) w.is ∙ still)
         over (inr (inr (inr w))) = over_as b.outcome (Some (Err failure.Read)) b (ap (λ (t : Talk S). t.outcome) w.is) (idle_b _ w.is i)
 
-    pub turned_read_answered : (a b d : Talk S) → a.unread ≡ [] → Reads heard readable a b → 0 < length b.unread → Answered heard b d
+    pub turned_read_answered : (a b d : Talk S) → a.unread ≡ [] → ReadsSocket heard readable a b → 0 < length b.unread → SteppedAndWrote heard b d
         → Turned heard readable writable a d
     turned_read_answered a b d none r some s = record {
       number_is = s.number_is ∙ number_reads readable a b r;
@@ -254,7 +254,7 @@ module _ {S : Type 0} (heard : S → Option Carried) where
         no : (xs : List ℕ) → b.unread ≡ xs → xs ≡ [] → ReadsSome heard a d
         no xs e f = let z : 0 < length {A = ℕ} [] = subst (λ (x : List ℕ). 0 < length x) (e ∙ f) some in absurd (omega (arith, z))
 
-        grew : Reads heard readable a b → ReadsSome heard a d
+        grew : ReadsSocket heard readable a b → ReadsSome heard a d
         grew (inl w) = λ c e. let z = s.reads (with_read w.piece c) (told_on (with_read w.piece) (heard a.socket) (heard b.socket) c w.heard_is e) in
             (z.0, w.piece, z.1, z.2, w.some, w.within)
         grew (inr (inl w)) = no [] (ap (λ (t : Talk S). t.unread) w.is) refl
@@ -285,7 +285,7 @@ module _ {S : Type 0} (heard : S → Option Carried) where
         ap (λ (o : Option (Result End Failure)). ready_of o t.waiting t.phase t.unread r w) still
         ∙ ap (λ (b : Bool). cond b w (cond (is_going t.phase) (cond (are_there t.unread) true r) true)) (some_there t.waiting some)
 
-    pub had_writes : (a b : Talk S) → is_ready readable writable a ≡ true → 0 < length a.waiting → Writes heard writable a b
+    pub had_writes : (a b : Talk S) → is_ready readable writable a ≡ true → 0 < length a.waiting → WritesSocket heard writable a b
         → HadTurn heard readable writable a b
     had_writes a b ready some w = record {
       number_is = number_writes writable a b w;
@@ -295,7 +295,7 @@ module _ {S : Type 0} (heard : S → Option Carried) where
       over = λ f. over_writes writable a b f some w;
     }
       where
-        moves : Writes heard writable a b → Moves heard readable writable a b
+        moves : WritesSocket heard writable a b → Moves heard readable writable a b
         moves (inl w) =
             let is : b.waiting ≡ drop w.count a.waiting = ap (λ (t : Talk S). t.waiting) w.is in
             inr (inl (subst (λ (x : List ℕ). length x < length a.waiting) (sym is) (drop_fewer a.waiting w.count w.some w.within)))

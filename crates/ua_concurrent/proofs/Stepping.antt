@@ -19,9 +19,9 @@ use Rattle.ua_server.specs.declared.step.End.TheVariants as ending
 use Rattle.ua_server.specs.declared.step.Step.{Step}
 use Rattle.ua_server.specs.declared.step.StepFault.{StepFault}
 use Rattle.ua_concurrent.specs.Carried.{Carried}
-use Rattle.ua_concurrent.specs.Standing.{HasCome, Stands, Went, own_id}
+use Rattle.ua_concurrent.specs.Standing.{HasCome, TalkStands, Went, own_id}
 use Rattle.ua_concurrent.specs.Talk.{Talk}
-use Rattle.ua_concurrent.specs.Turning.{Keeps, phase_of}
+use Rattle.ua_concurrent.specs.Turning.{KeepsStep, phase_after_step}
 use Rattle.ua_concurrent.specs.declared.outcome.Phase.{Phase}
 use Rattle.ua_concurrent.specs.declared.outcome.Phase.TheVariants as phase
 use Rattle.ua_concurrent.proofs.Behind.{went_trans}
@@ -70,7 +70,7 @@ module _ (laws : Laws) where
       (told_changed j es first nodes, sent_changed j es first nodes, λ x session octets s. laws.changed own_id j x session octets es first now nodes s)
 
 module _ {S : Type 0} (heard : S → Option Carried) (laws : Laws) (es : List SharedEvent) (first before : State) (nodes : Nodes) (t : Talk S)
-    (going : t.phase ≡ phase.Going) (s : Stands heard es first before t)
+    (going : t.phase ≡ phase.Going) (s : TalkStands heard es first before t)
     (changed_state : State) (changed_is : changed_state ≡ with_nodes before nodes) where
   abbrev mid : List SharedEvent
   mid = es ++ Changed nodes ∷ []
@@ -122,7 +122,7 @@ module _ {S : Type 0} (heard : S → Option Carried) (laws : Laws) (es : List Sh
 
     pub went_stepped : (step : Step) (b : Talk S) → StepAmong limits own_id t.number moment piece (Ok step) (channel_at c) (session_at c) s.octets mid first
         changed_state now
-        → Keeps step (record t { connection = c }) b → Went heard es first before now b
+        → KeepsStep step (record t { connection = c }) b → Went heard es first before now b
     unfolding went_changed
     went_stepped step b a keeps = went_trans heard es first before changed_state now t b went_changed (number keeps) (record {
       more = more;
@@ -134,7 +134,7 @@ module _ {S : Type 0} (heard : S → Option Carried) (laws : Laws) (es : List Sh
         more : List SharedEvent
         more = at_moment t.number moment a.told
 
-        number : Keeps step (record t { connection = c }) b → b.number ≡ t.number
+        number : KeepsStep step (record t { connection = c }) b → b.number ≡ t.number
         number (inl is) = ap (λ (x : Talk S). x.number) is
         number (inr is) = ap (λ (x : Talk S). x.number) is
 
@@ -153,15 +153,15 @@ module _ {S : Type 0} (heard : S → Option Carried) (laws : Laws) (es : List Sh
         sent all e = e ∙ ap (λ (x : List ℕ). x ++ step.out.items) behind_change.1 ∙ append_assoc s.written t.waiting step.out.items
 
         come : (end : Option End) → AmongBy end own_id t.number (channel_at c) (session_at c) octets step.out.items mid more first changed_state now
-            → HasCome (phase_of end) t.number c octets (mid ++ more) first now (s.written ++ (t.waiting ++ step.out.items))
+            → HasCome (phase_after_step end) t.number c octets (mid ++ more) first now (s.written ++ (t.waiting ++ step.out.items))
         come None x = (x.0, sent _ x.1)
         come (Some ending.Closed) x = (x.0, sent _ x.2)
         come (Some (ending.Refused code)) x = (x.0, sent _ x.2)
         come (Some ending.NoClose) x = absurd x
         come (Some ending.Cut) x = absurd x
 
-        stands : Keeps step (record t { connection = c }) b → Stands heard (mid ++ more) first now b
-        stands (inl is) = subst (λ (x : Talk S). Stands heard (mid ++ more) first now x) (sym is)
+        stands : KeepsStep step (record t { connection = c }) b → TalkStands heard (mid ++ more) first now b
+        stands (inl is) = subst (λ (x : Talk S). TalkStands heard (mid ++ more) first now x) (sym is)
             (record {
               octets = octets;
               written = s.written;
@@ -171,5 +171,5 @@ module _ {S : Type 0} (heard : S → Option Carried) (laws : Laws) (es : List Sh
                   changed_state now) piece_is a.comes_to);
               carried = carried;
             })
-        stands (inr is) = subst (λ (x : Talk S). Stands heard (mid ++ more) first now x) (sym is)
+        stands (inr is) = subst (λ (x : Talk S). TalkStands heard (mid ++ more) first now x) (sym is)
             (record { octets = octets; written = s.written; come = lost more; carried = carried })

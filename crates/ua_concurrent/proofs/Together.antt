@@ -6,7 +6,7 @@ use Rattle.ua_server.specs.Sharing.{SharedEvent, opened, shared_over}
 use Rattle.ua_server.specs.State.{State}
 use Rattle.ua_concurrent.specs.All.{HadRound, IsFree, TurnsAt}
 use Rattle.ua_concurrent.specs.Carried.{Carried}
-use Rattle.ua_concurrent.specs.Standing.{AreNumbered, GoOn, IsAt, Stands, StandTogether, Went, own_id}
+use Rattle.ua_concurrent.specs.Standing.{AreNumbered, GoOn, IsAt, TalkStands, StandTogether, Went, own_id}
 use Rattle.ua_concurrent.specs.Talk.{Talk, released_at, released_by}
 use Rattle.ua_concurrent.specs.Turning.{HadTurn}
 use Rattle.std.specs.Option.{option_map}
@@ -93,7 +93,7 @@ module _ {S : Type 0} (heard : S → Option Carried) where
   -- all stand on where each that is there was there, and stands on
   pub together_kept : (es : List SharedEvent) (first now : State) (last : ℕ) (before after : List (Option (Talk S)))
       → ((q : ℕ) (t : Talk S) → IsAt after q t → (u : Talk S) × IsAt before q u × (t.number ≡ u.number)
-      × (Stands heard es first now u → Stands heard es first now t))
+      × (TalkStands heard es first now u → TalkStands heard es first now t))
       → StandTogether heard es first now last before → StandTogether heard es first now last after
   together_kept es first now last before after back s = record {
     state_is = s.state_is;
@@ -114,7 +114,7 @@ module _ {S : Type 0} (heard : S → Option Carried) where
   -- one more is opened, under the next number
   pub together_opened : (es : List SharedEvent) (first now : State) (last p : ℕ) (t : Talk S) (before : List (Option (Talk S))) → p < length before
       → t.number ≡ last + 1
-      → Stands heard es first now t → StandTogether heard es first now last before → StandTogether heard es first now (last + 1) (slice_set before p (Some t))
+      → TalkStands heard es first now t → StandTogether heard es first now last before → StandTogether heard es first now (last + 1) (slice_set before p (Some t))
   together_opened es first now last p t before within number stands s = record {
     state_is = s.state_is;
     numbered =
@@ -145,8 +145,8 @@ module _ {S : Type 0} (heard : S → Option Carried) where
           let is = ap (λ (x : Talk S). x.number) (here r v y f) ∙ number in let h = s.numbered.within q u (there q u x e) in absurd (omega (arith, is, h, same))
       places q r u v e f same (inr x) (inr y) = s.numbered.apart q r u v (there q u x e) (there r v y f) same
 
-      each : (q : ℕ) (u : Talk S) → IsAt after q u → (q ≡ p) ⊎ (q ≢ p) → Stands heard es first now u
-      each q u e (inl same) = subst (λ (x : Talk S). Stands heard es first now x) (sym (here q u same e)) stands
+      each : (q : ℕ) (u : Talk S) → IsAt after q u → (q ≡ p) ⊎ (q ≢ p) → TalkStands heard es first now u
+      each q u e (inl same) = subst (λ (x : Talk S). TalkStands heard es first now x) (sym (here q u same e)) stands
       each q u e (inr other) = s.each q u (there q u other e)
 
   -- one is taken out
@@ -163,12 +163,12 @@ module _ {S : Type 0} (heard : S → Option Carried) where
   together_woken es first now last p a b places within at same told s =
       together_kept es first now last places (slice_set places p (Some b)) (λ q t e. back q t e (same_or_not q p)) s
     where
-      stands : Stands heard es first now a → Stands heard es first now b
-      stands h = subst (λ (t : Talk S). Stands heard es first now t) (sym same)
+      stands : TalkStands heard es first now a → TalkStands heard es first now b
+      stands h = subst (λ (t : Talk S). TalkStands heard es first now t) (sym same)
           (record { octets = h.octets; written = h.written; come = h.come; carried = λ c e. h.carried c (sym told ∙ e) })
 
       back : (q : ℕ) (t : Talk S) → IsAt (slice_set places p (Some b)) q t → (q ≡ p) ⊎ (q ≢ p)
-          → (u : Talk S) × IsAt places q u × (t.number ≡ u.number) × (Stands heard es first now u → Stands heard es first now t)
+          → (u : Talk S) × IsAt places q u × (t.number ≡ u.number) × (TalkStands heard es first now u → TalkStands heard es first now t)
       back q t e (inl is) =
           let here : slice_get (slice_set places p (Some b)) p ≡ Some (Some t) = subst (λ (x : ℕ). slice_get (slice_set places p (Some b)) x ≡ Some (Some t)) is
           e in
@@ -177,7 +177,7 @@ module _ {S : Type 0} (heard : S → Option Carried) where
             a,
             subst (λ (x : ℕ). slice_get places x ≡ Some (Some a)) (sym is) at,
             ap (λ (x : Talk S). x.number) (t_is ∙ same),
-            λ h. subst (λ (x : Talk S). Stands heard es first now x) (sym t_is) (stands h),
+            λ h. subst (λ (x : Talk S). TalkStands heard es first now x) (sym t_is) (stands h),
           )
       back q t e (inr other) = (t, sym (get_other places p q (Some b) other) ∙ e, refl, λ h. h)
 
@@ -202,8 +202,8 @@ module _ {S : Type 0} (heard : S → Option Carried) where
       back q t f (inl e) = (a, subst (λ (x : ℕ). slice_get places x ≡ Some (Some a)) (sym e) at, ap (λ (x : Talk S). x.number) (here q t e f) ∙ same)
       back q t f (inr n) = (t, sym (others q n) ∙ f, refl)
 
-      each : (q : ℕ) (t : Talk S) → IsAt after q t → (q ≡ p) ⊎ (q ≢ p) → Stands heard (es ++ w.more) first now t
-      each q t f (inl e) = subst (λ (x : Talk S). Stands heard (es ++ w.more) first now x) (sym (here q t e f)) w.stands
+      each : (q : ℕ) (t : Talk S) → IsAt after q t → (q ≡ p) ⊎ (q ≢ p) → TalkStands heard (es ++ w.more) first now t
+      each q t f (inl e) = subst (λ (x : Talk S). TalkStands heard (es ++ w.more) first now x) (sym (here q t e f)) w.stands
       each q t f (inr n) =
           let was : IsAt places q t = sym (others q n) ∙ f in
           stands_beside heard b.number es w.more first before now t (λ e. n (s.numbered.apart q p t a was at (e ∙ same))) w.others (s.each q t was)
@@ -285,7 +285,7 @@ module _ {S : Type 0} (heard : S → Option Carried) where
 
     pub put_stand : (places : List (Option (Talk S))) (p : ℕ) (a b : Talk S) (first before now : State) (last : ℕ) → p < length places → IsAt places p a
         → b.number ≡ a.number
-        → ((es : List SharedEvent) → (shared_over own_id (opened first) es).state ≡ before → Stands heard es first before a → Went heard es first before now b)
+        → ((es : List SharedEvent) → (shared_over own_id (opened first) es).state ≡ before → TalkStands heard es first before a → Went heard es first before now b)
         → (es : List SharedEvent) → StandTogether heard es first before last places → GoOn heard es first now last (slice_set places p (Some b))
     put_stand places p a b first before now last within here same went es s =
         together_turn es first before now last p a b places (slice_set places p (Some b)) here

@@ -3,7 +3,7 @@ use Rattle.std.specs.Prelude.{◌≡◌, ◌≢◌, ℕ, List, length, Option, N
 use Rattle.ua_concurrent.specs.Carried.{Carried}
 use Rattle.ua_concurrent.specs.Standing.{IsAt}
 use Rattle.ua_concurrent.specs.Talk.{Talk}
-use Rattle.ua_concurrent.specs.Turning.{HadTurn, IsIdle}
+use Rattle.ua_concurrent.specs.Turning.{HadTurn, IsTalkIdle}
 use Rattle.ua_concurrent.specs.declared.connections.Connections.{Connections}
 
 -- the conversations, each at its place
@@ -32,9 +32,9 @@ pub record TurnsAt {S : Type 0} (heard : S → Option Carried) (readable writabl
   pub turn : (a : Talk S) → IsAt before place a → (b : Talk S) × IsAt after place b × HadTurn heard readable writable a b
 
 -- A connection of this number was opened to the peer of a socket at a place.
-pub record Opens {S : Type 0} (number : ℕ) (socket : S) (place : ℕ) (before after : List (Option (Talk S))) : Type 0 where
+pub record OpensTalk {S : Type 0} (number : ℕ) (socket : S) (place : ℕ) (before after : List (Option (Talk S))) : Type 0 where
   pub talk : Talk S
   pub number_is : talk.number ≡ number
   pub socket_is : talk.socket ≡ socket
-  pub idle : (talk.outcome ≡ None) × IsIdle talk
+  pub idle : (talk.outcome ≡ None) × IsTalkIdle talk
   pub is : after ≡ slice_set before place (Some talk)

@@ -11,5 +11,5 @@ abbrev pub with_read : List ℕ → Carried → Carried
 with_read more c = record { read = c.read ++ more; written = c.written }
 
 -- the same with this written in addition
-abbrev pub with_written : List ℕ → Carried → Carried
-with_written more c = record { read = c.read; written = c.written ++ more }
+abbrev pub with_more_written : List ℕ → Carried → Carried
+with_more_written more c = record { read = c.read; written = c.written ++ more }

@@ -34,7 +34,7 @@ HasCome phase.Starved k c octets es first now sent = (lost : List ℕ) × (sent_
 -- One conversation: what was read of its socket is what its connection stepped, each byte once and
 -- in order, and then the unread; what its connection was sent is what was written, and then what
 -- waits.
-pub record Stands {S : Type 0} (heard : S → Option Carried) (es : List SharedEvent) (first now : State) (t : Talk S) : Type 0 where
+pub record TalkStands {S : Type 0} (heard : S → Option Carried) (es : List SharedEvent) (first now : State) (t : Talk S) : Type 0 where
   pub octets : List ℕ
   pub written : List ℕ
   pub come : HasCome t.phase t.number t.connection octets es first now (written ++ t.waiting)
@@ -45,7 +45,7 @@ pub record Stands {S : Type 0} (heard : S → Option Carried) (es : List SharedE
 pub record Went {S : Type 0} (heard : S → Option Carried) (es : List SharedEvent) (first before now : State) (t : Talk S) : Type 0 where
   pub more : List SharedEvent
   pub state_is : (shared_over own_id (opened first) (es ++ more)).state ≡ now
-  pub stands : Stands heard (es ++ more) first now t
+  pub stands : TalkStands heard (es ++ more) first now t
   pub others : OthersStand own_id t.number es more first before now
 
 -- the conversation at a place
@@ -64,7 +64,7 @@ pub record StandTogether {S : Type 0} (heard : S → Option Carried) (es : List 
     (places : List (Option (Talk S))) : Type 0 where
   pub state_is : (shared_over own_id (opened first) es).state ≡ now
   pub numbered : AreNumbered last places
-  pub each : (p : ℕ) (t : Talk S) → IsAt places p t → Stands heard es first now t
+  pub each : (p : ℕ) (t : Talk S) → IsAt places p t → TalkStands heard es first now t
   pub unheard : (k : ℕ) → last < k → told_by k es ≡ []
 
 -- They go on: more was handled, and the state of all is that after it.
@@ -74,5 +74,5 @@ pub record GoOn {S : Type 0} (heard : S → Option Carried) (es : List SharedEve
   pub stand : StandTogether heard (es ++ more) first now last places
 
 -- nothing was read or written yet of a socket that tells its bytes
-abbrev pub IsFresh : Option Carried → Type 0
-IsFresh heard = (c : Carried) → heard ≡ Some c → (c.read ≡ []) × (c.written ≡ [])
+abbrev pub IsFreshSocket : Option Carried → Type 0
+IsFreshSocket heard = (c : Carried) → heard ≡ Some c → (c.read ≡ []) × (c.written ≡ [])

@@ -8,7 +8,7 @@ use Rattle.ua_server.specs.Serving.{IsClean}
 use Rattle.ua_server.specs.declared.step.End.{End}
 use Rattle.ua_server.specs.declared.step.End.TheVariants.{Closed, NoClose, Cut, Refused}
 use Rattle.ua_server.specs.declared.step.Step.{Step}
-use Rattle.ua_concurrent.specs.Carried.{Carried, with_read, with_written}
+use Rattle.ua_concurrent.specs.Carried.{Carried, with_read, with_more_written}
 use Rattle.ua_concurrent.specs.Talk.{Talk, is_going, is_ready}
 use Rattle.ua_concurrent.specs.declared.outcome.Failure.{Failure}
 use Rattle.ua_concurrent.specs.declared.outcome.Failure.TheVariants as failure
@@ -16,41 +16,41 @@ use Rattle.ua_concurrent.specs.declared.outcome.Phase.{Phase}
 use Rattle.ua_concurrent.specs.declared.outcome.Phase.TheVariants as phase
 
 -- all that was read is stepped, all that was answered is written, and the bytes go on
-abbrev pub IsIdle : {S : Type 0} → Talk S → Type 0
-IsIdle t = (t.phase ≡ phase.Going) × (t.unread ≡ []) × (t.waiting ≡ [])
+abbrev pub IsTalkIdle : {S : Type 0} → Talk S → Type 0
+IsTalkIdle t = (t.phase ≡ phase.Going) × (t.unread ≡ []) × (t.waiting ≡ [])
 
 -- no frame and no message of it is unfinished
-abbrev pub IsWhole : {S : Type 0} → Talk S → Type 0
-IsWhole t = (octets : List ℕ) (frames : List Frame) (rest : List ℕ) → Holds (channel_at t.connection) octets frames rest → IsClean frames rest
+abbrev pub HasNoneUnfinished : {S : Type 0} → Talk S → Type 0
+HasNoneUnfinished t = (octets : List ℕ) (frames : List Frame) (rest : List ℕ) → Holds (channel_at t.connection) octets frames rest → IsClean frames rest
 
 -- a frame or a message is unfinished
-abbrev pub IsWithin : {S : Type 0} → Talk S → Type 0
-IsWithin t = (octets : List ℕ) (frames : List Frame) (rest : List ℕ) → Holds (channel_at t.connection) octets frames rest → IsClean frames rest → ⊥
+abbrev pub HasUnfinished : {S : Type 0} → Talk S → Type 0
+HasUnfinished t = (octets : List ℕ) (frames : List Frame) (rest : List ℕ) → Holds (channel_at t.connection) octets frames rest → IsClean frames rest → ⊥
 
 -- how a connection ends whose input ends
-abbrev pub Finishes : {S : Type 0} → End → Talk S → Type 0
-Finishes NoClose t = IsWhole t
-Finishes Cut t = IsWithin t
-Finishes Closed t = ⊥
-Finishes (Refused code) t = ⊥
+abbrev pub FinishesTalk : {S : Type 0} → End → Talk S → Type 0
+FinishesTalk NoClose t = HasNoneUnfinished t
+FinishesTalk Cut t = HasUnfinished t
+FinishesTalk Closed t = ⊥
+FinishesTalk (Refused code) t = ⊥
 
 -- The outcome of a connection: it closed or was rejected, and all is written; its input ended when
 -- all was stepped and written, and no frame and no message was unfinished, or one was; it could not
 -- be read, when all was stepped and written; it could not be written, and something waits; or an
 -- allocation failed.
 abbrev pub CameTo : {S : Type 0} → Result End Failure → Talk S → Type 0
-CameTo (Ok NoClose) t = IsIdle t × IsWhole t
-CameTo (Ok Cut) t = IsIdle t × IsWithin t
+CameTo (Ok NoClose) t = IsTalkIdle t × HasNoneUnfinished t
+CameTo (Ok Cut) t = IsTalkIdle t × HasUnfinished t
 CameTo (Ok Closed) t = (t.phase ≡ phase.Closed) × (t.waiting ≡ [])
 CameTo (Ok (Refused code)) t = (t.phase ≡ phase.Refused code) × (t.waiting ≡ [])
-CameTo (Err failure.Read) t = IsIdle t
+CameTo (Err failure.Read) t = IsTalkIdle t
 CameTo (Err failure.Write) t = 0 < length t.waiting
 CameTo (Err failure.OutOfMemory) t = (t.phase ≡ phase.Starved) × (t.waiting ≡ [])
 
 -- it is over with this outcome, if it is over
-abbrev pub IsOver : {S : Type 0} → Option (Result End Failure) → Talk S → Type 0
-IsOver None t = Unit {0}
-IsOver (Some outcome) t = CameTo outcome t
+abbrev pub IsTalkOver : {S : Type 0} → Option (Result End Failure) → Talk S → Type 0
+IsTalkOver None t = Unit {0}
+IsTalkOver (Some outcome) t = CameTo outcome t
 
 -- nothing was read of a socket that tells its bytes
 abbrev pub ReadsNothing : {S : Type 0} → (S → Option Carried) → Talk S → Talk S → Type 0
@@ -68,12 +68,12 @@ abbrev pub most_read : ℕ
 most_read = 4096
 
 -- what waits is written as far as the socket takes it
-pub record Wrote {S : Type 0} (heard : S → Option Carried) (a b : Talk S) : Type 0 where
+pub record WroteToSocket {S : Type 0} (heard : S → Option Carried) (a b : Talk S) : Type 0 where
   pub count : ℕ
   pub some : 0 < count
   pub within : count ≤ length a.waiting
   pub is : b ≡ record a { socket = b.socket; waiting = drop count a.waiting }
-  pub heard_is : heard b.socket ≡ option_map (with_written (take count a.waiting)) (heard a.socket)
+  pub heard_is : heard b.socket ≡ option_map (with_more_written (take count a.waiting)) (heard a.socket)
 
 -- a fragment is read, if all that was read before is stepped
 pub record Read {S : Type 0} (heard : S → Option Carried) (a b : Talk S) : Type 0 where
@@ -87,7 +87,7 @@ pub record Read {S : Type 0} (heard : S → Option Carried) (a b : Talk S) : Typ
 pub record Finished {S : Type 0} (heard : S → Option Carried) (a b : Talk S) : Type 0 where
   pub end : End
   pub is : b ≡ record a { socket = b.socket; outcome = Some (Ok end); unread = [] }
-  pub fits : Finishes end b
+  pub fits : FinishesTalk end b
   pub heard_is : heard b.socket ≡ option_map (with_read []) (heard a.socket)
 
 -- the socket can move nothing now
@@ -102,25 +102,25 @@ pub record Failed {S : Type 0} (heard : S → Option Carried) (failure : Failure
   pub heard_is : heard b.socket ≡ heard a.socket
 
 -- what a write does
-abbrev pub Writes : {S : Type 0} → (S → Option Carried) → (S → Bool) → Talk S → Talk S → Type 0
-Writes heard writable a b = Wrote heard a b ⊎ Stopped heard writable a b ⊎ Failed heard failure.Write a b
+abbrev pub WritesSocket : {S : Type 0} → (S → Option Carried) → (S → Bool) → Talk S → Talk S → Type 0
+WritesSocket heard writable a b = WroteToSocket heard a b ⊎ Stopped heard writable a b ⊎ Failed heard failure.Write a b
 
 -- what a read does
-abbrev pub Reads : {S : Type 0} → (S → Option Carried) → (S → Bool) → Talk S → Talk S → Type 0
-Reads heard readable a b = Read heard a b ⊎ Finished heard a b ⊎ Stopped heard readable a b ⊎ Failed heard failure.Read a b
+abbrev pub ReadsSocket : {S : Type 0} → (S → Option Carried) → (S → Bool) → Talk S → Talk S → Type 0
+ReadsSocket heard readable a b = Read heard a b ⊎ Finished heard a b ⊎ Stopped heard readable a b ⊎ Failed heard failure.Read a b
 
 -- the phase of a connection by how its step ended; no step ends where the input does
-abbrev pub phase_of : Option End → Phase
-phase_of None = phase.Going
-phase_of (Some (Refused code)) = phase.Refused code
-phase_of (Some Closed) = phase.Closed
-phase_of (Some NoClose) = phase.Closed
-phase_of (Some Cut) = phase.Closed
+abbrev pub phase_after_step : Option End → Phase
+phase_after_step None = phase.Going
+phase_after_step (Some (Refused code)) = phase.Refused code
+phase_after_step (Some Closed) = phase.Closed
+phase_after_step (Some NoClose) = phase.Closed
+phase_after_step (Some Cut) = phase.Closed
 
 -- the outcome of a step is kept: what it took is no longer unread, and what it answered waits after
 -- what waits already; if an allocation failed the answer is lost
-abbrev pub Keeps : {S : Type 0} → Step → Talk S → Talk S → Type 0
-Keeps step a b = (b ≡ record a { phase = phase_of step.end; unread = drop step.taken a.unread; waiting = a.waiting ++ step.out.items })
+abbrev pub KeepsStep : {S : Type 0} → Step → Talk S → Talk S → Type 0
+KeepsStep step a b = (b ≡ record a { phase = phase_after_step step.end; unread = drop step.taken a.unread; waiting = a.waiting ++ step.out.items })
     ⊎ (b ≡ record a { phase = phase.Starved; unread = drop step.taken a.unread })
 
 -- bytes were stepped: the client's bytes ended, or fewer are unread
@@ -131,11 +131,11 @@ pub record Stepped {S : Type 0} (a b : Talk S) : Type 0 where
   pub fewer : (is_going b.phase ≡ false) ⊎ (length b.unread < length a.unread)
 
 -- the same with a write after it
-pub record Answered {S : Type 0} (heard : S → Option Carried) (a b : Talk S) : Type 0 where
+pub record SteppedAndWrote {S : Type 0} (heard : S → Option Carried) (a b : Talk S) : Type 0 where
   pub number_is : b.number ≡ a.number
   pub fewer : (is_going b.phase ≡ false) ⊎ (length b.unread < length a.unread)
   pub reads : ReadsNothing heard a b
-  pub over : IsOver b.outcome b
+  pub over : IsTalkOver b.outcome b
 
 -- ---- a turn
 
@@ -151,7 +151,7 @@ Moves heard readable writable a b =
 pub record Turned {S : Type 0} (heard : S → Option Carried) (readable writable : S → Bool) (a b : Talk S) : Type 0 where
   pub number_is : b.number ≡ a.number
   pub moves : Moves heard readable writable a b
-  pub over : IsOver b.outcome b
+  pub over : IsTalkOver b.outcome b
 
 -- A turn: one that can do something does, and one that cannot is left unchanged. While an answer
 -- waits nothing is read.
@@ -160,4 +160,4 @@ pub record HadTurn {S : Type 0} (heard : S → Option Carried) (readable writabl
   pub idle : is_ready readable writable a ≡ false → b ≡ a
   pub moves : is_ready readable writable a ≡ true → Moves heard readable writable a b
   pub waits : 0 < length a.waiting → ReadsNothing heard a b
-  pub over : a.outcome ≡ None → IsOver b.outcome b
+  pub over : a.outcome ≡ None → IsTalkOver b.outcome b

@@ -7,8 +7,8 @@ ghost use Rattle.ua_server.specs.Sharing.{SharedEvent, Changed, opened as before
 ghost use Rattle.ua_server.specs.State.{State, with_nodes};
 ghost use Rattle.ua_nodes.specs.Table.{Nodes};
 ghost use Rattle.ua_concurrent.specs.Acts.{HasActed};
-ghost use Rattle.ua_concurrent.specs.All.{HadRound, IsFree, Opens, TurnsAt, last_of, places_of};
-ghost use Rattle.ua_concurrent.specs.Standing.{GoOn, IsAt, IsFresh, StandTogether, own_id};
+ghost use Rattle.ua_concurrent.specs.All.{HadRound, IsFree, OpensTalk, TurnsAt, last_of, places_of};
+ghost use Rattle.ua_concurrent.specs.Standing.{GoOn, IsAt, IsFreshSocket, StandTogether, own_id};
 ghost use Rattle.ua_concurrent.specs.Talk.{Talk, is_place_ready, released_at};
 ghost use Rattle.ua_concurrent.specs.declared.connections.OpenFault.TheVariants as fault;
 
@@ -104,11 +104,11 @@ impl<S: Socket> Connections<S> {
     pub fn open(&mut self, place: usize, socket: S) -> Result<u32, OpenFault>
         ensures number { IfOk result (λ number. (number ≡ last_of self.old + 1) × (last_of self.new ≡ number)) }
         ensures opens { IfOk result (λ number. IsFree (places_of self.old) place
-            × Opens number socket place (places_of self.old) (places_of self.new)) }
+            × OpensTalk number socket place (places_of self.old) (places_of self.new)) }
         ensures not_free { IsErrOf result fault.NotFree → IsFree (places_of self.old) place → ⊥ }
         ensures too_many { IsErrOf result fault.TooMany → last_of self.old ≡ 4294967295 }
         ensures kept { OnErr result (self.new ≡ self.old) }
-        ensures stand { (es : List SharedEvent) (first now : State) → IsFresh (S.heard socket)
+        ensures stand { (es : List SharedEvent) (first now : State) → IsFreshSocket (S.heard socket)
             → StandTogether S.heard es first now (last_of self.old) (places_of self.old)
             → StandTogether S.heard es first now (last_of self.new) (places_of self.new) }
     {

@@ -6,10 +6,10 @@ ghost use Rattle.ua_server.specs.Sharing.{SharedEvent, opened, shared_over, told
 ghost use Rattle.ua_server.specs.State.{State};
 ghost use Rattle.ua_server.specs.declared.step.End.TheVariants.{NoClose, Cut};
 ghost use Rattle.ua_concurrent.specs.Acts.{HasActed};
-ghost use Rattle.ua_concurrent.specs.Standing.{IsFresh, Stands, Went, own_id};
+ghost use Rattle.ua_concurrent.specs.Standing.{IsFreshSocket, TalkStands, Went, own_id};
 ghost use Rattle.ua_concurrent.specs.Talk.{Talk, is_going, is_ready, released};
-ghost use Rattle.ua_concurrent.specs.Turning.{Answered, Finishes, HadTurn, Turned, IsIdle};
-ghost use Rattle.ua_concurrent.specs.Turning.{Keeps, Reads, Stepped, Writes, most_read};
+ghost use Rattle.ua_concurrent.specs.Turning.{SteppedAndWrote, FinishesTalk, HadTurn, Turned, IsTalkIdle};
+ghost use Rattle.ua_concurrent.specs.Turning.{KeepsStep, ReadsSocket, Stepped, WritesSocket, most_read};
 ghost use Rattle.ua_concurrent.specs.declared.outcome.Phase.TheVariants as phase;
 
 use crate::application::Application;
@@ -75,10 +75,10 @@ impl<S: Socket> Conversation<S> {
         socket: S,
     ) -> Result<Conversation<S>, AllocError>
         ensures number { IfOk result (λ t. t.number ≡ number) }
-        ensures begins { IfOk result (λ t. (t.socket ≡ socket) × (t.outcome ≡ None) × IsIdle t) }
+        ensures begins { IfOk result (λ t. (t.socket ≡ socket) × (t.outcome ≡ None) × IsTalkIdle t) }
         ensures stands { (es : List SharedEvent) (first now : State) → told_by number es ≡ []
-            → (shared_over own_id (opened first) es).state ≡ now → IsFresh (S.heard socket)
-            → IfOk result (λ t. Stands S.heard es first now t) }
+            → (shared_over own_id (opened first) es).state ≡ now → IsFreshSocket (S.heard socket)
+            → IfOk result (λ t. TalkStands S.heard es first now t) }
     {
         let piece = Vec::from_elem(alloc, 0u8, PIECE)?;
         Ok(Conversation {
@@ -166,7 +166,7 @@ impl<S: Socket> Conversation<S> {
     pub fn turn<A: Application>(&mut self, services: &mut Services, application: &mut A)
         ensures turn { HadTurn S.heard S.readable S.writable self.old self.new }
         ensures went { (es : List SharedEvent) (first : State) → (shared_over own_id (opened first) es).state
-            ≡ services.old → Stands S.heard es first services.old self.old
+            ≡ services.old → TalkStands S.heard es first services.old self.old
             → Went S.heard es first services.old services.new self.new }
         ensures acted { HasActed A.acts application.old application.new }
     {
@@ -192,7 +192,7 @@ impl<S: Socket> Conversation<S> {
         requires none { self.old.waiting ≡ [] }
         ensures turned { Turned S.heard S.readable S.writable self.old self.new }
         ensures went { (es : List SharedEvent) (first : State) → (shared_over own_id (opened first) es).state
-            ≡ services.old → Stands S.heard es first services.old self.old
+            ≡ services.old → TalkStands S.heard es first services.old self.old
             → Went S.heard es first services.old services.new self.new }
         ensures acted { HasActed A.acts application.old application.new }
     {
@@ -211,7 +211,7 @@ impl<S: Socket> Conversation<S> {
         requires none { (self.old.unread ≡ []) × (self.old.waiting ≡ []) }
         ensures turned { Turned S.heard S.readable S.writable self.old self.new }
         ensures went { (es : List SharedEvent) (first : State) → (shared_over own_id (opened first) es).state
-            ≡ services.old → Stands S.heard es first services.old self.old
+            ≡ services.old → TalkStands S.heard es first services.old self.old
             → Went S.heard es first services.old services.new self.new }
         ensures acted { HasActed A.acts application.old application.new }
     {
@@ -226,8 +226,8 @@ impl<S: Socket> Conversation<S> {
         requires going { self.old.phase ≡ phase.Going }
         requires still { self.old.outcome ≡ None }
         requires some { 0 < length self.old.unread }
-        ensures answered { Answered S.heard self.old self.new }
-        ensures went { (es : List SharedEvent) (first : State) → Stands S.heard es first services.old self.old
+        ensures answered { SteppedAndWrote S.heard self.old self.new }
+        ensures went { (es : List SharedEvent) (first : State) → TalkStands S.heard es first services.old self.old
             → Went S.heard es first services.old services.new self.new }
         ensures acted { HasActed A.acts application.old application.new }
     {
@@ -240,7 +240,7 @@ impl<S: Socket> Conversation<S> {
     /// Writes what waits, as far as the socket takes it at once.
     fn write_on(&mut self)
         requires some { 0 < length self.old.waiting }
-        ensures writes { Writes S.heard S.writable self.old self.new }
+        ensures writes { WritesSocket S.heard S.writable self.old self.new }
     {
         match self.socket.write(&self.out[self.sent..]) {
             Ok(count) => self.wrote(count),
@@ -264,7 +264,7 @@ impl<S: Socket> Conversation<S> {
     /// Reads a fragment, where all bytes before it are stepped.
     fn read_on(&mut self)
         requires { self.old.unread ≡ [] }
-        ensures reads { Reads S.heard S.readable self.old self.new }
+        ensures reads { ReadsSocket S.heard S.readable self.old self.new }
     {
         self.filled = 0;
         self.stepped = 0;
@@ -278,7 +278,7 @@ impl<S: Socket> Conversation<S> {
 
     /// How a connection ends whose input ends.
     fn finish(&self) -> End
-        ensures { Finishes result self.now }
+        ensures { FinishesTalk result self.now }
     {
         if self.connection.is_clean() {
             End::NoClose
@@ -299,7 +299,7 @@ impl<S: Socket> Conversation<S> {
         requires going { self.old.phase ≡ phase.Going }
         requires some { 0 < length self.old.unread }
         ensures stepped { Stepped self.old self.new }
-        ensures went { (es : List SharedEvent) (first : State) → Stands S.heard es first services.old self.old
+        ensures went { (es : List SharedEvent) (first : State) → TalkStands S.heard es first services.old self.old
             → Went S.heard es first services.old services.new self.new }
         ensures acted { HasActed A.acts application.old application.new }
     {
@@ -317,7 +317,7 @@ impl<S: Socket> Conversation<S> {
         requires going { self.old.phase ≡ phase.Going }
         requires some { 0 < length self.old.unread }
         ensures stepped { Stepped self.old self.new }
-        ensures went { (es : List SharedEvent) (first : State) → Stands S.heard es first services.old self.old
+        ensures went { (es : List SharedEvent) (first : State) → TalkStands S.heard es first services.old self.old
             → Went S.heard es first services.old services.new self.new }
         ensures acted { HasActed A.acts application.old application.new }
     {
@@ -341,7 +341,7 @@ impl<S: Socket> Conversation<S> {
     /// Keeps the result of a step: its answer waits after those that wait already.
     fn keep(&mut self, step: Step)
         requires { step.taken ≤ length self.old.unread }
-        ensures { Keeps step self.old self.new }
+        ensures { KeepsStep step self.old self.new }
     {
         self.stepped += step.taken;
         self.phase = Phase::behind(step.end);

@@ -2,7 +2,7 @@
 
 ghost use Rattle.std.specs.Prelude.{◌≡◌};
 ghost use Rattle.ua_concurrent.specs.Talk.{is_going};
-ghost use Rattle.ua_concurrent.specs.Turning.{phase_of};
+ghost use Rattle.ua_concurrent.specs.Turning.{phase_after_step};
 
 use thiserror::Error;
 use ua_builtin::StatusCode;
@@ -39,7 +39,7 @@ impl Phase {
     /// The phase after a step that ended the connection so, or not. No step ends where the input
     /// does.
     pub(crate) fn behind(end: Option<End>) -> Phase
-        ensures { result ≡ phase_of end }
+        ensures { result ≡ phase_after_step end }
     {
         match end {
             None => Phase::Going,

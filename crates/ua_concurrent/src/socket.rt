@@ -3,7 +3,7 @@
 ghost use Rattle.std.specs.Prelude.{◌≡◌, ◌≤◌, ◌<◌, ℕ, Bool, false, List, [], Option};
 ghost use Rattle.std.specs.Prelude.{length, take, IfOk, IsErrOf, MatchResult};
 ghost use Rattle.std.specs.Option.{option_map};
-ghost use Rattle.ua_concurrent.specs.Carried.{Carried, with_read, with_written};
+ghost use Rattle.ua_concurrent.specs.Carried.{Carried, with_read, with_more_written};
 ghost use Rattle.ua_concurrent.specs.declared.socket.Stop.TheVariants.{Blocked};
 
 /// Why a call of a socket moved nothing.
@@ -67,6 +67,6 @@ pub trait Socket: Drop {
         ensures some { 0 < length octets.now → IfOk result (λ n. 0 < n) }
         ensures within { IfOk result (λ n. n ≤ length octets.now) }
         ensures blocked { IsErrOf result Blocked → writable self.new ≡ false }
-        ensures heard { MatchResult result (λ n. heard self.new ≡ option_map (with_written (take n octets.now))
+        ensures heard { MatchResult result (λ n. heard self.new ≡ option_map (with_more_written (take n octets.now))
             (heard self.old)) (λ _. heard self.new ≡ heard self.old) };
 }

@@ -9,7 +9,7 @@ use Rattle.ua_wire.proofs.Readers.{exact_only, both_true, not_false}
 use Rattle.ua_wire.proofs.NumbersRead.{exact_number}
 use Rattle.ua_diagnostic.specs.Parts.{when, Joins, Nothing, IsCount, IsNegative}
 use Rattle.ua_diagnostic.proofs.PartsRead.{exact_then, exact_map, exact_as, exact_if, exact_when, nil_behind}
-use Rattle.ua_diagnostic.specs.Dimensions.{product, IsSize, EncodesSizes, EncodesDims, is_count, are_sizes, dims_encodable, null_count, sizes_canonical}
+use Rattle.ua_diagnostic.specs.Dimensions.{product, IsSize, EncodesSizes, EncodesDims, is_count, are_sizes, dims_encodable, null_count_octets, sizes_canonical}
 use Rattle.ua_diagnostic.specs.Dimensions.{has_dims, dims_canonical, is_negative, size_at, sizes_at, is_none_count, dims_at, no_dims_at}
 
 pub count_is : (n : ℕ) → is_count n ≡ true → n < 2147483648
@@ -180,7 +180,7 @@ exact_no_dims false = exact_as (NoDims false) (exact_only []) (λ y b r. (r.0, (
 pub count_encodes : (n : ℕ) → is_count n ≡ true → IsCount n (number_octets 4 n)
 count_encodes n h = let low : n < 2147483648 = count_is n h in ((omega arith, refl), low)
 
-pub null_encodes : IsNegative null_count
+pub null_encodes : IsNegative null_count_octets
 null_encodes = (4294967295, (omega arith, refl), omega arith)
 
 sizes_encode : (ds : List ℤ) → are_sizes ds ≡ true → EncodesSizes ds (sizes_canonical ds)

@@ -7,7 +7,7 @@ use Rattle.ua_wire.specs.Format.{Gives}
 use Rattle.ua_wire.specs.declared.fault.ReadFault.{ReadFault}
 use Rattle.ua_wire.specs.declared.fault.ReadFault.TheVariants.{NoValue, OutOfMemory}
 use Rattle.ua_diagnostic.specs.Dimensions.{product, size_at, sizes_at}
-use Rattle.ua_diagnostic.specs.Parts.{Reader}
+use Rattle.ua_diagnostic.specs.Parts.{Decoder}
 use Rattle.ua_diagnostic.proofs.Extents.{min_times}
 
 -- a dimension in front of others
@@ -23,11 +23,11 @@ abbrev multiplied : ℕ → Option (List ℤ × List ℕ) → Option (ℕ × Lis
 multiplied all found = found >>= λ x. Some (min (all * product x.0) 18446744073709551615, x.1)
 
 -- the same of n dimensions
-abbrev pub product_at : ℕ → ℕ → Reader ℕ
+abbrev pub product_at : ℕ → ℕ → Decoder ℕ
 product_at all n octets = multiplied all (sizes_at n octets)
 
 -- the product of n dimensions, or the greatest number
-abbrev pub whole_at : ℕ → Reader ℕ
+abbrev pub whole_at : ℕ → Decoder ℕ
 whole_at n = image_read (λ sizes. min (product sizes) 18446744073709551615) (sizes_at n)
 
 factor : (all next d p : ℕ) → next ≡ min (all * d) 18446744073709551615 → min (all * (d * p)) 18446744073709551615 ≡ min (next * p) 18446744073709551615

@@ -12,7 +12,7 @@ use Rattle.ua_builtin.specs.Signed.{signed}
 use Rattle.ua_builtin.specs.Flags.{has, flag_bit, flagged_text}
 use Rattle.ua_builtin.specs.Status.{status_code as status_code_format}
 use Rattle.ua_builtin.specs.declared.status_code.StatusCode.{StatusCode}
-use Rattle.ua_diagnostic.specs.Parts.{Reader, when, Joins, Masked, there, optional, optional_fits, optional_canonical, optional_read}
+use Rattle.ua_diagnostic.specs.Parts.{Decoder, when, Joins, Masked, there, optional, optional_fits, optional_canonical, optional_read}
 
 -- the fields of a DiagnosticInfo except its inner one; a null text is an absent one
 pub record DiagnosticFields : Type 0 where
@@ -125,11 +125,11 @@ diagnostic_canonical (around f d) = (diagnostic_flags f + 0x40) ∷ (diagnostic_
 
 -- a mask of at most 0x7F, the fields that it announces, and if 0x40 is set an inner one, which
 -- inner decodes
-unfoldable pub diagnostic_step : Reader DiagnosticData → Reader DiagnosticData
+unfoldable pub diagnostic_step : Decoder DiagnosticData → Decoder DiagnosticData
 diagnostic_step inner octets = number_at 1 octets >>= λ m. when (leb m.0 0x7F) (
     (diagnostic_fields m.0).decode m.1 >>= λ f. optional_read (has m.0 0x40) inner f.1 >>= λ i. Some (diagnostic_within i.0 f.0, i.1))
 
 -- with this nesting depth left
-unfoldable pub diagnostic_at : ℕ → Reader DiagnosticData
+unfoldable pub diagnostic_at : ℕ → Decoder DiagnosticData
 diagnostic_at zero octets = None
 diagnostic_at (suc n) octets = diagnostic_step (diagnostic_at n) octets

@@ -6,7 +6,7 @@ use Rattle.std.specs.Int.RustNames.{unsigned_abs}
 use Rattle.ua_builtin.specs.Exact.{◌>>=◌}
 use Rattle.ua_builtin.specs.Number.{IsNumber, number_at, number_octets}
 use Rattle.ua_builtin.specs.Counted.{first_negative, null_count as minus_one}
-use Rattle.ua_diagnostic.specs.Parts.{Reader, when, Joins, Nothing, IsCount, IsNegative}
+use Rattle.ua_diagnostic.specs.Parts.{Decoder, when, Joins, Nothing, IsCount, IsNegative}
 
 -- the number of elements of an array with these dimensions
 abbrev pub product : List ℤ → ℕ
@@ -54,8 +54,8 @@ dims_encodable [] n = true
 dims_encodable (d ∷ ds) n = is_count (length (d ∷ ds)) && are_sizes (d ∷ ds) && eqb (product (d ∷ ds)) n
 
 -- the count of a null array: -1 as an Int32, FF FF FF FF
-abbrev pub null_count : List ℕ
-null_count = number_octets 4 minus_one
+abbrev pub null_count_octets : List ℕ
+null_count_octets = number_octets 4 minus_one
 
 -- the canonical encoding of dimensions, one after the other
 abbrev pub sizes_canonical : List ℤ → List ℕ
@@ -79,11 +79,11 @@ abbrev pub is_negative : ℕ → Bool
 is_negative n = leb first_negative n
 
 -- a dimension, which is not negative
-unfoldable pub size_at : Reader ℤ
+unfoldable pub size_at : Decoder ℤ
 size_at octets = number_at 4 octets >>= λ n. when (is_count n.0) (Some (pos n.0, n.1))
 
 -- n dimensions
-abbrev pub sizes_at : ℕ → Reader (List ℤ)
+abbrev pub sizes_at : ℕ → Decoder (List ℤ)
 sizes_at zero octets = Some ([], octets)
 sizes_at (suc n) octets = size_at octets >>= λ d. sizes_at n d.1 >>= λ ds. Some (d.0 ∷ ds.0, ds.1)
 
@@ -93,13 +93,13 @@ is_none_count m = is_negative m || eqb m 0
 
 -- the dimensions of n elements: none unless flagged, none at a count of at most 0, else those whose
 -- product is n
-unfoldable pub dims_at : Bool → ℕ → Reader (List ℤ)
+unfoldable pub dims_at : Bool → ℕ → Decoder (List ℤ)
 dims_at f n octets = cond f (
     number_at 4 octets >>= λ m. cond (is_none_count m.0) (Some ([], m.1)) (sizes_at m.0 m.1 >>= λ ds. when (eqb (product ds.0) n) (Some ds)))
     (Some ([], octets))
 
 -- the dimensions of a null array, which are none: nothing unless flagged, else a count of at most 0
-unfoldable pub no_dims_at : Bool → Reader (List ℤ)
+unfoldable pub no_dims_at : Bool → Decoder (List ℤ)
 no_dims_at f octets = cond f (number_at 4 octets >>= λ m. when (is_none_count m.0) (Some ([], m.1))) (Some ([], octets))
 
 -- a count of dimensions that is not negative, and after it fewer bytes than as many dimensions

@@ -6,8 +6,8 @@ use Rattle.ua_builtin.specs.Format.{Flat}
 use Rattle.ua_builtin.specs.Counted.{first_negative}
 
 -- the value at the start and the bytes after it, or nothing
-abbrev pub Reader : Type 0 → Type 0
-Reader A = List ℕ → Option (A × List ℕ)
+abbrev pub Decoder : Type 0 → Type 0
+Decoder A = List ℕ → Option (A × List ℕ)
 
 -- ---- which bytes
 
@@ -73,7 +73,7 @@ abbrev pub when : {A : Type 0} → Bool → Option A → Option A
 when b r = cond b r None
 
 -- decodes a value if it is announced; otherwise there is none, and no byte is taken
-abbrev pub optional_read : {A : Type 0} → Bool → Reader A → Reader (Option A)
+abbrev pub optional_read : {A : Type 0} → Bool → Decoder A → Decoder (Option A)
 optional_read b r octets = cond b (r octets >>= λ x. Some (Some x.0, x.1)) (Some (None, octets))
 
 -- ---- formats

@@ -45,6 +45,6 @@ or_innermost None = innermost no_fields
 or_innermost (Some d) = d
 
 -- what is kept of a DiagnosticInfo within another value has a field
-abbrev pub KeepsFields : Option DiagnosticData → Type 0
-KeepsFields None = Unit {0}
-KeepsFields (Some d) = d ≡ innermost no_fields → ⊥
+abbrev pub KeepsDiagnosticFields : Option DiagnosticData → Type 0
+KeepsDiagnosticFields None = Unit {0}
+KeepsDiagnosticFields (Some d) = d ≡ innermost no_fields → ⊥

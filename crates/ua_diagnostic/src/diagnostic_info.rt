@@ -55,11 +55,11 @@ impl Model for BoxedDiagnostic {
     ghost coded = { coded_diagnostic (Prim.hlevel codes) };
 
     ghost use Rattle.std.specs.Prelude.{option_map};
-    ghost use Rattle.ua_diagnostic.specs.View.{diagnostic_of, or_innermost, KeepsFields};
+    ghost use Rattle.ua_diagnostic.specs.View.{diagnostic_of, or_innermost, KeepsDiagnosticFields};
 
     ghost view = { λ a. or_innermost (option_map (λ b. diagnostic_of b.value) a.inner) };
 
-    ghost invariant = { λ a. KeepsFields (option_map (λ b. diagnostic_of b.value) a.inner) };
+    ghost invariant = { λ a. KeepsDiagnosticFields (option_map (λ b. diagnostic_of b.value) a.inner) };
 
     ghost size = { diagnostic_depth };
 

@@ -9,7 +9,7 @@ use Rattle.ua_server.specs.State.{State}
 use Rattle.ua_exchange.specs.Accepted.{AreAccepted, IsAccepted}
 use Rattle.ua_exchange.specs.Exchanged.{all_said}
 use Rattle.ua_exchange.specs.Programs.{program_limits}
-use Rattle.ua_exchange.specs.Reading.{EndsAtRenewal, TellsClient, all_heard, asked_behind, asks_behind, asks_from, asks_of, in_order}
+use Rattle.ua_exchange.specs.Reading.{EndsAtRenewal, TellsClient, all_heard, placed_behind, asks_behind, asks_from, asks_of, in_order}
 use Rattle.ua_exchange.specs.declared.turn.Turn.{Turn}
 use Rattle.ua_exchange.proofs.Hearing.{Hearing, hearing-none, hearing-asked, hearing-all}
 use Rattle.ua_exchange.proofs.Lists.{from-front, from-place}
@@ -26,7 +26,7 @@ module _ (first : State) (moment : DateTime) (fits : IsTrue (date_time.encodable
       subst (λ (ps : List Placed). Hears ps answered (waiting ++ [])) (sym (append-nil asks))
       (subst (λ (ts : List Turn). Hears asks answered ts) (sym (append-nil waiting)) h)
   hearing-waiting asks answered waiting (t ∷ ts) h =
-      let here = asked_behind first moment answered waiting t in
+      let here = placed_behind first moment answered waiting t in
       let later = asks_behind first moment answered (waiting ++ t ∷ []) ts in
       subst (λ (ps : List Placed). Hears ps answered (waiting ++ t ∷ ts)) (append_assoc asks (here ∷ []) later)
       (subst (λ (us : List Turn). Hears ((asks ++ here ∷ []) ++ later) answered us) (append_assoc waiting (t ∷ []) ts)

@@ -32,9 +32,9 @@ use Rattle.ua_loopback.proofs.Opened.{answer_read}
 use Rattle.ua_loopback.proofs.Reaching.{none_parts}
 use Rattle.ua_loopback.proofs.Renewed.{none_past}
 use Rattle.ua_exchange.specs.Accepted.{IsAccepted, tokens_counted}
-use Rattle.ua_exchange.specs.Programs.{acknowledged, beginning, channel, program_limits, url}
-use Rattle.ua_exchange.specs.Reading.{EndsAtRenewal, all_heard, asked_behind, heard_behind, output_behind_turns, turns_heard}
-use Rattle.ua_exchange.specs.Replies.{lane_back, response_behind}
+use Rattle.ua_exchange.specs.Programs.{exchange_ack, beginning, channel, program_limits, url}
+use Rattle.ua_exchange.specs.Reading.{EndsAtRenewal, all_heard, placed_behind, heard_behind, output_behind_turns, turns_heard}
+use Rattle.ua_exchange.specs.Replies.{lane_back_of_turns, response_behind}
 use Rattle.ua_exchange.specs.Turns.{id_behind, token_behind}
 use Rattle.ua_exchange.specs.declared.turn.Turn.{Turn}
 use Rattle.ua_exchange.specs.declared.turn.Turn.TheVariants.{Ask, Renew}
@@ -66,14 +66,14 @@ last_in n (k ∷ ks) e = latest_in n k ks e
 module _ (first : State) (moment : DateTime) (fits : IsTrue (date_time.encodable moment)) where
   heard-push : (turns : List Turn) (t : Turn) → all_heard first moment (turns ++ t ∷ []) ≡ all_heard first moment turns ++ heard_behind first moment turns t
   unfolding turns_heard
-  heard-push turns t = ap (λ (ts : List Heard). heard.Agreed acknowledged ∷ (heard.Opened channel 1 ∷ ts)) (each_after-push (heard_behind first moment) turns t)
+  heard-push turns t = ap (λ (ts : List Heard). heard.Agreed exchange_ack ∷ (heard.Opened channel 1 ∷ ts)) (each_after-push (heard_behind first moment) turns t)
 
   -- it reads what the server says of the turns that are answered, where it asked these, and the others wait
   pub record Hearing (asks : List Placed) (answered waiting : List Turn) : Type 0 where
     pub at : AtClient
     pub reads : ClientReads program_limits asks (output_behind_turns first moment answered) (all_heard first moment answered) at
     pub asked_is : length (asked_in asks) ≡ length answered + length waiting
-    pub ack_is : at.ack ≡ acknowledged
+    pub ack_is : at.ack ≡ exchange_ack
     pub channel_is : at.channel ≡ channel
     pub issued : AllByRecursion (λ (k : ℕ). k ≤ token_behind answered) at.tokens
     pub newest_is : at.newest ≡ token_behind answered
@@ -136,7 +136,7 @@ module _ (first : State) (moment : DateTime) (fits : IsTrue (date_time.encodable
     id_here : next_id (asked_in asks) ≡ id_behind (answered ++ waiting)
     id_here = let ids = id-is (answered ++ waiting) in omega (arith, h.asked_is, length-append answered waiting, ids)
 
-    pub hearing-asked : (t : Turn) → Hearing (asks ++ asked_behind first moment answered waiting t ∷ []) answered (waiting ++ t ∷ [])
+    pub hearing-asked : (t : Turn) → Hearing (asks ++ placed_behind first moment answered waiting t ∷ []) answered (waiting ++ t ∷ [])
     hearing-asked (Ask m) =
         subst (λ (id : ℕ). Hearing (asks ++ (length (output_behind_turns first moment answered), Call id) ∷ []) answered (waiting ++ Ask m ∷ [])) id_here
         (hearing-call m)
@@ -145,14 +145,14 @@ module _ (first : State) (moment : DateTime) (fits : IsTrue (date_time.encodable
         hearing-renewal
 
     -- where replies go
-    lane_here : id_behind answered < no_id → IsLaneBack program_limits h.at (lane_back answered)
+    lane_here : id_behind answered < no_id → IsLaneBack program_limits h.at (lane_back_of_turns answered)
     lane_here few = record {
       on = sym h.channel_is;
       held = last_in (token_behind answered) h.at.tokens (h.reads.newest_is ∙ ap (λ (k : ℕ). Some k) h.newest_is);
       on_small = omega arith;
       token_small = let tokens = token-few answered in omega (arith, few, tokens);
       some = omega arith;
-      fits = subst (λ (a : Ack). 24 + (lane_back answered).room ≤ a.send_buffer_size) (sym h.ack_is) (omega arith);
+      fits = subst (λ (a : Ack). 24 + (lane_back_of_turns answered).room ≤ a.send_buffer_size) (sym h.ack_is) (omega arith);
       octets = λ n within. within;
       chunks = refl;
     }
@@ -168,7 +168,7 @@ module _ (first : State) (moment : DateTime) (fits : IsTrue (date_time.encodable
   hearing-reply asks answered m waiting h few written =
       let body = response.canonical (response_behind first moment answered m) in
       let id = id_behind answered in
-      let lane = lane_back answered in
+      let lane = lane_back_of_turns answered in
       let awaited : is_in id h.at.pending ≡ true = ap (is_in id) h.pending_are ∙ first-waits id (calls_from (id + 1) waiting) in
       let more =
       reads_replied program_limits asks (output_behind_turns first moment answered) (all_heard first moment answered) h.at lane id h.reads
@@ -240,7 +240,7 @@ module _ (first : State) (moment : DateTime) (fits : IsTrue (date_time.encodable
 
   -- ---- the opening
 
-  none_heard : heard.Agreed acknowledged ∷ (heard.Opened channel 1 ∷ []) ≡ all_heard first moment []
+  none_heard : heard.Agreed exchange_ack ∷ (heard.Opened channel 1 ∷ []) ≡ all_heard first moment []
   unfolding turns_heard each_after
   none_heard = refl
 
@@ -251,13 +251,13 @@ module _ (first : State) (moment : DateTime) (fits : IsTrue (date_time.encodable
   -- the ACK and the first answer
   pub hearing-none : Hearing [] [] []
   hearing-none =
-      let now : AtClient = opened_at acknowledged channel 1 (next_number 1) in
+      let now : AtClient = opened_at exchange_ack channel 1 (next_number 1) in
       record {
         at = now;
         reads =
             subst (λ (o : List ℕ). ClientReads program_limits [] o (all_heard first moment []) now) (sym (said-none first moment))
             (subst (λ (ts : List Heard).
-            ClientReads program_limits [] (frame_octets (ack_frame acknowledged) ++ frame_octets (opened_frame channel 1 1 0 1 token_lifetime moment)) ts
+            ClientReads program_limits [] (frame_octets (ack_frame exchange_ack) ++ frame_octets (opened_frame channel 1 1 0 1 token_lifetime moment)) ts
             now) none_heard (answer_read (beginning first moment) program_limits (Some url) ack_fits (omega arith) fits));
         asked_is = no_asks;
         ack_is = refl;

@@ -16,7 +16,7 @@ use Rattle.ua_loopback.specs.Accepted as judged
 use Rattle.ua_loopback.proofs.Reaching.{none_parts}
 use Rattle.ua_exchange.specs.Accepted.{AreAccepted, FirstRefused, IsAccepted, fault_at, tokens_counted, turn_refusal}
 use Rattle.ua_exchange.specs.Exchanged.{IsRefusedFor}
-use Rattle.ua_exchange.specs.Programs.{acknowledged}
+use Rattle.ua_exchange.specs.Programs.{exchange_ack}
 use Rattle.ua_exchange.specs.Turns.{id_behind, served_turn, served_turns}
 use Rattle.ua_exchange.specs.declared.fault.PairFault.{PairFault}
 use Rattle.ua_exchange.specs.declared.fault.PairFault.TheVariants.{NotWritable, Request}
@@ -31,7 +31,7 @@ use Rattle.ua_exchange.proofs.Words.{served-push}
 
 -- a client of `ua_loopback` takes a turn behind others, or this is why it does not
 abbrev refusal_served : List Turn → Turn → Option ClientFault
-refusal_served before t = judged.turn_refusal acknowledged (served_turns before) (served_turn t)
+refusal_served before t = judged.turn_refusal_under exchange_ack (served_turns before) (served_turn t)
 
 fewer : (before : List Turn) → nat_le most_tokens (tokens_counted before) ≡ false → nat_le most_tokens (judged.tokens_held 1 (served_turns before)) ≡ false
 fewer before room =
@@ -40,7 +40,7 @@ fewer before room =
 
 -- where there is room for it, a turn is judged by what counts as held as by what is held
 same-judged : (before : List Turn) (t : Turn) → is_crowded before t ≡ false
-    → first_reason (judged.turn_reasons acknowledged (tokens_counted before) (id_behind before) (served_turn t)) ≡ refusal_served before t
+    → first_reason (judged.turn_reasons_under exchange_ack (tokens_counted before) (id_behind before) (served_turn t)) ≡ refusal_served before t
 same-judged before (Ask m) room = refl
 same-judged before Renew room =
     ap (λ (b : Bool). first_reason ((client.TooManyTokens, b) ∷ (client.Exhausted, nat_le no_id (id_behind before)) ∷ [])) (room ∙ sym (fewer before room))
@@ -48,7 +48,7 @@ same-judged before Renew room =
 refusal-same : (before : List Turn) (t : Turn) → is_crowded before t ≡ false
     → turn_refusal before t ≡ option_map (fault_at (length before)) (refusal_served before t)
 refusal-same before t room =
-    first_reason-map (fault_at (length before)) (judged.turn_reasons acknowledged (tokens_counted before) (id_behind before) (served_turn t))
+    first_reason-map (fault_at (length before)) (judged.turn_reasons_under exchange_ack (tokens_counted before) (id_behind before) (served_turn t))
     ∙ ap (option_map (fault_at (length before))) (same-judged before t room)
 
 -- ---- turns that are parted
@@ -99,16 +99,16 @@ room-there before behind t room = (from-place (λ (b : List Turn) (u : Turn). is
 
 -- ---- by both
 
-accepted-from : (start turns : List Turn) → AllFrom (judged.IsAccepted acknowledged) (served_turns start) (served_turns turns)
+accepted-from : (start turns : List Turn) → AllFrom (judged.IsAcceptedUnder exchange_ack) (served_turns start) (served_turns turns)
     → AllFrom (λ (b : List Turn) (u : Turn). is_crowded b u ≡ false) start turns → AllFrom IsAccepted start turns
 accepted-from start [] h room = tt
 accepted-from start (t ∷ ts) h room = (
   refusal-same start t room.0 ∙ ap (option_map (fault_at (length start))) h.0,
-  accepted-from (start ++ t ∷ []) ts (subst (λ (us : List (Option (List Message))). AllFrom (judged.IsAccepted acknowledged) us (served_turns ts))
+  accepted-from (start ++ t ∷ []) ts (subst (λ (us : List (Option (List Message))). AllFrom (judged.IsAcceptedUnder exchange_ack) us (served_turns ts))
       (sym (served-push start t)) h.1) room.1,
 )
 
-pub accepted-all : (turns : List Turn) → judged.AreAccepted acknowledged (served_turns turns) → HaveRoom turns → AreAccepted turns
+pub accepted-all : (turns : List Turn) → judged.AreAcceptedUnder exchange_ack (served_turns turns) → HaveRoom turns → AreAccepted turns
 unfolding AllAfter
 accepted-all turns h room = accepted-from [] turns h room
 
@@ -121,34 +121,34 @@ none_named : (n : ℕ) (o : Option ClientFault) → option_map (fault_at n) o �
 none_named n None e = refl
 none_named n (Some fault) e = absurd cc
 
-served-from : (start turns : List Turn) → AllFrom IsAccepted start turns → AllFrom (judged.IsAccepted acknowledged) (served_turns start) (served_turns turns)
+served-from : (start turns : List Turn) → AllFrom IsAccepted start turns → AllFrom (judged.IsAcceptedUnder exchange_ack) (served_turns start) (served_turns turns)
 served-from start [] h = tt
 served-from start (t ∷ ts) h = (
   none_named (length start) (refusal_served start t) (sym (refusal-same start t (room-accepted start t h.0)) ∙ h.0),
-  subst (λ (us : List (Option (List Message))). AllFrom (judged.IsAccepted acknowledged) us (served_turns ts)) (served-push start t)
+  subst (λ (us : List (Option (List Message))). AllFrom (judged.IsAcceptedUnder exchange_ack) us (served_turns ts)) (served-push start t)
       (served-from (start ++ t ∷ []) ts h.1),
 )
 
-pub served-all : (turns : List Turn) → AreAccepted turns → judged.AreAccepted acknowledged (served_turns turns)
+pub served-all : (turns : List Turn) → AreAccepted turns → judged.AreAcceptedUnder exchange_ack (served_turns turns)
 unfolding AllAfter
 served-all turns h = served-from [] turns h
 
 -- the first that is not taken
-refused-first : (turns : List Turn) (place : ℕ) (fault : ClientFault) → judged.FirstRefused acknowledged (served_turns turns) place fault → HaveRoom turns
+refused-first : (turns : List Turn) (place : ℕ) (fault : ClientFault) → judged.FirstRefusedUnder exchange_ack (served_turns turns) place fault → HaveRoom turns
     → FirstRefused turns (fault_at place fault)
 refused-first turns place fault r room =
     let p = parted turns r.before r.turn r.behind r.parts in
     let whole : HaveRoom (p.before ++ p.turn ∷ p.behind) = subst HaveRoom p.parts room in
     let there : refusal_served p.before p.turn ≡ Some fault =
-    ap (λ (ts : List (Option (List Message))). judged.turn_refusal acknowledged ts (served_turn p.turn)) p.before_is
-    ∙ (ap (judged.turn_refusal acknowledged r.before) p.turn_is ∙ r.refused) in
+    ap (λ (ts : List (Option (List Message))). judged.turn_refusal_under exchange_ack ts (served_turn p.turn)) p.before_is
+    ∙ (ap (judged.turn_refusal_under exchange_ack r.before) p.turn_is ∙ r.refused) in
     let at : length p.before ≡ place = sym (length-map p.before served_turn) ∙ (ap length p.before_is ∙ r.place_is) in
     record {
       before = p.before;
       turn = p.turn;
       behind = p.behind;
       parts = p.parts;
-      accepted = accepted-all p.before (subst (judged.AreAccepted acknowledged) (sym p.before_is) r.accepted) (room-before p.before p.behind p.turn whole);
+      accepted = accepted-all p.before (subst (judged.AreAcceptedUnder exchange_ack) (sym p.before_is) r.accepted) (room-before p.before p.behind p.turn whole);
       refused = refusal-same p.before p.turn (room-there p.before p.behind p.turn whole)
           ∙ (ap (option_map (fault_at (length p.before))) there ∙ ap (λ (n : ℕ). Some (fault_at n fault)) at);
     }
@@ -166,7 +166,7 @@ refused-among asked more fault r = record {
 
 -- a turn is not taken, or memory was refused
 pub refused-for : (asked more : List Turn) (place : ℕ) (fault : ClientFault)
-    → (judged.IsTurnFault fault → judged.FirstRefused acknowledged (served_turns asked) place fault) → HaveRoom asked
+    → (judged.IsTurnFault fault → judged.FirstRefusedUnder exchange_ack (served_turns asked) place fault) → HaveRoom asked
     → IsRefusedFor (asked ++ more) (fault_at place fault)
 refused-for asked more place client.NotWritable r room = refused-among asked more (NotWritable place) (refused-first asked place client.NotWritable (r tt) room)
 refused-for asked more place client.Exhausted r room = refused-among asked more (Request place Exhausted)

@@ -14,13 +14,13 @@ use Rattle.ua_services.specs.declared.request.Request.{Request}
 use Rattle.ua_server.specs.Reply.{answered}
 use Rattle.ua_server.specs.Said.{Course, state_after, course_after, reply_with, output_of, said_of, with_more}
 use Rattle.ua_server.specs.State.{State}
-use Rattle.ua_loopback.specs.Says.{times_of_answers}
+use Rattle.ua_loopback.specs.Says.{answer_times}
 use Rattle.ua_loopback.proofs.Replying.{answered_is}
 use Rattle.ua_loopback.proofs.Saying.{left_on, said_on, said_over}
 use Rattle.ua_exchange.specs.Exchanged.{all_said}
-use Rattle.ua_exchange.specs.Programs.{acknowledged, agreement, beginning, channel}
+use Rattle.ua_exchange.specs.Programs.{exchange_ack, agreement, beginning, channel}
 use Rattle.ua_exchange.specs.Reading.{output_behind_turns}
-use Rattle.ua_exchange.specs.Replies.{lane_back, response_behind, state_behind}
+use Rattle.ua_exchange.specs.Replies.{lane_back_of_turns, response_behind, state_behind}
 use Rattle.ua_exchange.specs.Turns.{all_told, asking_told, id_behind, token_behind}
 use Rattle.ua_exchange.specs.declared.turn.Turn.{Turn}
 use Rattle.ua_exchange.specs.declared.turn.Turn.TheVariants.{Ask, Renew}
@@ -33,17 +33,17 @@ course_behind first moment turns number moments =
 
 -- the number of its next chunk
 abbrev pub NumberIs : State → DateTime → List Turn → ℕ → Type 0
-NumberIs first moment turns number = state_after channel first (asking_told turns) (times_of_answers (asking_told turns) moment)
+NumberIs first moment turns number = state_after channel first (asking_told turns) (answer_times (asking_told turns) moment)
     ≡ course_behind first moment turns number []
 
 module _ (first : State) (moment : DateTime) where
   -- before any turn
-  pub said-none : output_behind_turns first moment [] ≡ frame_octets (ack_frame acknowledged)
+  pub said-none : output_behind_turns first moment [] ≡ frame_octets (ack_frame exchange_ack)
       ++ frame_octets (opened_frame channel 1 1 0 1 token_lifetime moment)
   unfolding output_of
   said-none =
-      append-nil (frame_octets (ack_frame acknowledged) ++ (frame_octets (opened_frame channel 1 1 0 1 token_lifetime moment) ++ []))
-      ∙ ap (λ (o : List ℕ). frame_octets (ack_frame acknowledged) ++ o) (append-nil (frame_octets (opened_frame channel 1 1 0 1 token_lifetime moment)))
+      append-nil (frame_octets (ack_frame exchange_ack) ++ (frame_octets (opened_frame channel 1 1 0 1 token_lifetime moment) ++ []))
+      ∙ ap (λ (o : List ℕ). frame_octets (ack_frame exchange_ack) ++ o) (append-nil (frame_octets (opened_frame channel 1 1 0 1 token_lifetime moment)))
 
   pub number-none : NumberIs first moment [] 2
   unfolding state_after
@@ -52,27 +52,27 @@ module _ (first : State) (moment : DateTime) where
   module _ (turns : List Turn) (number : ℕ) (is : NumberIs first moment turns number) where
     -- where it says the answer to a turn more
     abbrev here : Turn → Course
-    here t = course_behind first moment turns number (times_of_answers (told_behind turns t) moment)
+    here t = course_behind first moment turns number (answer_times (told_behind turns t) moment)
 
-    left-push : (t : Turn) → state_after channel first (asking_told (turns ++ t ∷ [])) (times_of_answers (asking_told (turns ++ t ∷ [])) moment)
+    left-push : (t : Turn) → state_after channel first (asking_told (turns ++ t ∷ [])) (answer_times (asking_told (turns ++ t ∷ [])) moment)
         ≡ course_after channel (here t) (told_behind turns t)
     left-push t =
-        ap (λ (ts : List Told). state_after channel first ts (times_of_answers ts moment)) (told-push turns t)
+        ap (λ (ts : List Told). state_after channel first ts (answer_times ts moment)) (told-push turns t)
         ∙ (left_on (beginning first moment) (asking_told turns) (told_behind turns t)
-        ∙ ap (λ (k : Course). course_after channel (with_more k (times_of_answers (told_behind turns t) moment)) (told_behind turns t)) is)
+        ∙ ap (λ (k : Course). course_after channel (with_more k (answer_times (told_behind turns t) moment)) (told_behind turns t)) is)
 
     said-push : (t : Turn) → output_behind_turns first moment (turns ++ t ∷ []) ≡ output_behind_turns first moment turns ++ said_of channel (here t)
         (told_behind turns t)
     said-push t =
-        ap (λ (ts : List Told). output_of channel first ts Going (times_of_answers ts moment)) (told-push turns t)
+        ap (λ (ts : List Told). output_of channel first ts Going (answer_times ts moment)) (told-push turns t)
         ∙ (said_on (beginning first moment) (asking_told turns) (told_behind turns t)
-        ∙ ap (λ (k : Course). output_behind_turns first moment turns ++ said_of channel (with_more k (times_of_answers (told_behind turns t) moment))
+        ∙ ap (λ (k : Course). output_behind_turns first moment turns ++ said_of channel (with_more k (answer_times (told_behind turns t) moment))
         (told_behind turns t)) is)
 
     -- the reply to a request
     module _ (m : Request) (fits : IsTrue (request.encodable m)) where
       abbrev out : List ℕ × ℕ
-      out = replied (lane_back turns) (response.canonical (response_behind first moment turns m)) number (id_behind turns)
+      out = replied (lane_back_of_turns turns) (response.canonical (response_behind first moment turns m)) number (id_behind turns)
 
       pub said-call : output_behind_turns first moment (turns ++ Ask m ∷ []) ≡ output_behind_turns first moment turns ++ out.0
       said-call =

@@ -13,7 +13,7 @@ use Rattle.ua_server.specs.State.{State}
 use Rattle.ua_loopback.specs.Replies.{turn_state, turns_state}
 use Rattle.ua_loopback.specs.Turns.{ids_behind, opening_told, tokens_behind, turn_told, turns_told}
 use Rattle.ua_loopback.proofs.Pushes.{state_push, tokens_push, told_push}
-use Rattle.ua_exchange.specs.Programs.{AreOurs, acknowledged, program_limits, url}
+use Rattle.ua_exchange.specs.Programs.{AreOurs, exchange_ack, program_limits, url}
 use Rattle.ua_exchange.specs.Replies.{state_behind}
 use Rattle.ua_exchange.specs.Turns.{asking_told, id_behind, served_turn, served_turns, token_behind}
 use Rattle.ua_exchange.specs.declared.turn.Turn.{Turn}
@@ -114,6 +114,6 @@ pub hello_fits : IsTrue (hello.encodable (hello_to program_limits (Some url)))
 unfolding hello
 hello_fits = url_fits
 
-pub ack_fits : IsTrue (ack.encodable acknowledged)
+pub ack_fits : IsTrue (ack.encodable exchange_ack)
 unfolding ack
 ack_fits = refl

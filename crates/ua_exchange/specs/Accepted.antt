@@ -8,7 +8,7 @@ use Rattle.ua_channel.specs.declared.client.fault.AskFault.TheVariants.{TooManyT
 use Rattle.ua_client.specs.declared.fault.ClientFault.{ClientFault}
 use Rattle.ua_client.specs.declared.fault.ClientFault.TheVariants as client
 use Rattle.ua_loopback.specs.Accepted as judged
-use Rattle.ua_exchange.specs.Programs.{acknowledged}
+use Rattle.ua_exchange.specs.Programs.{exchange_ack}
 use Rattle.ua_exchange.specs.Turns.{id_behind, served_turn, served_turns}
 use Rattle.ua_exchange.specs.declared.fault.PairFault.{PairFault}
 use Rattle.ua_exchange.specs.declared.fault.PairFault.TheVariants.{NotWritable, Request, OutOfMemory}
@@ -51,7 +51,7 @@ fault_at place other = OutOfMemory
 -- the operation
 abbrev pub turn_reasons : List Turn → Turn → List (PairFault × Bool)
 turn_reasons before turn =
-    map (renamed_reason (fault_at (length before))) (judged.turn_reasons acknowledged (tokens_counted before) (id_behind before) (served_turn turn))
+    map (renamed_reason (fault_at (length before))) (judged.turn_reasons_under exchange_ack (tokens_counted before) (id_behind before) (served_turn turn))
 
 -- the first of these reasons, if there is one
 abbrev pub turn_refusal : List Turn → Turn → Option PairFault

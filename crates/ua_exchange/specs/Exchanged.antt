@@ -5,7 +5,7 @@ use Rattle.ua_frame.specs.Run.{Over}
 use Rattle.ua_nodes.specs.Table.{Nodes}
 use Rattle.ua_server.specs.Said.{output_of}
 use Rattle.ua_server.specs.State.{State}
-use Rattle.ua_loopback.specs.Says.{times_of_answers}
+use Rattle.ua_loopback.specs.Says.{answer_times}
 use Rattle.ua_exchange.specs.Accepted.{FirstRefused}
 use Rattle.ua_exchange.specs.Programs.{begun_over, channel}
 use Rattle.ua_exchange.specs.Turns.{all_told}
@@ -16,7 +16,7 @@ use Rattle.ua_exchange.specs.declared.turn.Turn.{Turn}
 -- all that a server in this state sends to a client with these operations, with this time for each
 -- answer
 abbrev pub all_said : State → DateTime → List Turn → List ℕ
-all_said first moment turns = output_of channel first (all_told turns) Over (times_of_answers (all_told turns) moment)
+all_said first moment turns = output_of channel first (all_told turns) Over (answer_times (all_told turns) moment)
 
 -- the same for a server over these nodes, when the connection begins
 abbrev pub down_octets : Nodes → DateTime → List Turn → List ℕ

@@ -48,8 +48,8 @@ abbrev pub channel : ℕ
 channel = 1
 
 -- what the server acknowledges to the client
-abbrev pub acknowledged : Ack
-acknowledged = judged.acknowledged program_limits program_limits (Some url)
+abbrev pub exchange_ack : Ack
+exchange_ack = judged.acknowledged program_limits program_limits (Some url)
 
 -- what they agree to
 abbrev pub agreement : Agreement

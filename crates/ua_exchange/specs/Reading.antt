@@ -14,9 +14,9 @@ use Rattle.ua_channel.specs.ClientTold.{ClientTold as Heard, ClientTold as heard
 use Rattle.ua_services.specs.Response.{response}
 use Rattle.ua_server.specs.Said.{output_of}
 use Rattle.ua_server.specs.State.{State}
-use Rattle.ua_loopback.specs.Says.{times_of_answers}
-use Rattle.ua_exchange.specs.Programs.{acknowledged, channel}
-use Rattle.ua_exchange.specs.Replies.{lane_back, response_behind}
+use Rattle.ua_loopback.specs.Says.{answer_times}
+use Rattle.ua_exchange.specs.Programs.{exchange_ack, channel}
+use Rattle.ua_exchange.specs.Replies.{lane_back_of_turns, response_behind}
 use Rattle.ua_exchange.specs.Turns.{asking_told, id_behind, token_behind}
 use Rattle.ua_exchange.specs.declared.turn.Turn.{Turn}
 use Rattle.ua_exchange.specs.declared.turn.Turn.TheVariants.{Ask, Renew}
@@ -25,7 +25,7 @@ use Rattle.ua_exchange.specs.declared.turn.Turn.TheVariants.{Ask, Renew}
 
 -- up to and including the answers to these operations
 abbrev pub output_behind_turns : State → DateTime → List Turn → List ℕ
-output_behind_turns first moment turns = output_of channel first (asking_told turns) Going (times_of_answers (asking_told turns) moment)
+output_behind_turns first moment turns = output_of channel first (asking_told turns) Going (answer_times (asking_told turns) moment)
 
 -- ---- what the client is told
 
@@ -33,7 +33,7 @@ output_behind_turns first moment turns = output_of channel first (asking_told tu
 -- renewal brings
 abbrev pub heard_behind : State → DateTime → List Turn → Turn → List Heard
 heard_behind first moment before (Ask m) =
-    told_reply (cut_refusal (lane_back before) (response.canonical (response_behind first moment before m))) (id_behind before)
+    told_reply (cut_refusal (lane_back_of_turns before) (response.canonical (response_behind first moment before m))) (id_behind before)
     (response.canonical (response_behind first moment before m)) ∷ []
 heard_behind first moment before Renew = heard.Renewed (token_behind before + 1) ∷ []
 
@@ -43,7 +43,7 @@ turns_heard first moment turns = each_after (heard_behind first moment) turns
 
 -- and of the opening
 abbrev pub all_heard : State → DateTime → List Turn → List Heard
-all_heard first moment turns = heard.Agreed acknowledged ∷ (heard.Opened channel 1 ∷ turns_heard first moment turns)
+all_heard first moment turns = heard.Agreed exchange_ack ∷ (heard.Opened channel 1 ∷ turns_heard first moment turns)
 
 -- ---- what it asks, group by group
 
@@ -60,8 +60,8 @@ asking_under id Renew = Renewal id
 
 -- the same for the operation after those that wait, with its place: the end of the answers to those
 -- that are answered
-abbrev pub asked_behind : State → DateTime → List Turn → List Turn → Turn → Placed
-asked_behind first moment answered waiting t = (length (output_behind_turns first moment answered), asking_under (id_behind (answered ++ waiting)) t)
+abbrev pub placed_behind : State → DateTime → List Turn → List Turn → Turn → Placed
+placed_behind first moment answered waiting t = (length (output_behind_turns first moment answered), asking_under (id_behind (answered ++ waiting)) t)
 
 -- the operations of groups, one group after the other
 abbrev pub in_order : List (List Turn) → List Turn
@@ -71,7 +71,7 @@ in_order (group ∷ groups) = group ++ in_order groups
 -- these operations, each with its place, after those that are answered and those that wait
 abbrev pub asks_behind : State → DateTime → List Turn → List Turn → List Turn → List Placed
 asks_behind first moment answered waiting [] = []
-asks_behind first moment answered waiting (t ∷ ts) = asked_behind first moment answered waiting t ∷ asks_behind first moment answered (waiting ++ t ∷ []) ts
+asks_behind first moment answered waiting (t ∷ ts) = placed_behind first moment answered waiting t ∷ asks_behind first moment answered (waiting ++ t ∷ []) ts
 
 -- the operations of these groups, after operations that are answered: each group at the end of the
 -- answers to the operations before it

@@ -23,9 +23,9 @@ abbrev pub response_behind : State → DateTime → List Turn → Request → Re
 response_behind s moment before m = (answer (state_behind s moment before) moment m).1
 
 -- its lane: under the token that the request used, within the client's limits
-abbrev pub lane_back : List Turn → Lane
-lane_back before = lane_of channel (token_behind before) agreement
+abbrev pub lane_back_of_turns : List Turn → Lane
+lane_back_of_turns before = lane_of channel (token_behind before) agreement
 
 -- the replies to operations, in order
 unfoldable pub turns_replies : State → DateTime → List Turn → List (Option Reply)
-turns_replies s moment turns = served.turns_replies (beginning s moment) program_limits (Some url) s 1 (served_turns turns)
+turns_replies s moment turns = served.replies_to_turns (beginning s moment) program_limits (Some url) s 1 (served_turns turns)

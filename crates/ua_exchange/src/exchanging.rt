@@ -2,7 +2,7 @@
 
 ghost use Rattle.std.specs.Prelude.{◌≡◌, IfOk, IfErr, map, Some};
 ghost use Rattle.ua_channel_laws.specs.ServerReads.{ServerCloses};
-ghost use Rattle.ua_nodes.specs.Sound.{IsSound};
+ghost use Rattle.ua_nodes.specs.Sound.{AreNodesSound};
 ghost use Rattle.ua_server.specs.declared.step.End.TheVariants.{Closed};
 ghost use Rattle.ua_exchange.specs.Accepted.{AreAccepted};
 ghost use Rattle.ua_exchange.specs.Exchanged.{IsRefusedFor, down_octets};
@@ -10,7 +10,7 @@ ghost use Rattle.ua_exchange.specs.Programs.{begun_over, channel, program_limits
 ghost use Rattle.ua_exchange.specs.Replies.{state_behind, turns_replies};
 ghost use Rattle.ua_exchange.specs.Turns.{all_told, up_octets};
 ghost use Rattle.ua_exchange.specs.inside.Conversed.{IsConversed};
-ghost use Rattle.ua_exchange.specs.inside.Counting.{FindsCrowded, front_of};
+ghost use Rattle.ua_exchange.specs.inside.Counting.{FindsCrowded, turns_before};
 
 use crate::crowded::find_crowded;
 use crate::fault::PairFault;
@@ -37,7 +37,7 @@ fn copied(alloc: Global, lengths: &[usize]) -> Result<Vec<usize>, AllocError> {
 /// The operations before a renewal for which too many tokens count as held, or all of them.
 fn front(turns: &[Turn], crowded: Option<usize>) -> &[Turn]
     requires { FindsCrowded turns.now crowded }
-    ensures { result.now ≡ front_of crowded turns.now }
+    ensures { result.now ≡ turns_before crowded turns.now }
 {
     match crowded {
         Some(place) => &turns[..place],
@@ -55,7 +55,7 @@ fn conversed(
     cuts_down: &[usize],
     moment: DateTime,
 ) -> Result<Conversed, AllocError>
-    requires sound { IsSound table }
+    requires sound { AreNodesSound table }
     ensures { IfOk result (λ t. IsConversed (begun_over table) moment turns.now t) }
 {
     let about = endpoint(alloc)?;
@@ -99,7 +99,7 @@ pub fn exchange(
     cuts_down: &[usize],
     moment: DateTime,
 ) -> Result<Transcript, PairFault>
-    requires sound { IsSound table }
+    requires sound { AreNodesSound table }
     ensures accepted { IfOk result (λ t. AreAccepted turns.now) }
     ensures refused { IfErr result (λ fault. IsRefusedFor turns.now fault) }
     ensures up { IfOk result (λ t. t.up.items ≡ up_octets moment turns.now) }

@@ -10,8 +10,8 @@ use Rattle.ua_frame.specs.declared.fault.FrameFault.TheVariants.{UnknownType, Ou
 use Rattle.ua_frame.specs.declared.frame.Frame.{Frame}
 use Rattle.ua_frame.specs.declared.gate.Gate.{Gate}
 use Rattle.ua_frame.specs.After.{AllFrom, AllAfter}
-use Rattle.ua_frame.specs.FirstWrong.{frame_in, frames_in, header_refusal, header_why, first_refusal, Passes, WrongNext, FirstFrom, FirstWrong}
-use Rattle.ua_frame.specs.Frames.{frame_octets, frames_octets, header_fault, header_code, IsRawFrame, IsRest, Frames, joined}
+use Rattle.ua_frame.specs.FirstWrong.{frame_in, frames_in, header_refusal, header_why, first_refusal, PassesFrame, WrongNext, FirstFrom, FirstWrong}
+use Rattle.ua_frame.specs.Frames.{frame_octets, frames_octets, header_fault, header_code, IsRawFrame, IsRest, Frames, joined_parts}
 use Rattle.ua_frame.specs.Laws.{Stops}
 use Rattle.ua_frame.specs.Run.{Rules, refusal, Fits, Stopped, WrongHeader, WrongFrame, EndsIn}
 use Rattle.ua_frame.proofs.Fronts.{fault_front, fault-from_let_in}
@@ -89,7 +89,7 @@ here_first R start frames rest why goes_on wrong = record {
   wrong = subst (λ (t : List (List ℕ)). WrongNext R t frames rest why) (sym (append-nil start)) wrong;
 }
 
-later_first : {E X : Type 0} (R : Rules E X) (start : List (List ℕ)) (raw : List ℕ) (frames : List (List ℕ)) (rest : List ℕ) (why : X) → Passes R start raw
+later_first : {E X : Type 0} (R : Rules E X) (start : List (List ℕ)) (raw : List ℕ) (frames : List (List ℕ)) (rest : List ℕ) (why : X) → PassesFrame R start raw
     → FirstFrom R (start ++ raw ∷ []) frames rest why → FirstFrom R start (raw ∷ frames) rest why
 later_first R start raw frames rest why passes f = record {
   before = raw ∷ f.before;
@@ -120,7 +120,7 @@ wrong_raw R start x raw t why e r (inr w) =
     ∙ frame_in-frame w.frame) ∙ w.refused
 
 stops_from : {E X : Type 0} (R : Rules E X) (start : List (List ℕ)) (fs : List Frame) (x : List ℕ) (why : X) (frames : List (List ℕ)) (rest : List ℕ)
-    → frames_octets fs ++ x ≡ joined frames ++ rest → AllFrom (Fits R) (frames_in start) fs
+    → frames_octets fs ++ x ≡ joined_parts frames ++ rest → AllFrom (Fits R) (frames_in start) fs
     → EndsIn R (frames_in start ++ fs) x (Stopped why) → AllByRecursion IsRawFrame frames → IsRest rest → FirstFrom R start frames rest why
 stops_from R start [] x why [] rest e good ends each partial =
     let at_end : EndsIn R (frames_in start) x (Stopped why) = subst (λ (t : List Frame). EndsIn R t x (Stopped why)) (append-nil (frames_in start)) ends in
@@ -128,17 +128,17 @@ stops_from R start [] x why [] rest e good ends each partial =
 stops_from R start [] x why (raw ∷ frames) rest e good ends each partial =
     let at_end : EndsIn R (frames_in start) x (Stopped why) = subst (λ (t : List Frame). EndsIn R t x (Stopped why)) (append-nil (frames_in start)) ends in
     here_first R start (raw ∷ frames) rest why at_end.0
-    (wrong_raw R start x raw (joined frames ++ rest) why (sym (front_none x) ∙ (e ∙ joined-cons raw frames rest)) each.0 at_end.1)
+    (wrong_raw R start x raw (joined_parts frames ++ rest) why (sym (front_none x) ∙ (e ∙ joined-cons raw frames rest)) each.0 at_end.1)
 stops_from R start (f ∷ fs) x why [] rest e good ends each partial =
     absurd (no_raw_rest (frame_octets f) (frames_octets fs ++ x) (raw_of-frame f good.0.sized)
     (subst IsRest (sym (joined-nil rest) ∙ (sym e ∙ front_frame f fs x)) partial))
 stops_from R start (f ∷ fs) x why (raw ∷ frames) rest e good ends each partial =
     let gate : Gate = R.gate (frames_in start) in
-    let one = one_raw raw (frame_octets f) (joined frames ++ rest) (frames_octets fs ++ x) each.0 (raw_of-frame f good.0.sized)
+    let one = one_raw raw (frame_octets f) (joined_parts frames ++ rest) (frames_octets fs ++ x) each.0 (raw_of-frame f good.0.sized)
     (sym (joined-cons raw frames rest) ∙ (sym e ∙ front_frame f fs x)) in
     let named : frame_in raw ≡ Some f = ap frame_in one.0 ∙ frame_in-frame f in
     let fault : header_fault gate raw ≡ None = ap (header_fault gate) one.0 ∙ fault-from_let_in gate f good.0.sized good.0.let_in in
-    let passes : Passes R start raw = record { goes_on = good.0.goes_on; accepted = first_by_rules R (frames_in start) raw f fault named ∙ good.0.accepted } in
+    let passes : PassesFrame R start raw = record { goes_on = good.0.goes_on; accepted = first_by_rules R (frames_in start) raw f fault named ∙ good.0.accepted } in
     let pushed : frames_in (start ++ raw ∷ []) ≡ frames_in start ++ f ∷ [] = frames_in-push start raw f named in
     let good' : AllFrom (Fits R) (frames_in (start ++ raw ∷ [])) fs = subst (λ (t : List Frame). AllFrom (Fits R) t fs) (sym pushed) good.1 in
     let ends' : EndsIn R (frames_in (start ++ raw ∷ []) ++ fs) x (Stopped why) = subst (λ (t : List Frame). EndsIn R t x (Stopped why))
@@ -216,7 +216,7 @@ wrong_of_raw R before raw t why r first (Good good) =
       refused = sym (first_by_rules R before raw g.frame good (ap frame_in g.octets ∙ frame_in-frame g.frame)) ∙ first;
     })
 
-fits_of_raw : {E X : Type 0} (R : Rules E X) (start : List (List ℕ)) (raw : List ℕ) → IsRawFrame raw → Passes R start raw
+fits_of_raw : {E X : Type 0} (R : Rules E X) (start : List (List ℕ)) (raw : List ℕ) → IsRawFrame raw → PassesFrame R start raw
     → IsJudged (R.gate (frames_in start)) raw → (f : Frame) × (raw ≡ frame_octets f) × Fits R (frames_in start) f
 fits_of_raw {X = X} R start raw r passes (Bad fault code is code_is) =
     let c : ◌≡◌ {A = Option X} (Some (R.of_header code)) None =
@@ -228,9 +228,9 @@ fits_of_raw R start raw r passes (Good good) =
     sym (first_by_rules R (frames_in start) raw g.frame good (ap frame_in g.octets ∙ frame_in-frame g.frame)) ∙ passes.accepted in
     (g.frame, g.octets, record { goes_on = passes.goes_on; sized = g.sized; let_in = g.let_in; accepted = accepted })
 
-first_from : {E X : Type 0} (R : Rules E X) (start before behind : List (List ℕ)) (rest : List ℕ) (why : X) → AllFrom (Passes R) start before
+first_from : {E X : Type 0} (R : Rules E X) (start before behind : List (List ℕ)) (rest : List ℕ) (why : X) → AllFrom (PassesFrame R) start before
     → R.over (frames_in (start ++ before)) ≡ false → WrongNext R (start ++ before) behind rest why
-    → AllByRecursion IsRawFrame (before ++ behind) → StopsFrom R start (joined (before ++ behind) ++ rest) why
+    → AllByRecursion IsRawFrame (before ++ behind) → StopsFrom R start (joined_parts (before ++ behind) ++ rest) why
 first_from R start [] [] rest why good goes_on wrong each =
     let goes_on' : R.over (frames_in start) ≡ false = ap (λ (t : List (List ℕ)). R.over (frames_in t)) (sym (append-nil start)) ∙ goes_on in
     let wrong' : WrongNext R start [] rest why = subst (λ (t : List (List ℕ)). WrongNext R t [] rest why) (append-nil start) wrong in
@@ -243,8 +243,8 @@ first_from R start [] (raw ∷ behind) rest why good goes_on wrong each =
     let wrong' : WrongNext R start (raw ∷ behind) rest why = subst (λ (t : List (List ℕ)). WrongNext R t (raw ∷ behind) rest why) (append-nil start) wrong in
     let gate : Gate = R.gate (frames_in start) in
     subst (λ (t : List ℕ). StopsFrom R start t why) (sym (joined-cons raw behind rest))
-    (here_stops R start (raw ++ (joined behind ++ rest)) why goes_on'
-    (wrong_of_raw R (frames_in start) raw (joined behind ++ rest) why each.0 wrong' (judged_by gate raw (header_fault gate raw) refl)))
+    (here_stops R start (raw ++ (joined_parts behind ++ rest)) why goes_on'
+    (wrong_of_raw R (frames_in start) raw (joined_parts behind ++ rest) why each.0 wrong' (judged_by gate raw (header_fault gate raw) refl)))
 first_from R start (raw ∷ before) behind rest why good goes_on wrong each =
     let gate : Gate = R.gate (frames_in start) in
     let fits = fits_of_raw R start raw each.0 good.0 (judged_by gate raw (header_fault gate raw) refl) in
@@ -252,7 +252,7 @@ first_from R start (raw ∷ before) behind rest why good goes_on wrong each =
     let goes_on' : R.over (frames_in ((start ++ raw ∷ []) ++ before)) ≡ false = subst (λ (t : List (List ℕ)). R.over (frames_in t) ≡ false) assoc goes_on in
     let wrong' : WrongNext R ((start ++ raw ∷ []) ++ before) behind rest why = subst (λ (t : List (List ℕ)). WrongNext R t behind rest why) assoc wrong in
     subst (λ (t : List ℕ). StopsFrom R start t why) (sym (joined-cons raw (before ++ behind) rest))
-    (later_stops R start raw fits.0 (joined (before ++ behind) ++ rest) why fits.1 fits.2
+    (later_stops R start raw fits.0 (joined_parts (before ++ behind) ++ rest) why fits.1 fits.2
     (first_from R (start ++ raw ∷ []) before behind rest why good.1 goes_on' wrong' each.1))
 
 pub stop_of_first : {E X : Type 0} (R : Rules E X) (octets : List ℕ) (frames : List (List ℕ)) (rest : List ℕ) (why : X) → Frames octets frames rest
@@ -265,7 +265,7 @@ stop_of_first R octets frames rest why framed w =
       frames = s.frames;
       rest = s.rest;
       run = record {
-        whole = framed.whole ∙ (ap (λ (t : List (List ℕ)). joined t ++ rest) w.split ∙ s.whole);
+        whole = framed.whole ∙ (ap (λ (t : List (List ℕ)). joined_parts t ++ rest) w.split ∙ s.whole);
         good = subst (λ (t : List Frame). AllFrom (Fits R) t s.frames) frames_in-nil s.good;
         ends = subst (λ (t : List Frame). EndsIn R (t ++ s.frames) s.rest (Stopped why)) frames_in-nil s.ends;
       };

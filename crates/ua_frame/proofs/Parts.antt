@@ -14,7 +14,7 @@ use Rattle.ua_frame.specs.declared.kind.Kind.TheVariants as kind
 use Rattle.ua_frame.specs.Kinds.{least_size, has_flag, lets_in}
 use Rattle.ua_frame.specs.Frames.{frame_octets, IsSized, kind_of, flag_of, size_of, header_fault, IsPartial}
 use Rattle.ua_frame.specs.declared.unfinished.Unfinished.{Unfinished}
-use Rattle.ua_frame.specs.Unfinished.{octets_of, IsKept, Completes, Fails, Makes}
+use Rattle.ua_frame.specs.Unfinished.{octets_of, IsIncompleteFrame, Completes, Fails, Makes}
 use Rattle.ua_frame.proofs.Fronts.{fault_by, fault_front, size_front, by_tests, let_in-from_fault}
 
 -- ---- a good header names a kind, and a size above a header's
@@ -165,14 +165,14 @@ good_size : (gate : Gate) (h : List ℕ) → header_fault gate h ≡ None → si
 unfolding header_fault
 good_size gate h e = size_within gate (kind_of h) (flag_of h) (size_of h) e
 
-kept_by : (u : Unfinished) → IsKept u → ((u.have < 8) ⊎ (8 ≤ u.have)) → length (octets_of u) < max 8 u.gate.largest
+kept_by : (u : Unfinished) → IsIncompleteFrame u → ((u.have < 8) ⊎ (8 ≤ u.have)) → length (octets_of u) < max 8 u.gate.largest
 kept_by u k (inl less) = omega (arith, length-append (take u.have u.header) u.body.items, ap length (k.short less), length-take u.have u.header, k.eight)
 kept_by u k (inr whole) =
     let is : u.have ≡ 8 = omega (arith, k.fits, whole) in
     omega (arith, length-append (take u.have u.header) u.body.items, length-take u.have u.header, k.eight, k.part is, good_size u.gate u.header (k.good is))
 
-pub kept_below : (u : Unfinished) → IsKept u → length (octets_of u) < max 8 u.gate.largest
+pub kept_below : (u : Unfinished) → IsIncompleteFrame u → length (octets_of u) < max 8 u.gate.largest
 kept_below u k = kept_by u k (cases_lt u.have 8)
 
-pub held_below : (u : Unfinished) (gate : Gate) (n : ℕ) → IsKept u → u.gate ≡ gate → n ≡ length (octets_of u) → n < max 8 gate.largest
+pub held_below : (u : Unfinished) (gate : Gate) (n : ℕ) → IsIncompleteFrame u → u.gate ≡ gate → n ≡ length (octets_of u) → n < max 8 gate.largest
 held_below u gate n k same count = omega (arith, kept_below u k, ap (λ (g : Gate). g.largest) same, count)

@@ -6,8 +6,8 @@ use Rattle.std.proofs.lemmas.List.{take_at, append_cancel_left, flat_map_more, l
 use Rattle.ua_frame.specs.declared.frame.Frame.{Frame}
 use Rattle.ua_frame.specs.declared.gate.Gate.{Gate}
 use Rattle.ua_frame.specs.declared.kind.Kind.{Kind}
-use Rattle.ua_frame.specs.FirstWrong.{frame_named, frame_in, listed, frames_in}
-use Rattle.ua_frame.specs.Frames.{frame_octets, IsSized, LetsIn, kind_of, flag_of, size_of, header_fault, IsRawFrame, IsRest, Frames, joined}
+use Rattle.ua_frame.specs.FirstWrong.{frame_named, frame_in, listed_frame, frames_in}
+use Rattle.ua_frame.specs.Frames.{frame_octets, IsSized, LetsIn, kind_of, flag_of, size_of, header_fault, IsRawFrame, IsRest, Frames, joined_parts}
 use Rattle.ua_frame.proofs.Fronts.{size_front, fault_front, length-frame_octets, size_of-frame}
 use Rattle.ua_frame.proofs.Fronts.{kind_of-frame, flag_of-frame, let_in-from_fault, frame_by, header_frame}
 use Rattle.ua_frame.proofs.Parts.{good_header}
@@ -29,21 +29,21 @@ no_raw_rest a x h (inl short) = omega (arith, h.header, length-append a x)
 no_raw_rest a x h (inr (inl small)) = omega (arith, h.header, size_raw a x h)
 no_raw_rest a x h (inr (inr less)) = omega (arith, size_raw a x h, length-append a x)
 
-pub joined-cons : (a : List ℕ) (fs : List (List ℕ)) (x : List ℕ) → joined (a ∷ fs) ++ x ≡ a ++ (joined fs ++ x)
-unfolding joined
-joined-cons a fs x = append_assoc a (joined fs) x
+pub joined-cons : (a : List ℕ) (fs : List (List ℕ)) (x : List ℕ) → joined_parts (a ∷ fs) ++ x ≡ a ++ (joined_parts fs ++ x)
+unfolding joined_parts
+joined-cons a fs x = append_assoc a (joined_parts fs) x
 
-pub joined-nil : (x : List ℕ) → joined [] ++ x ≡ x
-unfolding joined
+pub joined-nil : (x : List ℕ) → joined_parts [] ++ x ≡ x
+unfolding joined_parts
 joined-nil x = refl
 
-frames_same : (fs gs : List (List ℕ)) (x y : List ℕ) → joined fs ++ x ≡ joined gs ++ y → AllByRecursion IsRawFrame fs → AllByRecursion IsRawFrame gs → IsRest x
+frames_same : (fs gs : List (List ℕ)) (x y : List ℕ) → joined_parts fs ++ x ≡ joined_parts gs ++ y → AllByRecursion IsRawFrame fs → AllByRecursion IsRawFrame gs → IsRest x
     → IsRest y → (fs ≡ gs) × (x ≡ y)
 frames_same [] [] x y e p q r s = (refl, sym (joined-nil x) ∙ (e ∙ joined-nil y))
-frames_same [] (b ∷ gs) x y e p q r s = absurd (no_raw_rest b (joined gs ++ y) q.0 (subst IsRest (sym (joined-nil x) ∙ (e ∙ joined-cons b gs y)) r))
-frames_same (a ∷ fs) [] x y e p q r s = absurd (no_raw_rest a (joined fs ++ x) p.0 (subst IsRest (sym (joined-nil y) ∙ (sym e ∙ joined-cons a fs x)) s))
+frames_same [] (b ∷ gs) x y e p q r s = absurd (no_raw_rest b (joined_parts gs ++ y) q.0 (subst IsRest (sym (joined-nil x) ∙ (e ∙ joined-cons b gs y)) r))
+frames_same (a ∷ fs) [] x y e p q r s = absurd (no_raw_rest a (joined_parts fs ++ x) p.0 (subst IsRest (sym (joined-nil y) ∙ (sym e ∙ joined-cons a fs x)) s))
 frames_same (a ∷ fs) (b ∷ gs) x y e p q r s =
-    let one = one_raw a b (joined fs ++ x) (joined gs ++ y) p.0 q.0 (sym (joined-cons a fs x) ∙ (e ∙ joined-cons b gs y)) in
+    let one = one_raw a b (joined_parts fs ++ x) (joined_parts gs ++ y) p.0 q.0 (sym (joined-cons a fs x) ∙ (e ∙ joined-cons b gs y)) in
     let same = frames_same fs gs x y one.1 p.1 q.1 r s in
     (ap (λ (t : List ℕ). t ∷ fs) one.0 ∙ ap (λ (t : List (List ℕ)). b ∷ t) same.0, same.1)
 
@@ -72,8 +72,8 @@ frame_in-frame f = named_at (kind_of (frame_octets f)) f.kind (frame_octets f) (
 pub frames_in-push : (start : List (List ℕ)) (raw : List ℕ) (f : Frame) → frame_in raw ≡ Some f → frames_in (start ++ raw ∷ []) ≡ frames_in start ++ f ∷ []
 unfolding frames_in
 frames_in-push start raw f e =
-    sym (flat_map_more (λ (t : List ℕ). listed (frame_in t)) [] start raw)
-    ∙ ap (λ (o : Option Frame). flat_map (λ (t : List ℕ). listed (frame_in t)) start ++ listed o) e
+    sym (flat_map_more (λ (t : List ℕ). listed_frame (frame_in t)) [] start raw)
+    ∙ ap (λ (o : Option Frame). flat_map (λ (t : List ℕ). listed_frame (frame_in t)) start ++ listed_frame o) e
 
 -- octets that are a frame, with a good header
 pub record IsGood (gate : Gate) (raw : List ℕ) : Type 0 where

@@ -11,7 +11,7 @@ use Rattle.ua_builtin.specs.Reasons.{first_reason}
 use Rattle.ua_frame.specs.Frames.{kind_of, flag_of, size_of, header_fault, header_code, is_unknown, is_out_of_place, is_too_small}
 use Rattle.std.specs.Prelude.{nat_lt}
 use Rattle.ua_frame.specs.Run.{Run, Going}
-use Rattle.ua_frame.specs.Reader.{Reader, open_reader, Refuses, Starves, Takes, gate_rules, StandsAfter, RefusedAfter, Answers}
+use Rattle.ua_frame.specs.Reader.{Reader, open_reader, Refuses, Starves, Takes, gate_rules, StandsAfter, RefusedAfter, AnswersFragment}
 use Rattle.ua_frame.specs.Unfinished.{octets_of, Fails, Makes}
 use Rattle.ua_frame.proofs.Streams.{run_frame, run_part, run_header}
 
@@ -114,7 +114,7 @@ refused_at old new piece octets frames fault code s r code_is = record {
 }
 
 pub answers_by : (old new : Reader) (piece : List ℕ) (answer : Result (ℕ × Option Frame) FrameFault) (octets : List ℕ) (frames : List Frame)
-    → Takes old piece answer new → StandsAfter old octets frames → Answers old piece answer new octets frames
+    → Takes old piece answer new → StandsAfter old octets frames → AnswersFragment old piece answer new octets frames
 answers_by old new piece (Ok (n, None)) octets frames t s = (
   t.all,
   stands_at new old.gate (old.held ++ piece) (octets ++ piece) frames t.new_is

@@ -5,17 +5,17 @@ use Rattle.std.specs.List.{AllByRecursion}
 use Rattle.ua_frame.specs.declared.frame.Frame.{Frame}
 use Rattle.ua_frame.specs.declared.gate.Gate.{Gate}
 use Rattle.ua_frame.specs.After.{AllFrom, AllAfter}
-use Rattle.ua_frame.specs.Frames.{frame_octets, frames_octets, IsRawFrame, IsPartial, IsRest, Frames, joined}
+use Rattle.ua_frame.specs.Frames.{frame_octets, frames_octets, IsRawFrame, IsPartial, IsRest, Frames, joined_parts}
 use Rattle.ua_frame.specs.Laws.{BeginWith}
 use Rattle.ua_frame.specs.Run.{Rules, Fits, End, Going, Run}
 use Rattle.ua_frame.proofs.RawFrames.{joined-cons, joined-nil, one_framing, raw_of-frame}
 use Rattle.ua_frame.proofs.Readings.{framing}
 use Rattle.ua_frame.proofs.Unique.{front_frame, front_none}
 
-joined_of : (fs : List Frame) (gs : List (List ℕ)) (x : List ℕ) → frames_octets fs ++ (joined gs ++ x) ≡ joined (map frame_octets fs ++ gs) ++ x
-joined_of [] gs x = front_none (joined gs ++ x)
+joined_of : (fs : List Frame) (gs : List (List ℕ)) (x : List ℕ) → frames_octets fs ++ (joined_parts gs ++ x) ≡ joined_parts (map frame_octets fs ++ gs) ++ x
+joined_of [] gs x = front_none (joined_parts gs ++ x)
 joined_of (f ∷ fs) gs x =
-    front_frame f fs (joined gs ++ x)
+    front_frame f fs (joined_parts gs ++ x)
     ∙ (ap (λ (t : List ℕ). frame_octets f ++ t) (joined_of fs gs x) ∙ sym (joined-cons (frame_octets f) (map frame_octets fs ++ gs) x))
 
 each_of : {E X : Type 0} (R : Rules E X) (start fs : List Frame) (gs : List (List ℕ)) → AllFrom (Fits R) start fs → AllByRecursion IsRawFrame gs

@@ -3,7 +3,7 @@ use Rattle.std.proofs.Common.{◌≡◌, ℕ, ◌≤◌, List, [], ◌∷◌, Op
 use Rattle.ua_wire.specs.Exact.{Exact}
 use Rattle.ua_wire.specs.Format.{Flat, Format, flat, most_levels, Within, IsSound, IsLawful, IsWhole}
 use Rattle.ua_wire.proofs.Readers.{some_is}
-use Rattle.ua_frame.specs.Whole.{if_nothing_left, whole_of, body_of}
+use Rattle.ua_frame.specs.Whole.{if_nothing_left, whole_of, decoded_whole}
 
 -- ---- by an exact reader
 
@@ -45,20 +45,20 @@ whole_read f sound octets (Some v) h = whole_encodes f sound octets v h.0
 
 -- what the octets encode, within the levels that are read, is the body that they are
 pub body_encodes : {A : Type 0} (f : Format A) → IsLawful f → (octets : List ℕ) (v : A) → f.depth v ≤ most_levels → f.encodes v octets
-    → body_of f octets ≡ Some v
-unfolding body_of
+    → decoded_whole f octets ≡ Some v
+unfolding decoded_whole
 body_encodes f lawful octets v within h = all_read (Within f.encodes f.depth most_levels) (f.decode most_levels) (lawful.exact most_levels) octets v (h, within)
 
-pub encodes_body : {A : Type 0} (f : Format A) → IsLawful f → (octets : List ℕ) (v : A) → body_of f octets ≡ Some v
+pub encodes_body : {A : Type 0} (f : Format A) → IsLawful f → (octets : List ℕ) (v : A) → decoded_whole f octets ≡ Some v
     → f.encodes v octets × (f.depth v ≤ most_levels)
-unfolding body_of
+unfolding decoded_whole
 encodes_body f lawful octets v h = found_all (Within f.encodes f.depth most_levels) (f.decode most_levels) (lawful.exact most_levels) octets v
     (f.decode most_levels octets) refl h
 
-no_body : {A : Type 0} (f : Format A) → IsLawful f → (octets : List ℕ) → IsWhole f octets None → (o : Option A) → body_of f octets ≡ o → body_of f octets ≡ None
+no_body : {A : Type 0} (f : Format A) → IsLawful f → (octets : List ℕ) → IsWhole f octets None → (o : Option A) → decoded_whole f octets ≡ o → decoded_whole f octets ≡ None
 no_body f lawful octets h None e = e
 no_body f lawful octets h (Some v) e = let b = encodes_body f lawful octets v e in absurd (h v b.1 b.0)
 
 -- that no value is the whole of the octets, as a reader of bodies says it
-pub body_none : {A : Type 0} (f : Format A) → IsLawful f → (octets : List ℕ) → IsWhole f octets None → body_of f octets ≡ None
-body_none f lawful octets h = no_body f lawful octets h (body_of f octets) refl
+pub body_none : {A : Type 0} (f : Format A) → IsLawful f → (octets : List ℕ) → IsWhole f octets None → decoded_whole f octets ≡ None
+body_none f lawful octets h = no_body f lawful octets h (decoded_whole f octets) refl

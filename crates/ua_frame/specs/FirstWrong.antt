@@ -22,13 +22,13 @@ abbrev pub frame_in : List ℕ → Option Frame
 frame_in octets = frame_named (kind_of octets) octets
 
 -- the frame, if there is one
-abbrev pub listed : Option Frame → List Frame
-listed None = []
-listed (Some f) = f ∷ []
+abbrev pub listed_frame : Option Frame → List Frame
+listed_frame None = []
+listed_frame (Some f) = f ∷ []
 
 -- the frames that pieces of bytes are, one frame each
 unfoldable pub frames_in : List (List ℕ) → List Frame
-frames_in raws = flat_map (λ raw. listed (frame_in raw)) raws
+frames_in raws = flat_map (λ raw. listed_frame (frame_in raw)) raws
 
 -- the StatusCode of what is wrong with a header under this frame filter
 abbrev pub header_refusal : Gate → List ℕ → Option ℕ
@@ -44,7 +44,7 @@ abbrev pub first_refusal : {E X : Type 0} → Rules E X → List Frame → List 
 first_refusal R before octets = or_else (header_why R before octets) (option_and_then (refusal R before) (frame_in octets))
 
 -- bytes that are a frame have no reason against them after those before, and those aren't the last
-pub record Passes {E X : Type 0} (R : Rules E X) (before : List (List ℕ)) (octets : List ℕ) : Type 0 where
+pub record PassesFrame {E X : Type 0} (R : Rules E X) (before : List (List ℕ)) (octets : List ℕ) : Type 0 where
   pub goes_on : R.over (frames_in before) ≡ false
   pub accepted : first_refusal R (frames_in before) octets ≡ None
 
@@ -58,7 +58,7 @@ pub record FirstFrom {E X : Type 0} (R : Rules E X) (start frames : List (List �
   pub before : List (List ℕ)
   pub behind : List (List ℕ)
   pub split : frames ≡ before ++ behind
-  pub good : AllFrom (Passes R) start before
+  pub good : AllFrom (PassesFrame R) start before
   pub goes_on : R.over (frames_in (start ++ before)) ≡ false
   pub wrong : WrongNext R (start ++ before) behind rest why
 

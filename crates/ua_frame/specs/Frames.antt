@@ -127,11 +127,11 @@ abbrev pub IsRest : List ℕ → Type 0
 IsRest rest = (length rest < 8) ⊎ ((size_of rest < 8) ⊎ (length rest < size_of rest))
 
 -- bytes, joined
-unfoldable pub joined : List (List ℕ) → List ℕ
-joined parts = flat_map (λ (part : List ℕ). part) parts
+unfoldable pub joined_parts : List (List ℕ) → List ℕ
+joined_parts parts = flat_map (λ (part : List ℕ). part) parts
 
 -- the bytes are these frames, joined, and then less than a frame (OPC 10000-6, 7.1)
 pub record Frames (octets : List ℕ) (frames : List (List ℕ)) (rest : List ℕ) : Type 0 where
-  pub whole : octets ≡ joined frames ++ rest
+  pub whole : octets ≡ joined_parts frames ++ rest
   pub each : AllByRecursion IsRawFrame frames
   pub partial : IsRest rest

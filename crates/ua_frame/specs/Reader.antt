@@ -84,12 +84,12 @@ pub record RefusedAfter (gate : Gate) (fault : FrameFault) (octets : List ℕ) (
   pub run : Run (gate_rules gate) octets frames rest (Stopped code)
 
 -- the outcome for a fragment of a reader in the state after these bytes, and its state then
-abbrev pub Answers : Reader → List ℕ → Result (ℕ × Option Frame) FrameFault → Reader → List ℕ → List Frame → Type 0
-Answers old piece (Ok (n, None)) new octets frames = (n ≡ length piece) × StandsAfter new (octets ++ piece) frames
-Answers old piece (Ok (n, Some f)) new octets frames = (n ≤ length piece) × StandsAfter new (octets ++ take n piece) (frames ++ f ∷ [])
-Answers old piece (Err UnknownType) new octets frames = RefusedAfter old.gate UnknownType (octets ++ piece) frames
-Answers old piece (Err OutOfPlace) new octets frames = RefusedAfter old.gate OutOfPlace (octets ++ piece) frames
-Answers old piece (Err TooLarge) new octets frames = RefusedAfter old.gate TooLarge (octets ++ piece) frames
-Answers old piece (Err TooSmall) new octets frames = RefusedAfter old.gate TooSmall (octets ++ piece) frames
-Answers old piece (Err OutOfMemory) new octets frames = Unit {0}
-Answers old piece (Err Closed) new octets frames = ⊥
+abbrev pub AnswersFragment : Reader → List ℕ → Result (ℕ × Option Frame) FrameFault → Reader → List ℕ → List Frame → Type 0
+AnswersFragment old piece (Ok (n, None)) new octets frames = (n ≡ length piece) × StandsAfter new (octets ++ piece) frames
+AnswersFragment old piece (Ok (n, Some f)) new octets frames = (n ≤ length piece) × StandsAfter new (octets ++ take n piece) (frames ++ f ∷ [])
+AnswersFragment old piece (Err UnknownType) new octets frames = RefusedAfter old.gate UnknownType (octets ++ piece) frames
+AnswersFragment old piece (Err OutOfPlace) new octets frames = RefusedAfter old.gate OutOfPlace (octets ++ piece) frames
+AnswersFragment old piece (Err TooLarge) new octets frames = RefusedAfter old.gate TooLarge (octets ++ piece) frames
+AnswersFragment old piece (Err TooSmall) new octets frames = RefusedAfter old.gate TooSmall (octets ++ piece) frames
+AnswersFragment old piece (Err OutOfMemory) new octets frames = Unit {0}
+AnswersFragment old piece (Err Closed) new octets frames = ⊥

@@ -12,7 +12,7 @@ abbrev pub octets_of : Unfinished → List ℕ
 octets_of u = take u.have u.header ++ u.body.items
 
 -- nothing follows an incomplete header; a complete one is good, and its frame is incomplete
-pub record IsKept (u : Unfinished) : Type 0 where
+pub record IsIncompleteFrame (u : Unfinished) : Type 0 where
   pub eight : length u.header ≡ 8
   pub fits : u.have ≤ 8
   pub short : u.have < 8 → u.body.items ≡ []

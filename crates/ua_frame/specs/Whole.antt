@@ -14,5 +14,5 @@ whole_of f octets = if_nothing_left (f.decode octets)
 
 -- the value with at most the greatest nesting depth whose encoding is the whole of the bytes, if
 -- there is one: 01 alone is a Boolean, and 01 00 is none
-unfoldable pub body_of : {A : Type 0} → Format A → List ℕ → Option A
-body_of f octets = if_nothing_left (f.decode most_levels octets)
+unfoldable pub decoded_whole : {A : Type 0} → Format A → List ℕ → Option A
+decoded_whole f octets = if_nothing_left (f.decode most_levels octets)

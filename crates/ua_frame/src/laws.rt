@@ -6,7 +6,7 @@ ghost use Rattle.ua_frame.specs.Laws.{HasReadings, HasOneReading, HaveFrames, Fr
 ghost use Rattle.ua_frame.specs.Laws.{ReadsFirstFrames, ReadsAllFrames, StopsAtFirstWrong};
 ghost use Rattle.ua_frame.specs.Laws.{EndsStay, ReadsAlike, EndsAlike, ReadsByOtherNames};
 ghost use Rattle.ua_frame.specs.Run.{Rules};
-ghost use Rattle.ua_frame.specs.Whole.{body_of};
+ghost use Rattle.ua_frame.specs.Whole.{decoded_whole};
 
 use ua_builtin::Wire;
 
@@ -68,7 +68,7 @@ pub fn renamed_rules<E, X, Y>()
 /// the nesting depth of the value is at most the maximum.
 pub fn one_body<T: Wire>()
     ensures { (octets : List ℕ) (v : T)
-        → (body_of T.format octets ≡ Some v) ↔ (T.format.encodes v octets × (T.format.depth v ≤ most_levels)) }
+        → (decoded_whole T.format octets ≡ Some v) ↔ (T.format.encodes v octets × (T.format.depth v ≤ most_levels)) }
 {
     T::lawful();
 }

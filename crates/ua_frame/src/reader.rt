@@ -2,7 +2,7 @@
 
 ghost use Rattle.std.specs.Prelude.{◌≡◌, ◌<◌, [], ℕ, List, length, max};
 ghost use Rattle.ua_frame.specs.declared.frame.Frame.{Frame};
-ghost use Rattle.ua_frame.specs.Reader.{Reader, open_reader, failed_reader, Takes, StandsAfter, Answers};
+ghost use Rattle.ua_frame.specs.Reader.{Reader, open_reader, failed_reader, Takes, StandsAfter, AnswersFragment};
 
 use crate::fault::FrameFault;
 use crate::frame::Frame;
@@ -24,11 +24,11 @@ impl Model for FrameReader {
 
     ghost Value = { Reader };
 
-    ghost use Rattle.ua_frame.specs.Unfinished.{octets_of, IsKept};
+    ghost use Rattle.ua_frame.specs.Unfinished.{octets_of, IsIncompleteFrame};
 
     ghost view = { λ r. record { gate = r.unfinished.gate; held = octets_of r.unfinished; failed = r.failed } };
 
-    ghost invariant = { λ r. IsKept r.unfinished };
+    ghost invariant = { λ r. IsIncompleteFrame r.unfinished };
 }
 
 impl FrameReader {
@@ -89,7 +89,7 @@ impl FrameReader {
     pub fn take(&mut self, piece: &[u8]) -> Result<(usize, Option<Frame>), FrameFault>
         ensures takes { Takes self.old piece.now result self.new }
         ensures stands { (octets : List ℕ) (frames : List Frame) → StandsAfter self.old octets frames
-            → Answers self.old piece.now result self.new octets frames }
+            → AnswersFragment self.old piece.now result self.new octets frames }
     {
         self.advance(piece)
     }

@@ -1,7 +1,7 @@
 //! An incomplete frame.
 
 ghost use Rattle.std.specs.Prelude.{◌≡◌, ◌≤◌, ◌<◌, ◌+◌, ◌-◌, ◌++◌, [], IfOk, length, min, take};
-ghost use Rattle.ua_frame.specs.Unfinished.{octets_of, IsKept, Makes};
+ghost use Rattle.ua_frame.specs.Unfinished.{octets_of, IsIncompleteFrame, Makes};
 
 use crate::fault::FrameFault;
 use crate::frame::Frame;
@@ -56,7 +56,7 @@ impl Unfinished {
     pub fn new(alloc: Global, gate: Gate) -> Unfinished
         ensures gate { result.gate ≡ gate }
         ensures none { octets_of result ≡ [] }
-        ensures kept { IsKept result }
+        ensures kept { IsIncompleteFrame result }
     {
         Unfinished {
             gate,
@@ -69,7 +69,7 @@ impl Unfinished {
     /// The number of bytes that have arrived.
     #[inline]
     pub fn len(&self) -> usize
-        requires { IsKept self.now }
+        requires { IsIncompleteFrame self.now }
         ensures { result ≡ length (octets_of self.now) }
     {
         self.have + self.body.len()
@@ -78,10 +78,10 @@ impl Unfinished {
     /// Takes bytes after a complete header.
     #[inline(always)]
     fn go_on(&mut self, alloc: Global, piece: &[u8]) -> Result<(usize, Option<Frame>), FrameFault>
-        requires kept { IsKept self.old }
+        requires kept { IsIncompleteFrame self.old }
         requires header { self.old.have ≡ 8 }
         ensures makes { Makes self.old.gate (octets_of self.old) piece.now result (octets_of self.new) }
-        ensures kept { IsKept self.new }
+        ensures kept { IsIncompleteFrame self.new }
         ensures gate { self.new.gate ≡ self.old.gate }
     {
         let len = header::read_size(&self.header) as usize - HEADER_LEN;
@@ -103,10 +103,10 @@ impl Unfinished {
     /// Takes bytes of an incomplete header, and those after it.
     #[inline(always)]
     fn begin(&mut self, alloc: Global, piece: &[u8]) -> Result<(usize, Option<Frame>), FrameFault>
-        requires kept { IsKept self.old }
+        requires kept { IsIncompleteFrame self.old }
         requires header { self.old.have < 8 }
         ensures makes { Makes self.old.gate (octets_of self.old) piece.now result (octets_of self.new) }
-        ensures kept { IsKept self.new }
+        ensures kept { IsIncompleteFrame self.new }
         ensures gate { self.new.gate ≡ self.old.gate }
     {
         let n = fill(&mut self.header, self.have, piece);
@@ -129,9 +129,9 @@ impl Unfinished {
         alloc: Global,
         piece: &[u8],
     ) -> Result<(usize, Option<Frame>), FrameFault>
-        requires kept { IsKept self.old }
+        requires kept { IsIncompleteFrame self.old }
         ensures makes { Makes self.old.gate (octets_of self.old) piece.now result (octets_of self.new) }
-        ensures kept { IsKept self.new }
+        ensures kept { IsIncompleteFrame self.new }
         ensures gate { self.new.gate ≡ self.old.gate }
     {
         if self.have == HEADER_LEN {

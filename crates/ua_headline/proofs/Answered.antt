@@ -24,7 +24,7 @@ use Rattle.ua_services.proofs.NoneEmpty.{response_takes_some}
 use Rattle.ua_services.specs.Response.{response}
 use Rattle.ua_services.specs.declared.response.Response.{Response}
 use Rattle.ua_server.specs.Reply.{answered}
-use Rattle.ua_server.specs.Said.{behind_first, first_of}
+use Rattle.ua_server.specs.Said.{behind_first, first_time}
 use Rattle.ua_server.specs.State.{State}
 use Rattle.ua_headline.specs.Talk.{answers_to, left_by}
 
@@ -34,7 +34,7 @@ use Rattle.ua_headline.specs.Talk.{answers_to, left_by}
 abbrev pub AreDated : List DateTime → Type 0
 AreDated times = AllByRecursion (λ (time : DateTime). IsTrue (date_time.encodable time)) times
 
-pub dated_first : (times : List DateTime) → AreDated times → IsTrue (date_time.encodable (first_of times))
+pub dated_first : (times : List DateTime) → AreDated times → IsTrue (date_time.encodable (first_time times))
 unfolding date_time
 dated_first [] d = refl
 dated_first (time ∷ times) d = d.0
@@ -45,7 +45,7 @@ dated_behind (time ∷ times) d = d.1
 
 pub dated_left : (s : State) (times : List DateTime) (os : List Outgoing) → AreDated times → AreDated (left_by s times os).1
 dated_left s times [] d = d
-dated_left s times (CallWith body ∷ os) d = dated_left (answered s (first_of times) body).0 (behind_first times) os (dated_behind times d)
+dated_left s times (CallWith body ∷ os) d = dated_left (answered s (first_time times) body).0 (behind_first times) os (dated_behind times d)
 dated_left s times (RenewalAt time ∷ os) d = dated_left s (behind_first times) os (dated_behind times d)
 
 -- ---- what a client that refuses nothing asks
@@ -208,7 +208,7 @@ pub can_answer : (lane : Lane) (c : AtClient) (s : State) (times : List DateTime
     → CanAnswer lane c (answers_to s times issued id os) (issued_behind issued os)
 can_answer lane c s times issued id [] w d = record { may = tt; none_pending = w.calls; none_waits = w.renewals; below = w.below }
 can_answer lane c s times issued id (CallWith body ∷ os) w d =
-    let given : State × Response = answered s (first_of times) body in
+    let given : State × Response = answered s (first_time times) body in
     let reply : List ℕ = response.canonical given.1 in
     let rest = can_answer lane (client_answered lane c (ReplyTo id reply)) given.0 (behind_first times) issued (id + 1) os
     (record {
@@ -227,7 +227,7 @@ can_answer lane c s times issued id (CallWith body ∷ os) w d =
       below = rest.below;
     }
 can_answer lane c s times issued id (RenewalAt time ∷ os) w d =
-    let rest = can_answer lane (client_answered lane c (TokenFor id 0 (issued + 1) token_lifetime (first_of times))) s (behind_first times) (issued + 1)
+    let rest = can_answer lane (client_answered lane c (TokenFor id 0 (issued + 1) token_lifetime (first_time times))) s (behind_first times) (issued + 1)
     (id + 1) os
     (record {
       calls = w.calls;
@@ -263,7 +263,7 @@ can_answer lane c s times issued id (RenewalAt time ∷ os) w d =
 pub brings : (n : ℕ) (s : State) (times : List DateTime) (issued id : ℕ) (os : List Outgoing) → n ≡ issued_behind issued os → HasOneRenewal id os
     → AllByRecursion (BringsToken n) (answers_to s times issued id os)
 brings n s times issued id [] e one = tt
-brings n s times issued id (CallWith body ∷ os) e one = (tt, brings n (answered s (first_of times) body).0 (behind_first times) issued (id + 1) os e one)
+brings n s times issued id (CallWith body ∷ os) e one = (tt, brings n (answered s (first_time times) body).0 (behind_first times) issued (id + 1) os e one)
 brings n s times issued id (RenewalAt time ∷ os) e one =
     (sym (e ∙ none_issued (issued + 1) (id + 1) os one.0), brings n s (behind_first times) (issued + 1) (id + 1) os e one.1)
   where

@@ -20,13 +20,13 @@ use Rattle.ua_channel_laws.specs.Answers.{answers_told}
 use Rattle.ua_channel_laws.specs.ClientReads.{IsAnswered}
 use Rattle.ua_channel_laws.specs.Outgoing.{Outgoing, asks_at}
 use Rattle.ua_channel_laws.specs.Rounds.{BothEnds, round_behind, round_down, round_up, rounds_asks, rounds_up, answers_lane, rounds_heard}
-use Rattle.ua_server.specs.Said.{behind_first, first_of, output_of}
+use Rattle.ua_server.specs.Said.{behind_first, first_time, output_of}
 use Rattle.ua_server.specs.State.{State}
 use Rattle.ua_client.specs.ClientPlace.{ClientPlace}
-use Rattle.ua_headline.specs.Clients.{Deed, Did, DidSoFar, IsAnsweredAt, IsLinked, IsDoing, octets_at, turn_of, turns_of}
+use Rattle.ua_headline.specs.Clients.{Deed, Did, DidSoFar, IsAnsweredAt, IsLinked, IsDoing, deed_octets, turn_of, turns_of}
 use Rattle.ua_headline.specs.Clients.Deed.{Calls, Renews}
-use Rattle.ua_headline.specs.Talk.{AreAccepted, CanOpen, Ends, GotOf, IsPrefix, TookOf, asks_in, both_opened}
-use Rattle.ua_headline.specs.Talk.{left_by, opening_answer, rounds_from, rounds_in, answers_to, heard_in}
+use Rattle.ua_headline.specs.Talk.{AreRoundsAccepted, CanOpen, Ends, GotOf, IsPrefix, TookOf, asks_in, both_opened}
+use Rattle.ua_headline.specs.Talk.{left_by, opening_answer_of_ends, rounds_from, rounds_in, answers_to, heard_in}
 use Rattle.ua_headline.proofs.Answered.{dated_behind, dated_first}
 use Rattle.ua_headline.proofs.Fronts.{behind_both, prefix_of_prefix}
 use Rattle.ua_headline.proofs.Heards.{opened_tells}
@@ -52,7 +52,7 @@ did_more limits m (d ∷ deeds) t sent (a, (next, more, answered, is, rest)) = p
 -- from where both are, this was accepted, sent and asked
 pub record AreTurns (e : Ends) (at : BothEnds) (s : State) (times : List DateTime) (asks : List Placed) (down : List ℕ) (hs : List ClientTold)
     (deeds : List Deed) (t : ClientPlace) (turns : List (List Outgoing)) (asked : List Placed) (sent : List ℕ) : Type 0 where
-  pub accepted : AreAccepted e at (rounds_from e at s times turns)
+  pub accepted : AreRoundsAccepted e at (rounds_from e at s times turns)
   pub sent_is : IsPrefix sent (rounds_up e.server e.channel at (rounds_from e at s times turns))
   pub asks_are : asked ≡ asks ++ rounds_asks e.server e.channel (length down) at (rounds_from e at s times turns)
   -- and behind what was answered of it the client was told just the answers
@@ -103,7 +103,7 @@ module _ (e : Ends) (on : e.channel < 2 ^ 32) (x : ServerChannel) (limits_are : 
       let back : List ℕ = round_down e.server e.channel at r in
       let mine : List Placed = asks_at (length down) at.id (turn_of d) in
       let hear = here_now e on at s times up ts asks down hs h m here d a in
-      let sent_here : octets_at m d ≡ out = deed_sent e on at s times up ts asks down hs h m here d in
+      let sent_here : deed_octets m d ≡ out = deed_sent e on at s times up ts asks down hs h m here d in
       let whole : up ++ done ≡ (up ++ out) ++ more = ap (λ (o : List ℕ). up ++ o) (is ∙ ap (λ (o : List ℕ). o ++ more) sent_here)
       ∙ sym (append_assoc up out more) in
       let up_then : IsPrefix ((up ++ out) ++ more) all = (u.0, u.1 ∙ ap (λ (o : List ℕ). o ++ u.0) whole) in
@@ -144,7 +144,7 @@ module _ (connect : EndsConnect) (e : Ends) (can : CanOpen e) (x : ServerChannel
     (took : List ℕ) (told : List Told) (g : Goes x took told)
     (deeds : List Deed) (now : Option Deed) (asks : List Placed) (got sent : List ℕ) (d : DidSoFar e deeds now asks got sent) (took_is : IsPrefix took sent)
     (got_is : IsPrefix got (output_of e.channel e.first told Going e.times)) where
-  answer_fits : IsAnswered e.channel 1 1 0 1 3600000 (first_of e.times)
+  answer_fits : IsAnswered e.channel 1 1 0 1 3600000 (first_time e.times)
   answer_fits = record {
     channel_small = can.channel_fits;
     number_small = omega arith;
@@ -161,9 +161,9 @@ module _ (connect : EndsConnect) (e : Ends) (can : CanOpen e) (x : ServerChannel
   abbrev heard_first : List ClientTold
   heard_first = heard.Agreed (ack_to (hello_to e.client e.url) e.server) ∷ (heard.Opened e.channel 1 ∷ [])
 
-  here_first : AreHere e (both_opened e) e.first (behind_first e.times) up_first (told_first e) [] (opening_answer e) heard_first
+  here_first : AreHere e (both_opened e) e.first (behind_first e.times) up_first (told_first e) [] (opening_answer_of_ends e) heard_first
   here_first = record {
-    connected = connect e.server e.client e.url e.channel 3600000 e.opened (first_of e.times) can.hello_fits can.url_fits can.ack_fits can.opened_fits
+    connected = connect e.server e.client e.url e.channel 3600000 e.opened (first_time e.times) can.hello_fits can.url_fits can.ack_fits can.opened_fits
         answer_fits;
     between = between_first e;
     dated = dated_behind e.times can.times_fit;
@@ -201,7 +201,7 @@ module _ (connect : EndsConnect) (e : Ends) (can : CanOpen e) (x : ServerChannel
   first_up : IsPrefix up_first sent
   first_up = (d.done ++ d.part, d.sent_is)
 
-  settled_first : IsSettledAt e (both_opened e) [] (opening_answer e) d.first
+  settled_first : IsSettledAt e (both_opened e) [] (opening_answer_of_ends e) d.first
   settled_first = record {
     x = d.x;
     limits_are = d.limits_are;
@@ -209,20 +209,20 @@ module _ (connect : EndsConnect) (e : Ends) (can : CanOpen e) (x : ServerChannel
     asks_are = d.none_asked;
     octets_are =
         let r = here_first.connected.client_reads in
-        took_just R (opening_answer e) r.frames heard_first r.run r.told_is
-        (opened_tells e.client e.server e.url e.channel 3600000 (first_of e.times) can.ack_fits answer_fits r.frames r.run)
+        took_just R (opening_answer_of_ends e) r.frames heard_first r.run r.told_is
+        (opened_tells e.client e.server e.url e.channel 3600000 (first_time e.times) can.ack_fits answer_fits r.frames r.run)
         d.first.octets (heard.Agreed d.opens.ack ∷ []) (heard.Opened d.opens.channel d.opens.token) opened_last missing enough
-        (got_beside e x limits_are channel_is took told g sent d.first.octets up_first (opening_answer e) (told_first e) _ took_is
+        (got_beside e x limits_are channel_is took told g sent d.first.octets up_first (opening_answer_of_ends e) (told_first e) _ took_is
         (prefix_of_prefix d.first.octets got (output_of e.channel e.first told Going e.times) first_got got_is) first_up here_first.connected.server_reads
         here_first.said.said);
     number_is = d.number_is;
   }
 
-  turns_are : AreTurns e (both_opened e) e.first (behind_first e.times) [] (opening_answer e) heard_first deeds d.last (turns_of deeds now) asks
+  turns_are : AreTurns e (both_opened e) e.first (behind_first e.times) [] (opening_answer_of_ends e) heard_first deeds d.last (turns_of deeds now) asks
       (d.done ++ d.part)
   turns_are =
       so_far e can.channel_fits x limits_are channel_is took told g sent got took_is got_is deeds now (both_opened e) e.first (behind_first e.times) up_first
-      (told_first e) [] (opening_answer e) heard_first here_first d.first settled_first
+      (told_first e) [] (opening_answer_of_ends e) heard_first here_first d.first settled_first
       d.last d.done d.part asks d.did d.doing (d.taken, d.got_is) (d.part, d.sent_is ∙ sym (append_assoc up_first d.done d.part))
 
   -- what the server took of it is a prefix of the turns

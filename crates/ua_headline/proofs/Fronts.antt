@@ -10,7 +10,7 @@ use Rattle.ua_channel_laws.specs.Outgoing.{AreWritable, CanBeWritten, Outgoing, 
 use Rattle.ua_channel_laws.specs.Outgoing.{one_octets, one_reasons, one_told, outgoing_octets, outgoing_refusal, outgoing_told}
 use Rattle.ua_channel_laws.specs.Rounds.{BothEnds, round_behind, rounds_up}
 use Rattle.ua_server.specs.State.{State}
-use Rattle.ua_headline.specs.Talk.{AreAccepted, AreFirstOf, Ends, IsPrefix, left_by, rounds_from}
+use Rattle.ua_headline.specs.Talk.{AreRoundsAccepted, AreFirstOf, Ends, IsPrefix, left_by, rounds_from}
 use Rattle.ua_headline.proofs.Answered.{or_none}
 use Rattle.ua_headline.proofs.Turning.{turn}
 
@@ -51,7 +51,7 @@ told_first token issued id (o ∷ os) more =
 
 module _ (e : Ends) where
   pub accepted_first : (at : BothEnds) (s : State) (times : List DateTime) (first turns : List (List Outgoing)) → AreFirstOf first turns
-      → AreAccepted e at (rounds_from e at s times turns) → AreAccepted e at (rounds_from e at s times first)
+      → AreRoundsAccepted e at (rounds_from e at s times turns) → AreRoundsAccepted e at (rounds_from e at s times first)
   accepted_first at s times [] turns f h = tt
   accepted_first at s times (os ∷ []) [] f h = absurd f
   accepted_first at s times (os ∷ (next ∷ first)) [] f h = absurd f
@@ -63,8 +63,8 @@ module _ (e : Ends) where
     tt,
   )
   accepted_first at s times (os ∷ (next ∷ first)) (us ∷ turns) f h =
-      let same : AreAccepted e at (rounds_from e at s times (os ∷ turns)) =
-      subst (λ (l : List Outgoing). AreAccepted e at (rounds_from e at s times (l ∷ turns))) (sym f.0) h in (
+      let same : AreRoundsAccepted e at (rounds_from e at s times (os ∷ turns)) =
+      subst (λ (l : List Outgoing). AreRoundsAccepted e at (rounds_from e at s times (l ∷ turns))) (sym f.0) h in (
         same.0,
         accepted_first (round_behind e.server e.channel at (turn e at s times os)) (left_by s times os).0 (left_by s times os).1
             (next ∷ first) turns f.1 same.1,

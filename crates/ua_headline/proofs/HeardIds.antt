@@ -15,7 +15,7 @@ use Rattle.ua_channel_laws.specs.Outgoing.{Outgoing}
 use Rattle.ua_services.specs.Response.{response}
 use Rattle.ua_services.specs.declared.response.Response.{Response}
 use Rattle.ua_server.specs.Reply.{answered}
-use Rattle.ua_server.specs.Said.{behind_first, first_of}
+use Rattle.ua_server.specs.Said.{behind_first, first_time}
 use Rattle.ua_server.specs.State.{State}
 use Rattle.ua_client.specs.Told.{is_told_of, told_of}
 use Rattle.ua_headline.specs.Talk.{answers_to}
@@ -43,7 +43,7 @@ pub later_none : (lane : Lane) (s : State) (times : List DateTime) (issued id : 
     → told_of k (answers_told lane (answers_to s times issued id os)) ≡ []
 later_none lane s times issued id [] k past = refl
 later_none lane s times issued id (CallWith body ∷ os) k past =
-    let given : State × Response = answered s (first_of times) body in
+    let given : State × Response = answered s (first_time times) body in
     let reply : List ℕ = response.canonical given.1 in
     skip k (told_reply (cut_refusal lane reply) id reply) (answers_told lane (answers_to given.0 (behind_first times) issued (id + 1) os))
     (other_id (cut_refusal lane reply) id k reply (λ e. omega (arith, past, e)))
@@ -58,7 +58,7 @@ each_told lane s times issued id (body ∷ bodies) k from to =
     by (λ later. each_told lane given.0 (behind_first times) issued (id + 1) bodies k (omega (arith, later)) (omega (arith, to))) (cases_lt id k)
   where
     given : State × Response
-    given = answered s (first_of times) body
+    given = answered s (first_time times) body
 
     by : (id < k → 0 < length (told_of k (answers_told lane (answers_to given.0 (behind_first times) issued (id + 1) (map CallWith bodies)))))
         → ((id < k) ⊎ (k ≤ id))
@@ -83,7 +83,7 @@ pub last_told : (lane : Lane) (s : State) (times : List DateTime) (issued id : �
     → LastOwn k (answers_told lane (answers_to s times issued id (map CallWith (body ∷ bodies))))
 last_told lane s times issued id body [] k e = record { front = []; last = _; parts = refl; none = refl }
 last_told lane s times issued id body (next ∷ bodies) k e =
-    let given : State × Response = answered s (first_of times) body in
+    let given : State × Response = answered s (first_time times) body in
     let reply : List ℕ = response.canonical given.1 in
     let x : ClientTold = told_reply (cut_refusal lane reply) id reply in
     let rest = last_told lane given.0 (behind_first times) issued (id + 1) next bodies k (omega (arith, e)) in

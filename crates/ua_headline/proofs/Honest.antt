@@ -9,7 +9,7 @@ use Rattle.ua_channel.specs.declared.client.channel.ClientChannel.{ClientChannel
 use Rattle.ua_channel.specs.declared.server.ServerChannel.{ServerChannel}
 use Rattle.ua_channel_laws.specs.Outgoing.{Outgoing}
 use Rattle.ua_headline.proofs.Fronts.{prefix_of_prefix}
-use Rattle.ua_headline.specs.Records.{AreGiven, AreSent}
+use Rattle.ua_headline.specs.Records.{AreGiven, IsPrefixOfSent}
 use Rattle.ua_headline.specs.Talk.{Ends, GotOf, IsPrefix, TookOf}
 
 -- what a list is found to start with is a prefix of it
@@ -26,7 +26,7 @@ starts b xs needle is holds = begun xs needle (sym holds ∙ is)
 pub as_kept : (xs ys us vs : List ℕ) → xs ≡ us → ys ≡ vs → IsPrefix xs ys → IsPrefix us vs
 as_kept xs ys us vs p q h = (h.0, sym q ∙ (h.1 ∙ ap (λ (o : List ℕ). o ++ h.0) p))
 
-pub took_of : (e : Ends) (turns : List (List Outgoing)) (x : ServerChannel) (sent took : List ℕ) → IsPrefix took sent → AreSent e turns x sent
+pub took_of : (e : Ends) (turns : List (List Outgoing)) (x : ServerChannel) (sent took : List ℕ) → IsPrefix took sent → IsPrefixOfSent e turns x sent
     → TookOf e turns x took
 took_of e turns x sent took p s = record {
   can = s.can;
@@ -40,7 +40,7 @@ took_of e turns x sent took p s = record {
 
 pub got_of : (e : Ends) (turns : List (List Outgoing)) (x : ServerChannel) (y : ClientChannel) (sent took wrote got : List ℕ) (told : List Told)
     (asks : List Placed)
-    → IsPrefix took sent → IsPrefix got wrote → AreSent e turns x sent → Goes x took told → AreGiven e turns told y asks wrote → GotOf e turns x y asks got
+    → IsPrefix took sent → IsPrefix got wrote → IsPrefixOfSent e turns x sent → Goes x took told → AreGiven e turns told y asks wrote → GotOf e turns x y asks got
 got_of e turns x y sent took wrote got told asks up down s goes g = record {
   took = took;
   took_of = took_of e turns x sent took up s;

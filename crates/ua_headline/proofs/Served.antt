@@ -16,7 +16,7 @@ use Rattle.ua_channel_laws.specs.ServerReads.{AtServer, with_message, with_token
 use Rattle.ua_services.specs.Response.{response}
 use Rattle.ua_services.specs.declared.response.Response.{Response}
 use Rattle.ua_server.specs.Reply.{answered}
-use Rattle.ua_server.specs.Said.{behind_first, course_after, first_of, said_of}
+use Rattle.ua_server.specs.Said.{behind_first, course_after, first_time, said_of}
 use Rattle.ua_server.specs.State.{State}
 use Rattle.ua_server.proofs.SaidInParts.{course}
 use Rattle.ua_headline.specs.Talk.{answers_to, left_by}
@@ -60,7 +60,7 @@ module _ (channel used token : ℕ) (g : Agreement) where
       (answers_to s times issued id os)
   said_turn s n times issued id [] u = refl
   said_turn s n times issued id (CallWith body ∷ os) u =
-      let given : State × Response = answered s (first_of times) body in
+      let given : State × Response = answered s (first_time times) body in
       let reply : List ℕ = response.canonical given.1 in
       ap
       (λ (t : ℕ). (replied (lane_of channel t g) reply n id).0
@@ -68,7 +68,7 @@ module _ (channel used token : ℕ) (g : Agreement) where
       (outgoing_told token issued (id + 1) os)) (sym u.0)
       ∙ ap (λ (o : List ℕ). (replied back reply n id).0 ++ o) (said_turn given.0 (replied back reply n id).1 (behind_first times) issued (id + 1) os u.1)
   said_turn s n times issued id (RenewalAt time ∷ os) u =
-      ap (λ (o : List ℕ). frame_octets (opened_frame channel n id 0 (issued + 1) token_lifetime (first_of times)) ++ o)
+      ap (λ (o : List ℕ). frame_octets (opened_frame channel n id 0 (issued + 1) token_lifetime (first_time times)) ++ o)
       (said_turn s (next_number n) (behind_first times) (issued + 1) (id + 1) os u)
 
   -- and how far it is then
@@ -77,10 +77,10 @@ module _ (channel used token : ℕ) (g : Agreement) where
       ≡ course (left_by s times os).0 (client_answered_all (lane_of channel used g) c (answers_to s times issued id os)).next (left_by s times os).1 (Some g)
   left_turn c s times issued id [] u = refl
   left_turn c s times issued id (CallWith body ∷ os) u =
-      let given : State × Response = answered s (first_of times) body in
+      let given : State × Response = answered s (first_time times) body in
       let reply : List ℕ = response.canonical given.1 in
       ap (λ (t : ℕ). course_after channel (course given.0 (replied (lane_of channel t g) reply c.next id).1 (behind_first times) (Some g))
       (outgoing_told token issued (id + 1) os)) (sym u.0)
       ∙ left_turn (client_answered back c (ReplyTo id reply)) given.0 (behind_first times) issued (id + 1) os u.1
   left_turn c s times issued id (RenewalAt time ∷ os) u =
-      left_turn (client_answered back c (TokenFor id 0 (issued + 1) token_lifetime (first_of times))) s (behind_first times) (issued + 1) (id + 1) os u
+      left_turn (client_answered back c (TokenFor id 0 (issued + 1) token_lifetime (first_time times))) s (behind_first times) (issued + 1) (id + 1) os u

@@ -18,7 +18,7 @@ use Rattle.ua_channel.specs.Asks.{Placed, asked_in, next_id}
 use Rattle.ua_channel.specs.Client.{ClientGoesTelling, client_limits, client_rules_of}
 use Rattle.ua_channel.specs.ClientAsks.{is_too_large, most_pending, most_tokens, no_id}
 use Rattle.ua_channel.specs.ClientTable.{client_rules}
-use Rattle.ua_channel.specs.ClientTokens.{channel_in, held_tokens, responses}
+use Rattle.ua_channel.specs.ClientTokens.{first_channel, held_tokens, open_responses}
 use Rattle.ua_channel.specs.ClientTold.{ClientTold, ClientTold as heard, Why}
 use Rattle.ua_channel.specs.Received.{Received, has_some, latest, received}
 use Rattle.ua_channel.specs.ServerTold.{Told}
@@ -41,7 +41,7 @@ use Rattle.ua_client.specs.Replies.{AreReplies, AreSlots}
 use Rattle.ua_client.specs.Sent.{bodies_of, group_reasons}
 use Rattle.ua_client.specs.Told.{is_told_of, told_of}
 use Rattle.ua_client.specs.declared.reply.Reply.{Reply}
-use Rattle.ua_headline.specs.Clients.{AreAnswered, Deed, HasRenewed, IsAnsweredAt, IsAskable, asks_with, octets_at, turn_of}
+use Rattle.ua_headline.specs.Clients.{AreAnswered, Deed, HasRenewed, IsAnsweredAt, IsAskable, asks_with, deed_octets, turn_of}
 use Rattle.ua_headline.specs.Clients.Deed.{Calls, Renews}
 use Rattle.ua_headline.specs.Talk.{Ends, answers_to, left_by}
 use Rattle.ua_headline.proofs.HeardIds.{each_told, last_told}
@@ -75,7 +75,7 @@ module _ (x : ClientChannel) (m : ClientPlace) (c : AtClient) (at : StandsAt x m
   lane_here : lane_behind m.before ≡ Some (lane_from c)
   lane_here =
       ap lane_behind before_is
-      ∙ (ap (λ (a : Option Ack). lane_by a (channel_in (responses (received r.frames).openings)) (latest (held_tokens (received r.frames)))) r.ack_is
+      ∙ (ap (λ (a : Option Ack). lane_by a (first_channel (open_responses (received r.frames).openings)) (latest (held_tokens (received r.frames)))) r.ack_is
       ∙ (ap (λ (n : Option ℕ). lane_by (Some c.ack) n (latest (held_tokens (received r.frames)))) r.channel_is
       ∙ ap (λ (k : Option ℕ). lane_by (Some c.ack) (Some c.channel) k) (ap latest r.tokens_are ∙ r.newest_is)))
 
@@ -185,7 +185,7 @@ module _ (e : Ends) (on : e.channel < 2 ^ 32) (at : BothEnds) (s : State) (times
       ((a.0, tt), accepted_renewal at.client at.id m time h.between.renewals (tokens_here here.x m at.client here.stands reads_here) id_is a.1)
 
   -- what is sent of it
-  pub deed_sent : (d : Deed) → octets_at m d ≡ round_up at (turn e at s times (turn_of d))
+  pub deed_sent : (d : Deed) → deed_octets m d ≡ round_up at (turn e at s times (turn_of d))
   deed_sent (Calls requests) =
       ap (λ (l : Option Lane). outgoing_octets l m.number (id_at m) (map CallWith (bodies_of requests))) lane_is
       ∙ (ap (λ (n : ℕ). outgoing_octets (Some (lane_from at.client)) n (id_at m) (map CallWith (bodies_of requests))) here.number_is

@@ -26,7 +26,7 @@ use Rattle.ua_channel_laws.proofs.Groups.{asks_outgoing, in_step_answers, reads_
 use Rattle.ua_channel_laws.proofs.InStep.{lane_from_server}
 use Rattle.ua_channel_laws.proofs.ReadOn.{events_on}
 use Rattle.ua_server.specs.Reply.{answered}
-use Rattle.ua_server.specs.Said.{behind_first, first_of, output_of, said_of, state_after}
+use Rattle.ua_server.specs.Said.{behind_first, first_time, output_of, said_of, state_after}
 use Rattle.ua_server.specs.State.{State}
 use Rattle.ua_server.proofs.SaidInParts.{said-append}
 use Rattle.ua_client.specs.Told.{is_told_of, told_of}
@@ -61,7 +61,7 @@ next_asks asks place id os = omega (arith, next-append asks (asks_at place id os
 length_answers : (s : State) (times : List DateTime) (issued id : ℕ) (os : List Outgoing) → length (answers_to s times issued id os) ≡ length os
 length_answers s times issued id [] = refl
 length_answers s times issued id (CallWith body ∷ os) =
-    omega (arith, length_answers (answered s (first_of times) body).0 (behind_first times) issued (id + 1) os)
+    omega (arith, length_answers (answered s (first_time times) body).0 (behind_first times) issued (id + 1) os)
 length_answers s times issued id (RenewalAt time ∷ os) = omega (arith, length_answers s (behind_first times) (issued + 1) (id + 1) os)
 
 module _ (e : Ends) (on : e.channel < 2 ^ 32) (at : BothEnds) (s : State) (times : List DateTime) (up : List ℕ) (ts : List Told) (asks : List Placed)

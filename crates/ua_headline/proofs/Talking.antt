@@ -33,12 +33,12 @@ use Rattle.ua_channel_laws.specs.Rounds.{rounds_behind, rounds_down, rounds_hear
 use Rattle.ua_channel_laws.specs.ServerReads.{AtServer, ServerReads, greeted_at, with_token}
 use Rattle.ua_channel_laws.proofs.Following.{client_begins, client_not_failed, server_begins, server_not_closed, server_not_refused}
 use Rattle.ua_channel_laws.proofs.ReadOn.{begins_run, events_on}
-use Rattle.ua_server.specs.Said.{behind_first, first_of, output_of, said_of, state_after}
+use Rattle.ua_server.specs.Said.{behind_first, first_time, output_of, said_of, state_after}
 use Rattle.ua_server.specs.State.{State}
 use Rattle.ua_server.specs.Stepping.{ServerStands}
 use Rattle.ua_server.proofs.SaidInParts.{said-append}
-use Rattle.ua_headline.specs.Talk.{AreAccepted, AreFirstOf, CanOpen, Ends, GotOf, IsPrefix, TookOf, asks_in}
-use Rattle.ua_headline.specs.Talk.{both_opened, heard_in, opening_answer, rounds_in, sent_in, state_from, told_in}
+use Rattle.ua_headline.specs.Talk.{AreRoundsAccepted, AreFirstOf, CanOpen, Ends, GotOf, IsPrefix, TookOf, asks_in}
+use Rattle.ua_headline.specs.Talk.{both_opened, heard_in, opening_answer_of_ends, rounds_in, sent_in, state_from, told_by_turns}
 use Rattle.ua_headline.proofs.Answered.{dated_behind, dated_first}
 use Rattle.ua_headline.proofs.Fronts.{accepted_first, behind_both, prefix_of_prefix, sent_first}
 use Rattle.ua_headline.proofs.Further.{behind, run_further}
@@ -99,11 +99,11 @@ module _ (reach : RoundsReach) (e : Ends) (on : e.channel < 2 ^ 32) where
 -- ---- whole turns
 
 module _ (connect : EndsConnect) (reach : RoundsReach) (e : Ends) (turns : List (List Outgoing)) (can : CanOpen e)
-    (accepted : AreAccepted e (both_opened e) (rounds_in e turns)) where
+    (accepted : AreRoundsAccepted e (both_opened e) (rounds_in e turns)) where
   abbrev written : List ℕ
-  written = opening_answer e ++ rounds_down e.server e.channel (both_opened e) (rounds_in e turns)
+  written = opening_answer_of_ends e ++ rounds_down e.server e.channel (both_opened e) (rounds_in e turns)
 
-  opens : IsAnswered e.channel 1 1 0 1 3600000 (first_of e.times)
+  opens : IsAnswered e.channel 1 1 0 1 3600000 (first_time e.times)
   opens = record {
     channel_small = can.channel_fits;
     number_small = omega arith;
@@ -114,28 +114,28 @@ module _ (connect : EndsConnect) (reach : RoundsReach) (e : Ends) (turns : List 
     moment_fits = dated_first e.times can.times_fit;
   }
 
-  pub connected : AreConnected e.server e.client e.url e.channel (sent_in e turns) (told_in e turns) (asks_in e turns)
-      (opening_answer e ++ rounds_down e.server e.channel (both_opened e) (rounds_in e turns)) (heard_in e turns)
+  pub connected : AreConnected e.server e.client e.url e.channel (sent_in e turns) (told_by_turns e turns) (asks_in e turns)
+      (opening_answer_of_ends e ++ rounds_down e.server e.channel (both_opened e) (rounds_in e turns)) (heard_in e turns)
       (rounds_behind e.server e.channel (both_opened e) (rounds_in e turns))
   connected =
       reach e.server e.client e.url e.channel _ _ _ _ _ (both_opened e) (rounds_in e turns) can.channel_fits
-      (connect e.server e.client e.url e.channel 3600000 e.opened (first_of e.times) can.hello_fits can.url_fits can.ack_fits can.opened_fits opens)
+      (connect e.server e.client e.url e.channel 3600000 e.opened (first_time e.times) can.hello_fits can.url_fits can.ack_fits can.opened_fits opens)
       (are_rounds e (both_opened e) e.first (behind_first e.times) turns (between_first e) (dated_behind e.times can.times_fit) accepted)
 
   pub tells_last : TellsLast (server_rules e.server e.channel) (sent_in e turns)
   tells_last =
       rounds_tell reach e can.channel_fits _ _ _ _ _ (both_opened e) (rounds_in e turns)
-      (connect e.server e.client e.url e.channel 3600000 e.opened (first_of e.times) can.hello_fits can.url_fits can.ack_fits can.opened_fits opens)
+      (connect e.server e.client e.url e.channel 3600000 e.opened (first_time e.times) can.hello_fits can.url_fits can.ack_fits can.opened_fits opens)
       (are_rounds e (both_opened e) e.first (behind_first e.times) turns (between_first e) (dated_behind e.times can.times_fit) accepted)
       (opening_tells e.server e.channel e.client e.url e.opened can.hello_fits can.url_fits can.opened_fits)
 
-  pub said : AreSaid e (told_in e turns) (state_from e.first (behind_first e.times) turns) written
-  said = are_said e (both_opened e) e.first (behind_first e.times) turns _ (opening_answer e) (between_first e) (dated_behind e.times can.times_fit) accepted
+  pub said : AreSaid e (told_by_turns e turns) (state_from e.first (behind_first e.times) turns) written
+  said = are_said e (both_opened e) e.first (behind_first e.times) turns _ (opening_answer_of_ends e) (between_first e) (dated_behind e.times can.times_fit) accepted
       (is_said_first e)
 
 -- the first turns are accepted where all are
-accepted_in : (e : Ends) (first turns : List (List Outgoing)) → AreFirstOf first turns → AreAccepted e (both_opened e) (rounds_in e turns)
-    → AreAccepted e (both_opened e) (rounds_in e first)
+accepted_in : (e : Ends) (first turns : List (List Outgoing)) → AreFirstOf first turns → AreRoundsAccepted e (both_opened e) (rounds_in e turns)
+    → AreRoundsAccepted e (both_opened e) (rounds_in e first)
 accepted_in e first turns f h = accepted_first e (both_opened e) e.first (behind_first e.times) first turns f h
 
 pub sent_in_first : (e : Ends) (first turns : List (List Outgoing)) → AreFirstOf first turns → IsPrefix (sent_in e first) (sent_in e turns)
@@ -158,29 +158,29 @@ module _ (connect : EndsConnect) (reach : RoundsReach) (e : Ends) (turns : List 
       subst (λ (l : Limits). ServerReads l (channel_of x) octets told s) (sym t.limits_are)
       (subst (λ (k : ℕ). ServerReads e.server k octets told s) (sym t.channel_is) r)
 
-  reads : ServerReads (limits_of x) (channel_of x) (took ++ took_first.0) (told_in e turns) at
-  reads = subst (λ (o : List ℕ). ServerReads (limits_of x) (channel_of x) o (told_in e turns) at) took_first.1
-      (as_own (sent_in e turns) (told_in e turns) at (connected connect reach e turns t.can t.accepted).server_reads)
+  reads : ServerReads (limits_of x) (channel_of x) (took ++ took_first.0) (told_by_turns e turns) at
+  reads = subst (λ (o : List ℕ). ServerReads (limits_of x) (channel_of x) o (told_by_turns e turns) at) took_first.1
+      (as_own (sent_in e turns) (told_by_turns e turns) at (connected connect reach e turns t.can t.accepted).server_reads)
 
   -- it was told a prefix of the turns
-  pub told_first : (told : List Told) → Goes x took told → IsPrefix told (told_in e turns)
-  told_first told g = server_begins x took took_first.0 told (told_in e turns) at g reads
+  pub told_first : (told : List Told) → Goes x took told → IsPrefix told (told_by_turns e turns)
+  told_first told g = server_begins x took took_first.0 told (told_by_turns e turns) at g reads
 
   pub not_refused : (told : List Told) (code : ℕ) → RefusedAt x took told code → ⊥
-  not_refused told code r = server_not_refused x took took_first.0 told (told_in e turns) at code r reads
+  not_refused told code r = server_not_refused x took took_first.0 told (told_by_turns e turns) at code r reads
 
   pub not_closed : (told : List Told) → ClosedAt x took told → ⊥
-  not_closed told c = server_not_closed x took took_first.0 told (told_in e turns) at c reads
+  not_closed told c = server_not_closed x took took_first.0 told (told_by_turns e turns) at c reads
 
   -- the first turns, where they were sent whole
   module _ (first : List (List Outgoing)) (f : AreFirstOf first turns) where
     abbrev there : AtServer
     there = (rounds_behind e.server e.channel (both_opened e) (rounds_in e first)).server
 
-    first_reads : ServerReads (limits_of x) (channel_of x) (sent_in e first) (told_in e first) there
-    first_reads = as_own (sent_in e first) (told_in e first) there (connected connect reach e first t.can (accepted_in e first turns f t.accepted)).server_reads
+    first_reads : ServerReads (limits_of x) (channel_of x) (sent_in e first) (told_by_turns e first) there
+    first_reads = as_own (sent_in e first) (told_by_turns e first) there (connected connect reach e first t.can (accepted_in e first turns f t.accepted)).server_reads
 
-    pub first_told : (told : List Told) → Goes x took told → IsPrefix (sent_in e first) took → IsPrefix (told_in e first) told
+    pub first_told : (told : List Told) → Goes x took told → IsPrefix (sent_in e first) took → IsPrefix (told_by_turns e first) told
     first_told told g p =
         let R : Rules Told ℕ = rules_of x in
         let s = reading (behind R first_reads.frames) p.0 in
@@ -194,7 +194,7 @@ module _ (connect : EndsConnect) (reach : RoundsReach) (e : Ends) (turns : List 
         )
 
     -- they are told only where they were
-    too_early : (told : List Told) (g : Goes x took told) (o : ℕ) (more : List ℕ) → sent_in e first ≡ took ++ o ∷ more → IsPrefix (told_in e first) told → ⊥
+    too_early : (told : List Told) (g : Goes x took told) (o : ℕ) (more : List ℕ) → sent_in e first ≡ took ++ o ∷ more → IsPrefix (told_by_turns e first) told → ⊥
     too_early told g o more e_is p =
         let R : Rules Told ℕ = rules_of x in
         let r = first_reads in
@@ -229,7 +229,7 @@ module _ (connect : EndsConnect) (reach : RoundsReach) (e : Ends) (turns : List 
               arith,
               ends.some,
               ap length p.1,
-              length-append (told_in e first) p.0,
+              length-append (told_by_turns e first) p.0,
               ap length (sym first_reads.told_is ∙ (ap (events rules) ends.parts ∙ events-push rules ends.before ends.last)),
               length-append (events rules ends.before) (rules.tells ends.before ends.last),
               ap length (ap (events rules) middle.1
@@ -237,7 +237,7 @@ module _ (connect : EndsConnect) (reach : RoundsReach) (e : Ends) (turns : List 
               length-append told (each_from rules.tells g.frames middle.0),
             )
 
-    pub first_whole : (told : List Told) → Goes x took told → IsPrefix (told_in e first) told → IsPrefix (sent_in e first) took
+    pub first_whole : (told : List Told) → Goes x took told → IsPrefix (told_by_turns e first) told → IsPrefix (sent_in e first) took
     first_whole told g p =
         by (meets took (sent_in e first) took_first.0 (sent_in_first e first turns f).0 (sym took_first.1 ∙ (sent_in_first e first turns f).1))
       where
@@ -247,7 +247,7 @@ module _ (connect : EndsConnect) (reach : RoundsReach) (e : Ends) (turns : List 
         by (inl (o ∷ more, same)) = absurd (too_early told g o more same p)
 
     -- the state that they leave
-    pub first_left : (told : List Told) (now : State) → ServerStands x took told e.first e.times now → told ≡ told_in e first
+    pub first_left : (told : List Told) (now : State) → ServerStands x took told e.first e.times now → told ≡ told_by_turns e first
         → now ≡ state_from e.first (behind_first e.times) first
     first_left told now stands is =
         sym stands.state_is
@@ -263,7 +263,7 @@ module _ (connect : EndsConnect) (reach : RoundsReach) (earlier : AsksEarlier) (
   here = (rounds_behind e.server e.channel (both_opened e) (rounds_in e turns)).client
 
   abbrev all : List ℕ
-  all = opening_answer e ++ rounds_down e.server e.channel (both_opened e) (rounds_in e turns)
+  all = opening_answer_of_ends e ++ rounds_down e.server e.channel (both_opened e) (rounds_in e turns)
 
   -- what the server says of what it was told is a prefix of what it says of the turns
   written_first : IsPrefix (output_of e.channel e.first c.told Going e.times) all
@@ -292,14 +292,14 @@ module _ (connect : EndsConnect) (reach : RoundsReach) (earlier : AsksEarlier) (
   not_failed hears why k = client_not_failed y asks got got_first.0 hears (heard_in e turns) here why k client_reads
 
   -- and nothing of a call of which the server was not told
-  pub heard_just : (first : List (List Outgoing)) → AreFirstOf first turns → c.told ≡ told_in e first → (hears : List ClientTold) → ClientGoes y asks got hears
+  pub heard_just : (first : List (List Outgoing)) → AreFirstOf first turns → c.told ≡ told_by_turns e first → (hears : List ClientTold) → ClientGoes y asks got hears
       → IsPrefix hears (heard_in e first)
   unfolding AllAfter
   heard_just first f is hears k =
       let accepted = accepted_in e first turns f c.took_of.accepted in
       let r = (connected connect reach e first c.took_of.can accepted).client_reads in
       let R = client_rules e.client (asks_in e first) in
-      let whole : opening_answer e ++ rounds_down e.server e.channel (both_opened e) (rounds_in e first) ≡ got ++ c.got_is.0 =
+      let whole : opening_answer_of_ends e ++ rounds_down e.server e.channel (both_opened e) (rounds_in e first) ≡ got ++ c.got_is.0 =
       sym (said connect reach e first c.took_of.can accepted).said
       ∙ (ap (λ (ts : List Told). output_of e.channel e.first ts Going e.times) (sym is) ∙ c.got_is.1) in
       let parts : frames_octets k.frames ++ (k.rest ++ c.got_is.0) ≡ frames_octets r.frames =

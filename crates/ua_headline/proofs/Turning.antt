@@ -18,10 +18,10 @@ use Rattle.ua_channel_laws.specs.Answers.{Answer}
 use Rattle.ua_channel_laws.specs.ClientReads.{lane_from}
 use Rattle.ua_channel_laws.specs.Outgoing.{AreWritable, Outgoing, issued_behind, outgoing_refusal, outgoing_told}
 use Rattle.ua_channel_laws.specs.Rounds.{AreRounds, BothEnds, IsRound, Round, answers_lane, both_sent, round_behind, round_down, rounds_down, rounds_told}
-use Rattle.ua_server.specs.Said.{Course, behind_first, course_after, first_of, output_of, said_of, state_after}
+use Rattle.ua_server.specs.Said.{Course, behind_first, course_after, first_time, output_of, said_of, state_after}
 use Rattle.ua_server.specs.State.{State}
 use Rattle.ua_server.proofs.SaidInParts.{course, left-append, said-append}
-use Rattle.ua_headline.specs.Talk.{AreAccepted, Ends, answers_to, both_opened, left_by, opening_answer, rounds_from, state_from}
+use Rattle.ua_headline.specs.Talk.{AreRoundsAccepted, Ends, answers_to, both_opened, left_by, opening_answer_of_ends, rounds_from, state_from}
 use Rattle.ua_headline.proofs.Answered.{AreDated, CanAnswer, IsWaiting, brings, call_ids, calls_all, can_answer, dated_left}
 use Rattle.ua_headline.proofs.Answered.{ids_left, issued_few, next_stays, one_renewal, renewal_ids, renewals_all, tokens_stay}
 use Rattle.ua_headline.proofs.Served.{hello_stays, issued_there, left_turn, said_turn, under}
@@ -144,7 +144,7 @@ pub record AreSaid (e : Ends) (told : List Told) (s : State) (down : List ℕ) :
 
 module _ (e : Ends) where
   pub are_rounds : (at : BothEnds) (s : State) (times : List DateTime) (turns : List (List Outgoing)) → IsBetween e at → AreDated times
-      → AreAccepted e at (rounds_from e at s times turns)
+      → AreRoundsAccepted e at (rounds_from e at s times turns)
       → AreRounds e.server e.channel at (rounds_from e at s times turns)
   are_rounds at s times [] b d h = tt
   are_rounds at s times (os ∷ turns) b d h = (
@@ -154,7 +154,7 @@ module _ (e : Ends) where
   )
 
   pub are_said : (at : BothEnds) (s : State) (times : List DateTime) (turns : List (List Outgoing)) (told : List Told) (down : List ℕ) → IsBetween e at
-      → AreDated times → AreAccepted e at (rounds_from e at s times turns)
+      → AreDated times → AreRoundsAccepted e at (rounds_from e at s times turns)
       → IsSaid e at told s times down
       → AreSaid e (told ++ rounds_told e.server e.channel at (rounds_from e at s times turns)) (state_from s times turns)
       (down ++ rounds_down e.server e.channel at (rounds_from e at s times turns))
@@ -188,12 +188,12 @@ module _ (e : Ends) where
   unfolding state_after
   left_first = refl
 
-  said_first : output_of e.channel e.first told_first Going e.times ≡ opening_answer e
+  said_first : output_of e.channel e.first told_first Going e.times ≡ opening_answer_of_ends e
   unfolding output_of
   said_first =
       let acked = frame_octets (ack_frame (ack_to (hello_to e.client e.url) e.server)) in
-      let opened = frame_octets (opened_frame e.channel 1 1 0 1 3600000 (first_of e.times)) in
+      let opened = frame_octets (opened_frame e.channel 1 1 0 1 3600000 (first_time e.times)) in
       append-nil (acked ++ (opened ++ [])) ∙ ap (λ (o : List ℕ). acked ++ o) (append-nil opened)
 
-  pub is_said_first : IsSaid e (both_opened e) told_first e.first (behind_first e.times) (opening_answer e)
+  pub is_said_first : IsSaid e (both_opened e) told_first e.first (behind_first e.times) (opening_answer_of_ends e)
   is_said_first = record { left = left_first; said = said_first }

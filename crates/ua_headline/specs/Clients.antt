@@ -19,7 +19,7 @@ use Rattle.ua_server.specs.Said.{output_of}
 use Rattle.ua_services.specs.declared.request.Request.{Request}
 use Rattle.ua_client.specs.Calls.{Answered, LastCame, asked_at, refusal_at, sent_at}
 use Rattle.ua_client.specs.ClientPlace.{ClientPlace, StandsAt, id_at}
-use Rattle.ua_client.specs.Opening.{IsOpened, hello_octets, open_octets}
+use Rattle.ua_client.specs.Opening.{IsOpened, hello_octets, open_frame_octets}
 use Rattle.ua_client.specs.Renewing.{IsRenewed, asks_renewed, renewal_at, renewal_refusal}
 use Rattle.ua_client.specs.Sent.{bodies_of}
 use Rattle.ua_client.specs.declared.reply.Reply.{Reply}
@@ -42,9 +42,9 @@ IsAskable m (Calls requests) = (0 < length requests) × (length requests ≤ 64)
 IsAskable m (Renews time) = IsTrue (date_time.encodable time) × (renewal_refusal m ≡ None)
 
 -- its bytes there
-abbrev pub octets_at : ClientPlace → Deed → List ℕ
-octets_at m (Calls requests) = sent_at m requests
-octets_at m (Renews time) = renewal_at m time
+abbrev pub deed_octets : ClientPlace → Deed → List ℕ
+deed_octets m (Calls requests) = sent_at m requests
+deed_octets m (Renews time) = renewal_at m time
 
 -- the client's operations after this one there
 abbrev pub asks_with : ClientPlace → Deed → List Placed
@@ -80,13 +80,13 @@ abbrev pub Did : Limits → ClientPlace → List Deed → ClientPlace → List �
 Did limits m [] t sent = (t ≡ m) × (sent ≡ [])
 Did limits m (d ∷ deeds) t sent =
     IsAskable m d
-    × ((next : ClientPlace) × (more : List ℕ) × IsAnsweredAt limits m next d × (sent ≡ octets_at m d ++ more) × Did limits next deeds t more)
+    × ((next : ClientPlace) × (more : List ℕ) × IsAnsweredAt limits m next d × (sent ≡ deed_octets m d ++ more) × Did limits next deeds t more)
 
 -- of an operation that it makes there now, if it makes one, it asked this, and sent these bytes,
 -- all or a part
 abbrev pub IsDoing : ClientPlace → Option Deed → List Placed → List ℕ → Type 0
 IsDoing m None asks sent = (asks ≡ m.asks) × (sent ≡ [])
-IsDoing m (Some d) asks sent = IsAskable m d × (asks ≡ asks_with m d) × IsPrefix sent (octets_at m d)
+IsDoing m (Some d) asks sent = IsAskable m d × (asks ≡ asks_with m d) × IsPrefix sent (deed_octets m d)
 
 -- its operations
 abbrev pub turns_of : List Deed → Option Deed → List (List Outgoing)
@@ -109,7 +109,7 @@ pub record DidSoFar (e : Ends) (deeds : List Deed) (now : Option Deed) (asks : L
   pub doing : IsDoing last now asks part
   pub taken : List ℕ
   pub got_is : got ≡ last.octets ++ taken
-  pub sent_is : sent ≡ (hello_octets e.client e.url ++ open_octets e.opened) ++ (done ++ part)
+  pub sent_is : sent ≡ (hello_octets e.client e.url ++ open_frame_octets e.opened) ++ (done ++ part)
 
 -- such a client over an honest link to such a server: what the server took is a prefix of what the
 -- client sent, and what the client received a prefix of what the server wrote, by what it was told

@@ -28,7 +28,7 @@ example_turns = (CallWith (1 ∷ []) ∷ (RenewalAt (record { ticks = pos 0 }) �
 
 -- what they tell the server: the calls beside the renewal are sent under the first token, the call
 -- after its response under the second
-abbrev pub example_told : List Told
-example_told =
+abbrev pub example_turns_told : List Told
+example_turns_told =
     Agreed (agreement_of least_limits (hello_to least_limits None))
     ∷ (Opened 1 0 1 3600000 ∷ (Asked 2 1 (1 ∷ []) ∷ (Opened 3 0 2 3600000 ∷ (Asked 4 1 (2 ∷ []) ∷ (Asked 5 2 (3 ∷ []) ∷ [])))))

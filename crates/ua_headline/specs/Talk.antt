@@ -29,7 +29,7 @@ use Rattle.ua_channel_laws.specs.Rounds.{BothEnds, Round, round_behind, rounds_a
 use Rattle.ua_channel_laws.specs.ServerReads.{greeted_at, with_token}
 use Rattle.ua_services.specs.Response.{response}
 use Rattle.ua_server.specs.Reply.{answered}
-use Rattle.ua_server.specs.Said.{behind_first, first_of, output_of}
+use Rattle.ua_server.specs.Said.{behind_first, first_time, output_of}
 use Rattle.ua_server.specs.State.{State}
 
 -- the first list is a prefix of the second
@@ -55,16 +55,16 @@ pub record Ends : Type 0 where
 abbrev pub answers_to : State → List DateTime → ℕ → ℕ → List Outgoing → List Answer
 answers_to s times issued id [] = []
 answers_to s times issued id (CallWith body ∷ os) =
-    ReplyTo id (response.canonical (answered s (first_of times) body).1)
-    ∷ answers_to (answered s (first_of times) body).0 (behind_first times) issued (id + 1) os
+    ReplyTo id (response.canonical (answered s (first_time times) body).1)
+    ∷ answers_to (answered s (first_time times) body).0 (behind_first times) issued (id + 1) os
 answers_to s times issued id (RenewalAt time ∷ os) =
-    TokenFor id 0 (issued + 1) token_lifetime (first_of times)
+    TokenFor id 0 (issued + 1) token_lifetime (first_time times)
     ∷ answers_to s (behind_first times) (issued + 1) (id + 1) os
 
 -- the state that it leaves, and the timestamps that are not used yet
 abbrev pub left_by : State → List DateTime → List Outgoing → State × List DateTime
 left_by s times [] = (s, times)
-left_by s times (CallWith body ∷ os) = left_by (answered s (first_of times) body).0 (behind_first times) os
+left_by s times (CallWith body ∷ os) = left_by (answered s (first_time times) body).0 (behind_first times) os
 left_by s times (RenewalAt time ∷ os) = left_by s (behind_first times) os
 
 -- ---- operations after the opening: what the client sends at once, each after all earlier answers
@@ -97,8 +97,8 @@ state_from s times [] = s
 state_from s times (os ∷ turns) = state_from (left_by s times os).0 (left_by s times os).1 turns
 
 -- that from the state in which the connection began
-abbrev pub state_in : Ends → List (List Outgoing) → State
-state_in e turns = state_from e.first (behind_first e.times) turns
+abbrev pub state_behind_turns : Ends → List (List Outgoing) → State
+state_behind_turns e turns = state_from e.first (behind_first e.times) turns
 
 -- what the client sends: the HEL and the first OPN, and its operations
 abbrev pub sent_in : Ends → List (List Outgoing) → List ℕ
@@ -108,8 +108,8 @@ sent_in e turns =
 
 -- what that tells the server: what was agreed, the first token, and each call whole, once, in
 -- order, under its own RequestId, and each renewal
-abbrev pub told_in : Ends → List (List Outgoing) → List Told
-told_in e turns =
+abbrev pub told_by_turns : Ends → List (List Outgoing) → List Told
+told_by_turns e turns =
     (Agreed (agreement_of e.server (hello_to e.client e.url)) ∷ (Opened 1 0 1 3600000 ∷ []))
     ++ rounds_told e.server e.channel (both_opened e) (rounds_in e turns)
 
@@ -121,13 +121,13 @@ heard_in e turns =
     ++ rounds_heard e.server e.channel (both_opened e) (rounds_in e turns)
 
 -- what the server writes in answer to the opening
-abbrev pub opening_answer : Ends → List ℕ
-opening_answer e =
-    frame_octets (ack_frame (ack_to (hello_to e.client e.url) e.server)) ++ frame_octets (opened_frame e.channel 1 1 0 1 3600000 (first_of e.times))
+abbrev pub opening_answer_of_ends : Ends → List ℕ
+opening_answer_of_ends e =
+    frame_octets (ack_frame (ack_to (hello_to e.client e.url) e.server)) ++ frame_octets (opened_frame e.channel 1 1 0 1 3600000 (first_time e.times))
 
 -- the client's operations, each at the end of the answers to those before it
 abbrev pub asks_in : Ends → List (List Outgoing) → List Placed
-asks_in e turns = rounds_asks e.server e.channel (length (opening_answer e)) (both_opened e) (rounds_in e turns)
+asks_in e turns = rounds_asks e.server e.channel (length (opening_answer_of_ends e)) (both_opened e) (rounds_in e turns)
 
 -- the first operations are those of others, the last of them maybe in part
 abbrev pub AreFirstOf : List (List Outgoing) → List (List Outgoing) → Type 0
@@ -139,11 +139,11 @@ AreFirstOf (os ∷ (next ∷ first)) (us ∷ turns) = (os ≡ us) × AreFirstOf 
 -- ---- what is assumed
 
 -- each operation can be encoded, and the client refuses none of it in the states of both then
-abbrev pub AreAccepted : Ends → BothEnds → List Round → Type 0
-AreAccepted e at [] = Unit {0}
-AreAccepted e at (r ∷ rounds) =
+abbrev pub AreRoundsAccepted : Ends → BothEnds → List Round → Type 0
+AreRoundsAccepted e at [] = Unit {0}
+AreRoundsAccepted e at (r ∷ rounds) =
     (AreWritable r.outgoing × (outgoing_refusal at.client at.id r.outgoing ≡ None))
-    × AreAccepted e (round_behind e.server e.channel at r) rounds
+    × AreRoundsAccepted e (round_behind e.server e.channel at r) rounds
 
 -- what both send to open the channel, and all times of answers, can be encoded
 pub record CanOpen (e : Ends) : Type 0 where
@@ -158,7 +158,7 @@ pub record CanOpen (e : Ends) : Type 0 where
 -- the last a part may be in transit, or not be sent yet
 pub record TookOf (e : Ends) (turns : List (List Outgoing)) (x : ServerChannel) (took : List ℕ) : Type 0 where
   pub can : CanOpen e
-  pub accepted : AreAccepted e (both_opened e) (rounds_in e turns)
+  pub accepted : AreRoundsAccepted e (both_opened e) (rounds_in e turns)
   pub limits_are : limits_of x ≡ e.server
   pub channel_is : channel_of x ≡ e.channel
   pub sent : List ℕ

@@ -16,9 +16,9 @@ ghost use Rattle.ua_server.specs.Served.{channel_in};
 ghost use Rattle.ua_server.specs.State.{State};
 ghost use Rattle.ua_server.specs.Stepping.{ServerStands};
 ghost use Rattle.ua_headline.specs.Clients.{Deed, IsLinked, turn_of, turns_of};
-ghost use Rattle.ua_headline.specs.Example.{example_ends, example_told, example_turns};
-ghost use Rattle.ua_headline.specs.Talk.{AreAccepted, AreFirstOf, CanOpen, Ends, GotOf, IsPrefix, TookOf};
-ghost use Rattle.ua_headline.specs.Talk.{both_opened, heard_in, rounds_in, sent_in, state_in, told_in};
+ghost use Rattle.ua_headline.specs.Example.{example_ends, example_turns_told, example_turns};
+ghost use Rattle.ua_headline.specs.Talk.{AreRoundsAccepted, AreFirstOf, CanOpen, Ends, GotOf, IsPrefix, TookOf};
+ghost use Rattle.ua_headline.specs.Talk.{both_opened, heard_in, rounds_in, sent_in, state_behind_turns, told_by_turns};
 
 use ua_channel::ClientChannel;
 use ua_channel_laws::asking_laws::client_asks_earlier;
@@ -36,17 +36,17 @@ pub fn the_headline(server: &Server, client: &ClientChannel)
     // under its own RequestId.
     ensures told { (e : Ends) (turns : List (List Outgoing)) (took : List ℕ) (told : List Told) →
         TookOf e turns (channel_in server.now) took →
-        Goes (channel_in server.now) took told → IsPrefix told (told_in e turns) }
+        Goes (channel_in server.now) took told → IsPrefix told (told_by_turns e turns) }
     // The events of the first operations are among them exactly where all bytes of these came.
     ensures whole { (e : Ends) (turns first : List (List Outgoing)) (took : List ℕ) (told : List Told) →
         TookOf e turns (channel_in server.now) took →
         Goes (channel_in server.now) took told → AreFirstOf first turns →
-        IsPrefix (sent_in e first) took ↔ IsPrefix (told_in e first) told }
+        IsPrefix (sent_in e first) took ↔ IsPrefix (told_by_turns e first) told }
     // Its services are as its events leave them.
     ensures state { (e : Ends) (turns first : List (List Outgoing)) (took : List ℕ) (told : List Told) (now : State) →
         TookOf e turns (channel_in server.now) took →
         ServerStands (channel_in server.now) took told e.first e.times now → AreFirstOf first turns →
-        told ≡ told_in e first → now ≡ state_in e first }
+        told ≡ told_by_turns e first → now ≡ state_behind_turns e first }
     // It refused nothing, and nothing closed its channel.
     ensures not_refused { (e : Ends) (turns : List (List Outgoing)) (took : List ℕ) (told : List Told) (code : ℕ) →
         TookOf e turns (channel_in server.now) took →
@@ -62,7 +62,7 @@ pub fn the_headline(server: &Server, client: &ClientChannel)
     // And none answers a call that is not among the server's events.
     ensures no_other { (e : Ends) (turns first : List (List Outgoing)) (asks : List Placed) (got : List ℕ)
         (heard : List ClientTold) (k : GotOf e turns (channel_in server.now) client.now asks got) →
-        ClientGoes client.now asks got heard → AreFirstOf first turns → k.told ≡ told_in e first →
+        ClientGoes client.now asks got heard → AreFirstOf first turns → k.told ≡ told_by_turns e first →
         IsPrefix heard (heard_in e first) }
     // The client refused none of them, and the server sent it no ERR.
     ensures not_failed { (e : Ends) (turns : List (List Outgoing)) (asks : List Placed) (got : List ℕ)
@@ -103,6 +103,6 @@ pub fn clients_do_turns(server: &Server, client: &ClientChannel)
 /// at once, and a call after the answers to these, which goes under the new token.
 pub fn there_are_conversations()
     ensures opens { CanOpen example_ends }
-    ensures accepted { AreAccepted example_ends (both_opened example_ends) (rounds_in example_ends example_turns) }
-    ensures told { told_in example_ends example_turns ≡ example_told }
+    ensures accepted { AreRoundsAccepted example_ends (both_opened example_ends) (rounds_in example_ends example_turns) }
+    ensures told { told_by_turns example_ends example_turns ≡ example_turns_told }
 {}

@@ -9,8 +9,8 @@ ghost use Rattle.ua_channel.specs.ServerTold.{Told};
 ghost use Rattle.ua_channel_laws.specs.Outgoing.{Outgoing};
 ghost use Rattle.ua_server.specs.Served.{channel_in};
 ghost use Rattle.ua_tcp.specs.Records.{octets_read, octets_written};
-ghost use Rattle.ua_headline.specs.Records.{AreGiven, AreSent, IsHonest};
-ghost use Rattle.ua_headline.specs.Talk.{Ends, IsPrefix, heard_in, told_in};
+ghost use Rattle.ua_headline.specs.Records.{AreGiven, IsPrefixOfSent, IsHonest};
+ghost use Rattle.ua_headline.specs.Talk.{Ends, IsPrefix, heard_in, told_by_turns};
 
 use crate::laws::the_headline;
 use ua_channel::ClientChannel;
@@ -30,13 +30,13 @@ pub fn is_honest<K, L>(
     ensures honest { IsTrue result → IsHonest here.now there.now }
     // The server's events are a prefix of the client's operations.
     ensures told { (e : Ends) (turns : List (List Outgoing)) (told : List Told) → IsTrue result →
-        AreSent e turns (channel_in server.now) (octets_written here.now) →
-        Goes (channel_in server.now) (octets_read there.now) told → IsPrefix told (told_in e turns) }
+        IsPrefixOfSent e turns (channel_in server.now) (octets_written here.now) →
+        Goes (channel_in server.now) (octets_read there.now) told → IsPrefix told (told_by_turns e turns) }
     // The client's events are a prefix of the server's answers, each under the RequestId of its own
     // call.
     ensures answered { (e : Ends) (turns : List (List Outgoing)) (told : List Told) (asks : List Placed)
         (heard : List ClientTold) → IsTrue result →
-        AreSent e turns (channel_in server.now) (octets_written here.now) →
+        IsPrefixOfSent e turns (channel_in server.now) (octets_written here.now) →
         Goes (channel_in server.now) (octets_read there.now) told →
         AreGiven e turns told client.now asks (octets_written there.now) →
         ClientGoes client.now asks (octets_read here.now) heard → IsPrefix heard (heard_in e turns) }

@@ -8,7 +8,7 @@ use Rattle.std.proofs.lemmas.List.{length-drop, take_all}
 use Rattle.ua_chunk.specs.Gathered.{after_last}
 use Rattle.ua_chunk.proofs.Lists.{after_last_push, filter_push}
 use Rattle.ua_frame.specs.After.{each_after}
-use Rattle.ua_frame.specs.Frames.{Frames, IsRawFrame, IsRest, joined, kind_of}
+use Rattle.ua_frame.specs.Frames.{Frames, IsRawFrame, IsRest, joined_parts, kind_of}
 use Rattle.ua_frame.specs.declared.kind.Kind.TheVariants.{Msg}
 use Rattle.ua_frame.proofs.Afters.{each_after-push}
 use Rattle.ua_frame.proofs.RawFrames.{joined-nil}
@@ -16,7 +16,7 @@ use Rattle.ua_services.specs.declared.request.RequestKind.{RequestKind}
 use Rattle.ua_judge.specs.Begun.{AreBegun, begun_after, begun_if, begun_kind}
 use Rattle.ua_judge.specs.Kinds.{request_kind_of}
 use Rattle.ua_judge.specs.RawFrames.{id_place, number_from}
-use Rattle.ua_judge.specs.Requests.{chunk_kind, chunk_kind_at, first_kind, is_chunk_by, is_chunk_of, is_last, message_kind, request_in, unfinished}
+use Rattle.ua_judge.specs.Requests.{chunk_kind, chunk_kind_at, first_kind, is_chunk_by, is_chunk_of, is_last, request_message_kind, request_in, unfinished_chunks}
 use Rattle.ua_judge.specs.declared.named.Named.{Named}
 use Rattle.ua_judge.specs.declared.requests.Begun.{Begun}
 use Rattle.ua_judge.proofs.FramesRead.{all_more, joined_more}
@@ -75,13 +75,13 @@ after_more n kind bs own =
 
 -- ---- the chunks of a message, with one frame more
 
-chunks_unless : (m : ℕ) (before : List (List ℕ)) (f : List ℕ) → is_chunk_of m f ≡ false → unfinished m (before ++ f ∷ []) ≡ unfinished m before
+chunks_unless : (m : ℕ) (before : List (List ℕ)) (f : List ℕ) → is_chunk_of m f ≡ false → unfinished_chunks m (before ++ f ∷ []) ≡ unfinished_chunks m before
 chunks_unless m before f h =
     ap (after_last is_last) (filter_push (is_chunk_of m) before f ∙ (ap (λ b. filter (is_chunk_of m) before ++ cond b (f ∷ []) []) h ∙ append-nil
     (filter (is_chunk_of m) before)))
 
 chunks_with : (m : ℕ) (before : List (List ℕ)) (f : List ℕ) → is_chunk_of m f ≡ true
-    → unfinished m (before ++ f ∷ []) ≡ cond (is_last f) [] (unfinished m before ++ f ∷ [])
+    → unfinished_chunks m (before ++ f ∷ []) ≡ cond (is_last f) [] (unfinished_chunks m before ++ f ∷ [])
 chunks_with m before f h =
     ap (after_last is_last) (filter_push (is_chunk_of m) before f ∙ ap (λ b. filter (is_chunk_of m) before ++ cond b (f ∷ []) []) h)
     ∙ after_last_push is_last (filter (is_chunk_of m) before) f
@@ -100,22 +100,22 @@ chunk_is m place f kind at = ap (λ k. is_chunk_by m k (id_place f) f) kind ∙ 
 
 by_id : (n m : ℕ) (t : Bool) → (n == m) ≡ t → (begun : List Begun) (before : List (List ℕ)) (f : List ℕ) (kind : Option RequestKind) (more : Bool)
     → AreBegun begun before → is_chunk_of m f ≡ t → is_last f ≡ not more
-    → kind ≡ message_kind before n (chunk_kind_at (id_place f) f) → (own : Option RequestKind)
-    → begun_kind m (begun_after more n kind begun) own ≡ message_kind (before ++ f ∷ []) m own
+    → kind ≡ request_message_kind before n (chunk_kind_at (id_place f) f) → (own : Option RequestKind)
+    → begun_kind m (begun_after more n kind begun) own ≡ request_message_kind (before ++ f ∷ []) m own
 by_id n m false other begun before f kind more h chunk last is own =
     after_other more n m kind begun own other ∙ (h m own ∙ ap (λ (us : List (List ℕ)). first_kind us own) (sym (chunks_unless m before f chunk)))
 by_id n m true same begun before f kind true h chunk last is own =
     let here : n ≡ m = eqb-true n m same in
-    let us : unfinished m (before ++ f ∷ []) ≡ unfinished m before ++ f ∷ [] = chunks_with m before f
-    chunk ∙ ap (λ b. cond b [] (unfinished m before ++ f ∷ [])) last in
+    let us : unfinished_chunks m (before ++ f ∷ []) ≡ unfinished_chunks m before ++ f ∷ [] = chunks_with m before f
+    chunk ∙ ap (λ b. cond b [] (unfinished_chunks m before ++ f ∷ [])) last in
     ap (λ (k : ℕ). begun_kind k (begun_after true n kind begun) own) (sym here)
     ∙ (after_more n kind begun own
     ∙ (is
-    ∙ (ap (λ (k : ℕ). message_kind before k (chunk_kind_at (id_place f) f)) here
-    ∙ (sym (first_with (unfinished m before) f own) ∙ ap (λ (t : List (List ℕ)). first_kind t own) (sym us)))))
+    ∙ (ap (λ (k : ℕ). request_message_kind before k (chunk_kind_at (id_place f) f)) here
+    ∙ (sym (first_with (unfinished_chunks m before) f own) ∙ ap (λ (t : List (List ℕ)). first_kind t own) (sym us)))))
 by_id n m true same begun before f kind false h chunk last is own =
     let here : n ≡ m = eqb-true n m same in
-    let us : unfinished m (before ++ f ∷ []) ≡ [] = chunks_with m before f chunk ∙ ap (λ b. cond b [] (unfinished m before ++ f ∷ [])) last in
+    let us : unfinished_chunks m (before ++ f ∷ []) ≡ [] = chunks_with m before f chunk ∙ ap (λ b. cond b [] (unfinished_chunks m before ++ f ∷ [])) last in
     ap (λ (k : ℕ). begun_kind k (begun_after false n kind begun) own) (sym here)
     ∙ (after_end n kind begun own ∙ ap (λ (t : List (List ℕ)). first_kind t own) (sym us))
 
@@ -125,7 +125,7 @@ pub begun_more : (begun : List Begun) (before : List (List ℕ)) (f : List ℕ) 
     → kind ≡ begun_kind (number_from place f) begun (chunk_kind place f) → AreBegun (begun_after more (number_from place f) kind begun) (before ++ f ∷ [])
 begun_more begun before f place kind more is_msg at last h is = λ m own.
     by_id (number_from place f) m (number_from place f == m) refl begun before f kind more h (chunk_is m place f is_msg at) last
-    (is ∙ (h (number_from place f) (chunk_kind place f) ∙ ap (λ p. message_kind before (number_from place f) (chunk_kind_at p f)) (sym at))) own
+    (is ∙ (h (number_from place f) (chunk_kind place f) ∙ ap (λ p. request_message_kind before (number_from place f) (chunk_kind_at p f)) (sym at))) own
 
 -- the bytes of a frame from a place on, as a slice has them
 pub kind_from : (f : List ℕ) (place : ℕ) (own : Option RequestKind) → own ≡ request_kind_of (take (length f - (place + 4)) (drop (place + 4) f))
@@ -150,7 +150,7 @@ kept_begun begun slice left before f place number own kind more is_msg at last n
 -- the frames before the rest sent these requests, and left these messages unfinished
 pub record SentTo (octets rest : List ℕ) (requests : List Named) (begun : List Begun) : Type 0 where
   pub frames : List (List ℕ)
-  pub whole : octets ≡ joined frames ++ rest
+  pub whole : octets ≡ joined_parts frames ++ rest
   pub each : AllByRecursion IsRawFrame frames
   pub requests_are : requests ≡ each_after (λ before frame. option_to_list (request_in before frame)) frames
   pub begun_are : AreBegun begun frames
@@ -167,11 +167,11 @@ sent_none octets requests begun none empty = record {
 
 -- the place where a frame ends
 pub end_place : (octets rest frame more : List ℕ) (requests : List Named) (begun : List Begun) (s : SentTo octets rest requests begun) → rest ≡ frame ++ more
-    → length octets - length more ≡ length (joined s.frames) + length frame
+    → length octets - length more ≡ length (joined_parts s.frames) + length frame
 end_place octets rest frame more requests begun s parts = omega (
   arith,
   ap length s.whole,
-  length-append (joined s.frames) rest,
+  length-append (joined_parts s.frames) rest,
   ap length
       parts,
   length-append frame more,
@@ -182,7 +182,7 @@ pub sent_shorter : (octets rest frame more : List ℕ) (requests : List Named) (
 sent_shorter octets rest frame more requests begun s parts = omega (
   arith,
   ap length s.whole,
-  length-append (joined s.frames) rest,
+  length-append (joined_parts s.frames) rest,
   ap length
       parts,
   length-append frame more,
@@ -193,7 +193,7 @@ pub sent_more : (octets rest frame more : List ℕ) (requests new : List Named) 
     → new ≡ requests ++ option_to_list (request_in s.frames frame) → AreBegun left (s.frames ++ frame ∷ []) → SentTo octets more new left
 sent_more octets rest frame more requests new begun left s parts raw added kept = record {
   frames = s.frames ++ frame ∷ [];
-  whole = s.whole ∙ (ap (λ (t : List ℕ). joined s.frames ++ t) parts ∙ sym (joined_more s.frames frame more));
+  whole = s.whole ∙ (ap (λ (t : List ℕ). joined_parts s.frames ++ t) parts ∙ sym (joined_more s.frames frame more));
   each = all_more IsRawFrame s.frames frame s.each raw;
   requests_are =
       added

@@ -22,9 +22,9 @@ use Rattle.ua_channel.specs.declared.client.channel.ClientChannel.{ClientChannel
 use Rattle.ua_channel.specs.declared.client.event.ClientEvent.{ClientEvent}
 use Rattle.ua_channel.specs.declared.client.event.ClientEvent.TheVariants as event
 use Rattle.ua_channel.specs.declared.client.fault.AskFault.{AskFault}
-use Rattle.ua_judge.specs.Judging.{GoesOn, TakesReply, TakesSome, TakesTo, TakesUpTo, failed, reply_verdict, verdict_at}
+use Rattle.ua_judge.specs.Judging.{GoesOnJudging, TakesReply, TakesClientBytes, TakesTo, TakesUpTo, failed, reply_verdict, verdict_at}
 use Rattle.ua_judge.specs.Kinds.{is_misfit}
-use Rattle.ua_judge.specs.Verdicts.{EndWrong, Follows, GoOn, IsBefore, IsBy, IsJudged, IsNoStop, IsVerdictOn, asking, asking_reasons, asks_from, asks_of}
+use Rattle.ua_judge.specs.Verdicts.{EndWrong, GoesOnAfter, GoOnFaultless, IsBefore, IsBy, IsReasonAgainstAsking, IsNoStop, IsVerdictOn, asking, asking_reasons, named_asks_from, named_asks_of}
 use Rattle.ua_judge.specs.Verdicts.{judge_rules, place_after}
 use Rattle.ua_judge.specs.declared.named.Named.{Named}
 use Rattle.ua_judge.specs.declared.verdict.Verdict.{Verdict}
@@ -58,12 +58,12 @@ fit_none requests x asks = refl
 
 -- ---- what is taken
 
-pub goes_so : (requests : List Named) (x : ClientChannel) (asks : List Placed) (octets : List ℕ) → Follows requests x asks octets
+pub goes_so : (requests : List Named) (x : ClientChannel) (asks : List Placed) (octets : List ℕ) → GoesOnAfter requests x asks octets
     → (told : List ClientTold) × (ClientGoes x asks octets told × AreFit requests told)
 goes_so requests x asks octets s = (_, (record { frames = s.frames; rest = s.rest; stands = s.stands; told_is = refl }, s.fit))
 
 of_going : (requests : List Named) (y : ClientChannel) (asks : List Placed) (octets : List ℕ) (told : List ClientTold) → AreFit requests told
-    → ClientGoes y asks octets told → Follows requests y asks octets
+    → ClientGoes y asks octets told → GoesOnAfter requests y asks octets
 of_going requests y asks octets told fit g = record {
   frames = g.frames;
   rest = g.rest;
@@ -79,7 +79,7 @@ told_with y asks octets told e g =
     ∙ (ap (λ (t : List ClientTold). t ++ (client_rules_of y asks).tells g.frames g.frame) g.told_is ∙ ap (λ (t : List ClientTold). told ++ t) g.tells)
 
 of_telling : (requests : List Named) (y : ClientChannel) (asks : List Placed) (octets : List ℕ) (told : List ClientTold) (e : ClientTold)
-    → AreFit requests told → is_misfit requests e ≡ false → ClientGoesTelling y asks octets told e → Follows requests y asks octets
+    → AreFit requests told → is_misfit requests e ≡ false → ClientGoesTelling y asks octets told e → GoesOnAfter requests y asks octets
 of_telling requests y asks octets told e fit one g = record {
   frames = g.frames ++ g.frame ∷ [];
   rest = [];
@@ -118,9 +118,9 @@ replies_so false requests y limits asks octets told e same fit one g = of_tellin
 pub takes_some : (moment : DateTime) (piece : List ℕ) (n : ℕ) (e : ClientEvent) (limits : Limits) (requests : List Named) (y : ClientChannel)
     (asks : List Placed) (octets : List ℕ) (told : List ClientTold) →
     client_limits y ≡ limits → AreFit requests told → ClientAnswers moment piece (Ok (n, e)) y asks octets told
-    → TakesSome n e limits requests y asks piece octets
+    → TakesClientBytes n e limits requests y asks piece octets
 takes_some moment piece n event.NeedMore limits requests y asks octets told same fit h =
-    subst (λ (t : List ℕ). Follows requests y asks (octets ++ t)) (sym (take_all n piece (omega (arith, h.0))))
+    subst (λ (t : List ℕ). GoesOnAfter requests y asks (octets ++ t)) (sym (take_all n piece (omega (arith, h.0))))
     (of_going requests y asks (octets ++ piece) told fit h.1)
 takes_some moment piece n (event.Send sent) limits requests y asks octets told same fit h = of_telling requests y asks (octets ++ take n piece) told
     (Agreed h.ack) fit refl h.goes
@@ -145,9 +145,9 @@ failed_so limits requests asks octets end code true within h = (omega arith, rec
 failed_so limits requests asks octets end code false within h = (omega arith, record { within = within; holds = h })
 
 pub goes_on_so : (requests : List Named) (y : ClientChannel) (limits : Limits) (asks : List Placed) (octets : List ℕ) → client_limits y ≡ limits
-    → Follows requests y asks octets → GoOn (judge_rules limits asks requests) octets
+    → GoesOnAfter requests y asks octets → GoOnFaultless (judge_rules limits asks requests) octets
 goes_on_so requests y limits asks octets same s =
-    subst (λ (l : Limits). GoOn (judge_rules l asks requests) octets) same
+    subst (λ (l : Limits). GoOnFaultless (judge_rules l asks requests) octets) same
     (record {
       frames = s.frames;
       rest = s.rest;
@@ -156,14 +156,14 @@ goes_on_so requests y limits asks octets same s =
     })
 
 none_reply : (end : ℕ) (b : Bool) (limits : Limits) (requests : List Named) (y : ClientChannel) (asks : List Placed) (octets : List ℕ)
-    → reply_verdict end b ≡ None → TakesReply b limits requests y asks octets → Follows requests y asks octets
+    → reply_verdict end b ≡ None → TakesReply b limits requests y asks octets → GoesOnAfter requests y asks octets
 none_reply end true limits requests y asks octets none h = absurd cc
 none_reply end false limits requests y asks octets none h = h
 
 -- an event that ends nothing leaves the channel as it was, and one that ends it gives the verdict
 going_so : (end n : ℕ) (e : ClientEvent) (limits : Limits) (requests : List Named) (y : ClientChannel) (asks : List Placed) (piece octets : List ℕ)
-    → verdict_at requests end e ≡ None → TakesSome n e limits requests y asks piece octets
-    → Follows requests y asks (octets ++ take n piece)
+    → verdict_at requests end e ≡ None → TakesClientBytes n e limits requests y asks piece octets
+    → GoesOnAfter requests y asks (octets ++ take n piece)
 going_so end n event.NeedMore limits requests y asks piece octets none h = h
 going_so end n (event.Send sent) limits requests y asks piece octets none h = h
 going_so end n event.Open limits requests y asks piece octets none h = h
@@ -184,7 +184,7 @@ some_reply end false v limits requests y asks octets all some within parts h = a
 
 ending_so : (end n : ℕ) (e : ClientEvent) (v : Verdict) (limits : Limits) (requests : List Named) (y : ClientChannel) (asks : List Placed)
     (piece octets all : List ℕ) → verdict_at requests end e ≡ Some v → end ≤ length all
-    → octets ++ take n piece ≡ take end all → TakesSome n e limits requests y asks piece octets → IsBy end v × IsVerdictOn limits asks requests all v
+    → octets ++ take n piece ≡ take end all → TakesClientBytes n e limits requests y asks piece octets → IsBy end v × IsVerdictOn limits asks requests all v
 ending_so end n event.NeedMore v limits requests y asks piece octets all some within parts h = absurd cc
 ending_so end n (event.Send sent) v limits requests y asks piece octets all some within parts h = absurd cc
 ending_so end n event.Open v limits requests y asks piece octets all some within parts h = absurd cc
@@ -202,7 +202,7 @@ pub client_took : (moment : DateTime) (all piece : List ℕ) (at m n : ℕ) (e :
     → piece ≡ take m (drop at all) → client_limits y ≡ limits → AreFit requests told → found ≡ verdict_at requests (at + n) e
     → ClientAnswers moment piece (Ok (n, e)) y asks (take at all) told → TakesTo limits requests asks all (at + n) y found
 client_took moment all piece at m n e limits requests y asks told None inside few is same fit found h =
-    subst (Follows requests y asks) (parts_of all piece at m n few is) (going_so (at + n) n e limits requests y asks piece (take at all) (sym found)
+    subst (GoesOnAfter requests y asks) (parts_of all piece at m n few is) (going_so (at + n) n e limits requests y asks piece (take at all) (sym found)
     (takes_some moment piece n e limits requests y asks (take at all) told same fit h))
 client_took moment all piece at m n e limits requests y asks told (Some v) inside few is same fit found h =
     ending_so (at + n) n e v limits requests y asks piece (take at all) all (sym found) (next_at all piece at m n inside few is)
@@ -232,19 +232,19 @@ by_before limits requests octets before next (verdict.Refuses end code) h = h
 by_before limits requests octets before next (verdict.Stops end fault) h = absurd h
 
 pub goes_by_verdict : (limits : Limits) (requests before : List Named) (request : Named) (octets : List ℕ) (from at : ℕ) (y z : ClientChannel)
-    (v : Option Verdict) → is_some v ≡ true → TakesUpTo limits requests (asks_of before) octets from request.place at y v
-    → GoesOn limits requests before request octets at z v
+    (v : Option Verdict) → is_some v ≡ true → TakesUpTo limits requests (named_asks_of before) octets from request.place at y v
+    → GoesOnJudging limits requests before request octets at z v
 goes_by_verdict limits requests before request octets from at y z None some h = absurd cc
 goes_by_verdict limits requests before request octets from at y z (Some v) some h = (by_before limits requests octets before request v h.0, h.1)
 
 pub follows_on : (limits : Limits) (requests : List Named) (asks : List Placed) (octets : List ℕ) (at : ℕ) (y : ClientChannel) (v : Option Verdict)
-    → is_some v ≡ false → TakesTo limits requests asks octets at y v → Follows requests y asks (take at octets)
+    → is_some v ≡ false → TakesTo limits requests asks octets at y v → GoesOnAfter requests y asks (take at octets)
 follows_on limits requests asks octets at y None none h = h
 follows_on limits requests asks octets at y (Some v) none h = absurd cc
 
 pub follows_up_to : (limits : Limits) (requests : List Named) (asks : List Placed) (octets : List ℕ) (from place at : ℕ) (y : ClientChannel)
     (v : Option Verdict) → is_some v ≡ false → TakesUpTo limits requests asks octets from place at y v
-    → (at ≡ max from (min place (length octets))) × Follows requests y asks (take at octets)
+    → (at ≡ max from (min place (length octets))) × GoesOnAfter requests y asks (take at octets)
 follows_up_to limits requests asks octets from place at y None none h = h
 follows_up_to limits requests asks octets from place at y (Some v) none h = absurd cc
 
@@ -260,31 +260,31 @@ no_stop place (verdict.Stops end fault) h = h
 abbrev one_ask : Named → ℕ → List Placed
 one_ask n id = (n.place, asking n.opens id) ∷ []
 
-asks_more : (id : ℕ) (ns : List Named) (n : Named) → asks_from id (ns ++ n ∷ []) ≡ asks_from id ns ++ one_ask n (id + length ns)
+asks_more : (id : ℕ) (ns : List Named) (n : Named) → named_asks_from id (ns ++ n ∷ []) ≡ named_asks_from id ns ++ one_ask n (id + length ns)
 asks_more id [] n = ap (one_ask n) (omega arith)
 asks_more id (m ∷ ms) n =
-    ap (λ (t : List Placed). (m.place, asking m.opens id) ∷ t) (asks_more (suc id) ms n ∙ ap (λ (k : ℕ). asks_from (suc id) ms ++ one_ask n k) (omega arith))
+    ap (λ (t : List Placed). (m.place, asking m.opens id) ∷ t) (asks_more (suc id) ms n ∙ ap (λ (k : ℕ). named_asks_from (suc id) ms ++ one_ask n k) (omega arith))
 
-asks_count : (id : ℕ) (ns : List Named) → length (asks_from id ns) ≡ length ns
+asks_count : (id : ℕ) (ns : List Named) → length (named_asks_from id ns) ≡ length ns
 asks_count id [] = refl
 asks_count id (n ∷ ns) = ap suc (asks_count (suc id) ns)
 
-next_so : (ns : List Named) → next_id (asked_in (asks_of ns)) ≡ 2 + length ns
+next_so : (ns : List Named) → next_id (asked_in (named_asks_of ns)) ≡ 2 + length ns
 unfolding asked_in
-next_so ns = omega (arith, length-map (asks_of ns) (λ (a : Placed). a.1), asks_count 2 ns)
+next_so ns = omega (arith, length-map (named_asks_of ns) (λ (a : Placed). a.1), asks_count 2 ns)
 
 pub place_more : (at : ℕ) (ns : List Named) (n : Named) → place_after at (ns ++ n ∷ []) ≡ n.place
 place_more at [] n = refl
 place_more at (m ∷ ms) n = place_more m.place ms n
 
-pub asks_with : (ns : List Named) (n : Named) → asks_of ns ++ (n.place, asking n.opens (next_id (asked_in (asks_of ns)))) ∷ [] ≡ asks_of (ns ++ n ∷ [])
-asks_with ns n = ap (λ (k : ℕ). asks_of ns ++ one_ask n k) (next_so ns) ∙ sym (asks_more 2 ns n)
+pub asks_with : (ns : List Named) (n : Named) → named_asks_of ns ++ (n.place, asking n.opens (next_id (asked_in (named_asks_of ns)))) ∷ [] ≡ named_asks_of (ns ++ n ∷ [])
+asks_with ns n = ap (λ (k : ℕ). named_asks_of ns ++ one_ask n k) (next_so ns) ∙ sym (asks_more 2 ns n)
 
 pub judged_so : (requests : List Named) (x : ClientChannel) (limits : Limits) (asks : List Placed) (octets : List ℕ) (opens : Bool) (why : Option AskFault)
-    → client_limits x ≡ limits → (s : Follows requests x asks octets) → first_reason (asking_reasons opens s.frames asks) ≡ why
-    → IsJudged limits asks requests opens octets why
+    → client_limits x ≡ limits → (s : GoesOnAfter requests x asks octets) → first_reason (asking_reasons opens s.frames asks) ≡ why
+    → IsReasonAgainstAsking limits asks requests opens octets why
 judged_so requests x limits asks octets opens why same s is =
-    subst (λ (l : Limits). IsJudged l asks requests opens octets why) same
+    subst (λ (l : Limits). IsReasonAgainstAsking l asks requests opens octets why) same
     (record {
       frames = s.frames;
       rest = s.rest;
@@ -304,9 +304,9 @@ last_decides limits requests asks octets from place at y found v is h =
 
 pub last_keeps : (limits : Limits) (requests : List Named) (asks : List Placed) (octets : List ℕ) (from at : ℕ) (y : ClientChannel) (found : Option Verdict)
     → found ≡ None → from ≤ length octets → client_limits y ≡ limits
-    → TakesUpTo limits requests asks octets from (length octets) at y found → GoOn (judge_rules limits asks requests) octets
+    → TakesUpTo limits requests asks octets from (length octets) at y found → GoOnFaultless (judge_rules limits asks requests) octets
 last_keeps limits requests asks octets from at y found is within same h =
-    let taken : (at ≡ max from (min (length octets) (length octets))) × Follows requests y asks
+    let taken : (at ≡ max from (min (length octets) (length octets))) × GoesOnAfter requests y asks
     (take at octets) = subst (TakesUpTo limits requests asks octets from (length octets) at y) is h in
-    subst (GoOn (judge_rules limits asks requests)) (take_all at octets (omega (arith, taken.0)))
+    subst (GoOnFaultless (judge_rules limits asks requests)) (take_all at octets (omega (arith, taken.0)))
     (goes_on_so requests y limits asks (take at octets) same taken.1)

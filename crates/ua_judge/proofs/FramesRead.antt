@@ -3,10 +3,10 @@ use Rattle.std.proofs.Common.{◌≡◌, ℕ, ◌+◌, ◌-◌, ◌≤◌, List,
 use Rattle.std.proofs.Common.{ap, subst, arith, append_assoc, append-nil, length-append, take-append-drop}
 use Rattle.std.specs.List.{AllByRecursion}
 use Rattle.std.proofs.lemmas.List.{length-take-le}
-use Rattle.ua_frame.specs.Frames.{IsRawFrame, IsRest, Frames, joined, size_of}
+use Rattle.ua_frame.specs.Frames.{IsRawFrame, IsRest, Frames, joined_parts, size_of}
 use Rattle.ua_frame.proofs.Fronts.{size_front}
 use Rattle.ua_frame.proofs.RawFrames.{joined-cons, joined-nil}
-use Rattle.ua_judge.specs.Renumbered.{each_from}
+use Rattle.ua_judge.specs.Renumbered.{each_from_place}
 
 -- ---- the frame at the start
 
@@ -24,39 +24,39 @@ pub all_more : {A : Type 0} (P : A → Type 0) (xs : List A) (x : A) → AllByRe
 all_more P [] x all p = (p, tt)
 all_more P (y ∷ ys) x all p = (all.0, all_more P ys x all.1 p)
 
-pub joined_more : (fs : List (List ℕ)) (f rest : List ℕ) → joined (fs ++ f ∷ []) ++ rest ≡ joined fs ++ (f ++ rest)
+pub joined_more : (fs : List (List ℕ)) (f rest : List ℕ) → joined_parts (fs ++ f ∷ []) ++ rest ≡ joined_parts fs ++ (f ++ rest)
 joined_more [] f rest = joined-cons f [] rest ∙ (ap (λ (t : List ℕ). f ++ t) (joined-nil rest) ∙ sym (joined-nil (f ++ rest)))
 joined_more (g ∷ fs) f rest = joined-cons g (fs ++ f ∷ []) rest ∙ (ap (λ (t : List ℕ). g ++ t) (joined_more fs f rest) ∙ sym (joined-cons g fs (f ++ rest)))
 
-pub joined_length : (fs : List (List ℕ)) (f : List ℕ) → length (joined (f ∷ fs)) ≡ length f + length (joined fs)
+pub joined_length : (fs : List (List ℕ)) (f : List ℕ) → length (joined_parts (f ∷ fs)) ≡ length f + length (joined_parts fs)
 joined_length fs f =
-    let parts : joined (f ∷ fs) ++ [] ≡ f ++ (joined fs ++ []) = joined-cons f fs [] in
-    omega (arith, ap length parts, length-append (joined (f ∷ fs)) [], length-append f (joined fs ++ []), length-append (joined fs) [])
+    let parts : joined_parts (f ∷ fs) ++ [] ≡ f ++ (joined_parts fs ++ []) = joined-cons f fs [] in
+    omega (arith, ap length parts, length-append (joined_parts (f ∷ fs)) [], length-append f (joined_parts fs ++ []), length-append (joined_parts fs) [])
 
-joined_none : length (joined []) ≡ 0
-unfolding joined
+joined_none : length (joined_parts []) ≡ 0
+unfolding joined_parts
 joined_none = refl
 
 pub each_more : {A : Type 0} (give : ℕ → List ℕ → List A) (at : ℕ) (fs : List (List ℕ)) (f : List ℕ) →
-    each_from give at (fs ++ f ∷ []) ≡ each_from give at fs ++ give (at + length (joined fs) + length f) f
-unfolding joined
+    each_from_place give at (fs ++ f ∷ []) ≡ each_from_place give at fs ++ give (at + length (joined_parts fs) + length f) f
+unfolding joined_parts
 each_more {A = A} give at [] f =
-    let place : at + length f ≡ at + length (joined []) + length f = omega (arith, joined_none) in
+    let place : at + length f ≡ at + length (joined_parts []) + length f = omega (arith, joined_none) in
     append-nil (give (at + length f) f) ∙ ap (λ (n : ℕ). give n f) place
 each_more {A = A} give at (g ∷ fs) f =
     let later = each_more give (at + length g) fs f in
-    let place : at + length g + length (joined fs) + length f ≡ at + length (joined (g ∷ fs)) + length f = omega (arith, joined_length fs g) in
-    ap (λ (t : List A). give (at + length g) g ++ t) (later ∙ ap (λ (n : ℕ). each_from give (at + length g) fs ++ give n f) place)
-    ∙ sym (append_assoc (give (at + length g) g) (each_from give (at + length g) fs) (give (at + length (joined (g ∷ fs)) + length f) f))
+    let place : at + length g + length (joined_parts fs) + length f ≡ at + length (joined_parts (g ∷ fs)) + length f = omega (arith, joined_length fs g) in
+    ap (λ (t : List A). give (at + length g) g ++ t) (later ∙ ap (λ (n : ℕ). each_from_place give (at + length g) fs ++ give n f) place)
+    ∙ sym (append_assoc (give (at + length g) g) (each_from_place give (at + length g) fs) (give (at + length (joined_parts (g ∷ fs)) + length f) f))
 
 -- ---- as far as the frames were read
 
 -- the frames before the rest gave this
 pub record ReadTo {A : Type 0} (give : ℕ → List ℕ → List A) (octets rest : List ℕ) (out : List A) : Type 0 where
   pub frames : List (List ℕ)
-  pub whole : octets ≡ joined frames ++ rest
+  pub whole : octets ≡ joined_parts frames ++ rest
   pub each : AllByRecursion IsRawFrame frames
-  pub out_is : out ≡ each_from give 0 frames
+  pub out_is : out ≡ each_from_place give 0 frames
 
 pub read_none : {A : Type 0} (give : ℕ → List ℕ → List A) (octets : List ℕ) (out : List A) → out ≡ [] → ReadTo give octets octets out
 read_none give octets out none = record { frames = []; whole = sym (joined-nil octets); each = tt; out_is = none }
@@ -64,17 +64,17 @@ read_none give octets out none = record { frames = []; whole = sym (joined-nil o
 pub read_more : {A : Type 0} (give : ℕ → List ℕ → List A) (octets rest frame more : List ℕ) (out new : List A) → ReadTo give octets rest out
     → rest ≡ frame ++ more → IsRawFrame frame → new ≡ out ++ give (length octets - length more) frame → ReadTo give octets more new
 read_more {A = A} give octets rest frame more out new r parts raw added =
-    let whole : octets ≡ joined (r.frames ++ frame ∷ []) ++ more = r.whole
-    ∙ (ap (λ (t : List ℕ). joined r.frames ++ t) parts ∙ sym (joined_more r.frames frame more)) in
-    let split : octets ≡ joined r.frames ++ (frame ++ more) = r.whole ∙ ap (λ (t : List ℕ). joined r.frames ++ t) parts in
-    let place : length octets - length more ≡ 0 + length (joined r.frames) + length frame =
-    omega (arith, ap length split, length-append (joined r.frames) (frame ++ more), length-append frame more) in
+    let whole : octets ≡ joined_parts (r.frames ++ frame ∷ []) ++ more = r.whole
+    ∙ (ap (λ (t : List ℕ). joined_parts r.frames ++ t) parts ∙ sym (joined_more r.frames frame more)) in
+    let split : octets ≡ joined_parts r.frames ++ (frame ++ more) = r.whole ∙ ap (λ (t : List ℕ). joined_parts r.frames ++ t) parts in
+    let place : length octets - length more ≡ 0 + length (joined_parts r.frames) + length frame =
+    omega (arith, ap length split, length-append (joined_parts r.frames) (frame ++ more), length-append frame more) in
     record {
       frames = r.frames ++ frame ∷ [];
       whole = whole;
       each = all_more IsRawFrame r.frames frame r.each raw;
       out_is = added
-          ∙ (ap (λ (n : ℕ). out ++ give n frame) place ∙ (ap (λ (t : List A). t ++ give (0 + length (joined r.frames) + length frame) frame) r.out_is
+          ∙ (ap (λ (n : ℕ). out ++ give n frame) place ∙ (ap (λ (t : List A). t ++ give (0 + length (joined_parts r.frames) + length frame) frame) r.out_is
           ∙ sym (each_more give 0 r.frames frame)));
     }
 
@@ -85,7 +85,7 @@ read_all give octets rest out r partial = record { whole = r.whole; each = r.eac
 pub read_shorter : {A : Type 0} (give : ℕ → List ℕ → List A) (octets rest frame more : List ℕ) (out : List A) → ReadTo give octets rest out
     → rest ≡ frame ++ more → length more ≤ length octets
 read_shorter give octets rest frame more out r parts =
-    omega (arith, ap length r.whole, length-append (joined r.frames) rest, ap length parts, length-append frame more)
+    omega (arith, ap length r.whole, length-append (joined_parts r.frames) rest, ap length parts, length-append frame more)
 
 -- a raw frame and what follows it, by the size in the header
 pub split_raw : (o front back : List ℕ) (n : ℕ) → n ≡ size_of o → front ≡ take n o → back ≡ drop n o → 8 ≤ n → n ≤ length o

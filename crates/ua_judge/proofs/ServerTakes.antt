@@ -15,8 +15,8 @@ use Rattle.ua_channel.specs.declared.server_event.ServerEvent.TheVariants as eve
 use Rattle.ua_channel.specs.declared.server_fault.ChannelFault.{ChannelFault}
 use Rattle.ua_channel.specs.declared.server_fault.ChannelFault.TheVariants.{Refused, OutOfMemory}
 use Rattle.ua_channel.specs.declared.server_fault.ChannelFault.TheVariants as fault
-use Rattle.ua_judge.specs.Judging.{Advances, IsOutcome, ServerTakesTo, closed_at}
-use Rattle.ua_judge.specs.Verdicts.{EndOver, EndWrong, GoOn, IsClientVerdict, ServerAt}
+use Rattle.ua_judge.specs.Judging.{AdvancesServer, IsOutcome, ServerTakesTo, closed_at}
+use Rattle.ua_judge.specs.Verdicts.{EndFaultless, EndWrong, GoOnFaultless, IsClientVerdict, ServerAt}
 use Rattle.ua_judge.specs.declared.verdict.Verdict.{Verdict}
 use Rattle.ua_judge.proofs.Pieces.{next_at, parts_of}
 
@@ -39,8 +39,8 @@ module _ (limits : Limits) (channel : ℕ) (y : ServerChannel) (octets : List �
   rules_same : server_rules (limits_of y) (channel_of y) ≡ server_rules limits channel
   rules_same = ap (λ (l : Limits). server_rules l (channel_of y)) limits_are ∙ ap (server_rules limits) channel_is
 
-  pub on_close : ClosedAt y octets told → EndOver (server_rules limits channel) octets
-  on_close h = subst (λ (R : Rules Told ℕ). EndOver R octets) rules_same (record { frames = h.frames; run = h.run })
+  pub on_close : ClosedAt y octets told → EndFaultless (server_rules limits channel) octets
+  on_close h = subst (λ (R : Rules Told ℕ). EndFaultless R octets) rules_same (record { frames = h.frames; run = h.run })
 
   pub on_refusal : (code : ℕ) → RefusedAt y octets told code → EndWrong (server_rules limits channel) octets code
   on_refusal code h = subst (λ (R : Rules Told ℕ). EndWrong R octets code) rules_same
@@ -79,10 +79,10 @@ module _ (limits : Limits) (channel : ℕ) (id number : ℕ) (moment : DateTime)
   at_event all v within parts (Asked request message) some h = absurd cc
   at_event all v within parts (Aborted request) some h = absurd cc
   at_event all v within parts event.Closed some h =
-      let over : EndOver (server_rules limits channel) (octets ++ take n piece) = on_close limits channel y (octets ++ take n piece) (told ++ said.Closed ∷ [])
+      let over : EndFaultless (server_rules limits channel) (octets ++ take n piece) = on_close limits channel y (octets ++ take n piece) (told ++ said.Closed ∷ [])
       limits_are channel_is h in
       subst (IsClientVerdict limits channel all) (sym (some_is some))
-      (record { within = within; holds = subst (EndOver (server_rules limits channel)) parts over })
+      (record { within = within; holds = subst (EndFaultless (server_rules limits channel)) parts over })
 
   pub server_ends : (all : List ℕ) (v : Verdict) → end ≤ length all → octets ++ take n piece ≡ take end all → (answer : Result ServerEvent ChannelFault)
       → IsOutcome end answer (Some v)
@@ -101,15 +101,15 @@ pub goes_at : (limits : Limits) (channel : ℕ) (x : ServerChannel) (octets : Li
 goes_at limits channel x octets s = (_, record { frames = s.frames; rest = s.rest; stands = s.stands; told_is = refl })
 
 pub on_end : (limits : Limits) (channel : ℕ) (x : ServerChannel) (octets : List ℕ) → ServerAt limits channel x octets
-    → GoOn (server_rules limits channel) octets
+    → GoOnFaultless (server_rules limits channel) octets
 on_end limits channel x octets s =
-    subst (λ (R : Rules Told ℕ). GoOn R octets) (ap (λ (l : Limits). server_rules l (channel_of x)) s.limits_are ∙ ap (server_rules limits) s.channel_is)
+    subst (λ (R : Rules Told ℕ). GoOnFaultless R octets) (ap (λ (l : Limits). server_rules l (channel_of x)) s.limits_are ∙ ap (server_rules limits) s.channel_is)
     (record { frames = s.frames; rest = s.rest; run = s.stands.run })
 
 -- what is made of an answer and a verdict
 pub server_took : (limits : Limits) (channel : ℕ) (all piece : List ℕ) (at m n : ℕ) (y : ServerChannel) (answer : Result ServerEvent ChannelFault)
     (found : Option Verdict) → at ≤ length all → n ≤ length piece
-    → piece ≡ take m (drop at all) → Advances limits channel y piece (take at all) n answer → IsOutcome (at + n) answer found
+    → piece ≡ take m (drop at all) → AdvancesServer limits channel y piece (take at all) n answer → IsOutcome (at + n) answer found
     → ServerTakesTo limits channel all (at + n) y found
 server_took limits channel all piece at m n y answer None inside few is a outcome =
     let parts : take at all ++ take n piece ≡ take (at + n) all = parts_of all piece at m n few is in
@@ -129,7 +129,7 @@ further_by piece end n (Err fault.Closed) outcome p some = absurd outcome
 
 pub advances_by : (limits : Limits) (channel id number : ℕ) (moment : DateTime) (y : ServerChannel) (piece octets : List ℕ) (n : ℕ)
     (answer : Result ServerEvent ChannelFault) (told : List Told)
-    → limits_of y ≡ limits → channel_of y ≡ channel → AnswersAt id number moment piece n answer y octets told → Advances limits channel y piece octets n answer
+    → limits_of y ≡ limits → channel_of y ≡ channel → AnswersAt id number moment piece n answer y octets told → AdvancesServer limits channel y piece octets n answer
 advances_by limits channel id number moment y piece octets n answer told limits_are channel_is h = record {
   limits_are = limits_are;
   channel_is = channel_is;

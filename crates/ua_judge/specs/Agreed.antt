@@ -33,21 +33,21 @@ hello_by (Some kind.Hel) frame = whole_of hello (drop 8 frame)
 hello_by other frame = None
 
 -- the Acknowledge that a frame carries, if it is an ACK whose body is one
-abbrev pub ack_of : List ℕ → Option Ack
-ack_of frame = ack_by (kind_of frame) frame
+abbrev pub ack_in_frame : List ℕ → Option Ack
+ack_in_frame frame = ack_by (kind_of frame) frame
 
 -- the Hello that a frame carries, if it is a HEL whose body is one
-abbrev pub hello_of : List ℕ → Option Hello
-hello_of frame = hello_by (kind_of frame) frame
+abbrev pub hello_in_frame : List ℕ → Option Hello
+hello_in_frame frame = hello_by (kind_of frame) frame
 
 -- the same of the first frame, if there is one
 abbrev pub ack_first : Option (List ℕ) → Option Ack
 ack_first None = None
-ack_first (Some frame) = ack_of frame
+ack_first (Some frame) = ack_in_frame frame
 
 abbrev pub hello_first : Option (List ℕ) → Option Hello
 hello_first None = None
-hello_first (Some frame) = hello_of frame
+hello_first (Some frame) = hello_in_frame frame
 
 -- the Acknowledge that a server's bytes begin with, if they do
 pub record HasAck (octets : List ℕ) (found : Option Ack) : Type 0 where

@@ -3,7 +3,7 @@ use Rattle.std.specs.Prelude.{◌≡◌, ℕ, ◌==◌, Bool, not, cond, List, [
 use Rattle.std.specs.List.{filter}
 use Rattle.ua_services.specs.declared.request.RequestKind.{RequestKind}
 use Rattle.ua_judge.specs.declared.requests.Begun.{Begun}
-use Rattle.ua_judge.specs.Requests.{message_kind}
+use Rattle.ua_judge.specs.Requests.{request_message_kind}
 
 -- the kind that is kept of the message of a RequestId, or else this one
 abbrev pub begun_kind : ℕ → List Begun → Option RequestKind → Option RequestKind
@@ -20,4 +20,4 @@ begun_after more number kind begun = filter (λ (b : Begun). not (b.number == nu
 
 -- what is kept is right after these frames: the kind of each message that they leave unfinished
 abbrev pub AreBegun : List Begun → List (List ℕ) → Type 0
-AreBegun begun before = (number : ℕ) (own : Option RequestKind) → begun_kind number begun own ≡ message_kind before number own
+AreBegun begun before = (number : ℕ) (own : Option RequestKind) → begun_kind number begun own ≡ request_message_kind before number own

@@ -19,9 +19,9 @@ abbrev pub token_name : Opened → Named
 token_name opened = record { number = opened.token; place = 0; opens = true; kind = None }
 
 -- the channel of the first opening, 0 if there is none
-abbrev pub channel_of : List Opened → ℕ
-channel_of [] = 0
-channel_of (opened ∷ openings) = opened.channel
+abbrev pub channel_of_openings : List Opened → ℕ
+channel_of_openings [] = 0
+channel_of_openings (opened ∷ openings) = opened.channel
 
 -- the verdict on the client: that of a server with the limits of the recorded one, on its channel, whose
 -- k-th token is the k-th recorded one
@@ -32,7 +32,7 @@ pub record JudgesUp (up down : List ℕ) (verdict : Verdict) : Type 0 where
   pub limits_are : AreServerLimits down limits
   pub octets : List ℕ
   pub renumbered : IsRenumbered Token (map token_name openings) up octets
-  pub is : IsClientVerdict limits (channel_of openings) octets verdict
+  pub is : IsClientVerdict limits (channel_of_openings openings) octets verdict
 
 -- the verdict on the server: that of a client with the limits of the recorded one, whose k-th request is
 -- the k-th recorded one, sent where the marks tell

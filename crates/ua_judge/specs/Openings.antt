@@ -8,7 +8,7 @@ use Rattle.ua_opening.specs.declared.open.OpenAnswer.{OpenAnswer}
 use Rattle.ua_opening.specs.declared.open.OpenAnswer.TheVariants.{Open, Fault}
 use Rattle.ua_judge.specs.declared.openings.Opened.{Opened}
 use Rattle.ua_judge.specs.RawFrames.{id_place}
-use Rattle.ua_judge.specs.Renumbered.{each_from}
+use Rattle.ua_judge.specs.Renumbered.{each_from_place}
 
 -- the channel and the token of an answer, if it is a response
 abbrev pub opened_with : Option OpenAnswer → Option Opened
@@ -21,17 +21,17 @@ abbrev pub opened_in : List ℕ → Option Opened
 opened_in body = opened_with (answer_read body)
 
 -- the body of an OPN follows its RequestId
-abbrev pub opened_at : Option Kind → Option ℕ → List ℕ → Option Opened
-opened_at (Some Opn) (Some place) frame = opened_in (drop (place + 4) frame)
-opened_at kind place frame = None
+abbrev pub opened_behind_id : Option Kind → Option ℕ → List ℕ → Option Opened
+opened_behind_id (Some Opn) (Some place) frame = opened_in (drop (place + 4) frame)
+opened_behind_id kind place frame = None
 
 -- what a frame brought, if it is an OPN with a response
-abbrev pub opened_by : List ℕ → Option Opened
-opened_by frame = opened_at (kind_of frame) (id_place frame) frame
+abbrev pub opened_in_frame : List ℕ → Option Opened
+opened_in_frame frame = opened_behind_id (kind_of frame) (id_place frame) frame
 
 -- what the OPNs of a server's bytes brought, in order
 pub record AreOpenings (octets : List ℕ) (found : List Opened) : Type 0 where
   pub frames : List (List ℕ)
   pub rest : List ℕ
   pub framed : Frames octets frames rest
-  pub found_are : found ≡ each_from (λ end frame. option_to_list (opened_by frame)) 0 frames
+  pub found_are : found ≡ each_from_place (λ end frame. option_to_list (opened_in_frame frame)) 0 frames

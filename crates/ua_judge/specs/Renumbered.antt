@@ -12,9 +12,9 @@ use Rattle.ua_judge.specs.RawFrames.{number_from, token_place, id_place}
 
 -- what frames give, each by itself and by the place where it ends, one after the other; the first one
 -- begins at this place
-abbrev pub each_from : {A : Type 0} → (ℕ → List ℕ → List A) → ℕ → List (List ℕ) → List A
-each_from give at [] = []
-each_from give at (frame ∷ frames) = give (at + length frame) frame ++ each_from give (at + length frame) frames
+abbrev pub each_from_place : {A : Type 0} → (ℕ → List ℕ → List A) → ℕ → List (List ℕ) → List A
+each_from_place give at [] = []
+each_from_place give at (frame ∷ frames) = give (at + length frame) frame ++ each_from_place give (at + length frame) frames
 
 -- the place of the field in a frame that has it
 abbrev pub place_of : Field → List ℕ → Option ℕ
@@ -22,13 +22,13 @@ place_of Token frame = token_place frame
 place_of Request frame = id_place frame
 
 -- a frame with another UInt32 at a place
-abbrev pub with_number : ℕ → ℕ → List ℕ → List ℕ
-with_number place number frame = take place frame ++ (number_octets 4 number ++ drop (place + 4) frame)
+abbrev pub with_number_at : ℕ → ℕ → List ℕ → List ℕ
+with_number_at place number frame = take place frame ++ (number_octets 4 number ++ drop (place + 4) frame)
 
 -- a frame that ends at this place, with the number at this place in it replaced, if there is one
 abbrev pub renumbered_at : List Named → ℕ → Option ℕ → List ℕ → List ℕ
 renumbered_at names end None frame = frame
-renumbered_at names end (Some place) frame = with_number place (rank (is_known (number_from place frame) end) names) frame
+renumbered_at names end (Some place) frame = with_number_at place (rank (is_known (number_from place frame) end) names) frame
 
 -- a frame that ends at this place, renumbered
 abbrev pub renumbered : Field → List Named → ℕ → List ℕ → List ℕ
@@ -39,4 +39,4 @@ pub record IsRenumbered (field : Field) (names : List Named) (octets out : List 
   pub frames : List (List ℕ)
   pub rest : List ℕ
   pub framed : Frames octets frames rest
-  pub out_is : out ≡ each_from (renumbered field names) 0 frames ++ rest
+  pub out_is : out ≡ each_from_place (renumbered field names) 0 frames ++ rest

@@ -30,13 +30,13 @@ use Rattle.ua_judge.specs.declared.verdict.Verdict.TheVariants.{Keeps, Closes, B
 -- ---- by rules
 
 -- the bytes go on: nothing in them is wrong, up to an incomplete frame
-pub record GoOn {E X : Type 0} (R : Rules E X) (octets : List ℕ) : Type 0 where
+pub record GoOnFaultless {E X : Type 0} (R : Rules E X) (octets : List ℕ) : Type 0 where
   pub frames : List Frame
   pub rest : List ℕ
   pub run : Run R octets frames rest Going
 
 -- the bytes end with the last frame that is looked at, and nothing in them is wrong
-pub record EndOver {E X : Type 0} (R : Rules E X) (octets : List ℕ) : Type 0 where
+pub record EndFaultless {E X : Type 0} (R : Rules E X) (octets : List ℕ) : Type 0 where
   pub frames : List Frame
   pub run : Run R octets frames [] Over
 
@@ -57,8 +57,8 @@ pub record UpTo (octets : List ℕ) (end : ℕ) (of : List ℕ → Type 0) : Typ
 
 -- the verdict of a server with these limits, whose channel has this id, on a client's bytes
 abbrev pub IsClientVerdict : Limits → ℕ → List ℕ → Verdict → Type 0
-IsClientVerdict limits channel octets Keeps = GoOn (server_rules limits channel) octets
-IsClientVerdict limits channel octets (Closes end) = UpTo octets end (EndOver (server_rules limits channel))
+IsClientVerdict limits channel octets Keeps = GoOnFaultless (server_rules limits channel) octets
+IsClientVerdict limits channel octets (Closes end) = UpTo octets end (EndFaultless (server_rules limits channel))
 IsClientVerdict limits channel octets (Breaks end code) = UpTo octets end (λ o. EndWrong (server_rules limits channel) o code.code)
 IsClientVerdict limits channel octets (Refuses end code) = ⊥
 IsClientVerdict limits channel octets (Stops end fault) = ⊥
@@ -82,11 +82,11 @@ judge_rules limits asks requests = refusing (client_rules limits asks) (ours 0x8
 
 -- the verdict of such a client on a server's bytes
 abbrev pub IsVerdictOn : Limits → List Placed → List Named → List ℕ → Verdict → Type 0
-IsVerdictOn limits asks requests octets Keeps = GoOn (judge_rules limits asks requests) octets
+IsVerdictOn limits asks requests octets Keeps = GoOnFaultless (judge_rules limits asks requests) octets
 IsVerdictOn limits asks requests octets (Closes end) = ⊥
 IsVerdictOn limits asks requests octets (Breaks end code) = UpTo octets end (λ o. EndWrong (judge_rules limits asks requests) o (ours code.code))
 IsVerdictOn limits asks requests octets (Refuses end code) = UpTo octets end (λ o. EndWrong (judge_rules limits asks requests) o (peers code.code))
-IsVerdictOn limits asks requests octets (Stops end fault) = UpTo octets end (GoOn (judge_rules limits asks requests))
+IsVerdictOn limits asks requests octets (Stops end fault) = UpTo octets end (GoOnFaultless (judge_rules limits asks requests))
 
 -- ---- a server: which requests it was sent
 
@@ -96,13 +96,13 @@ asking true id = Renewal id
 asking false id = Call id
 
 -- requests at their places, under our RequestIds, of which this is the first
-abbrev pub asks_from : ℕ → List Named → List Placed
-asks_from id [] = []
-asks_from id (name ∷ names) = (name.place, asking name.opens id) ∷ asks_from (suc id) names
+abbrev pub named_asks_from : ℕ → List Named → List Placed
+named_asks_from id [] = []
+named_asks_from id (name ∷ names) = (name.place, asking name.opens id) ∷ named_asks_from (suc id) names
 
 -- the requests after the first OPN, which has the RequestId 1
-abbrev pub asks_of : List Named → List Placed
-asks_of names = asks_from 2 names
+abbrev pub named_asks_of : List Named → List Placed
+named_asks_of names = named_asks_from 2 names
 
 -- why a client that received these frames and sent these requests cannot send a renewal, or a call whose
 -- body does not matter, in the order in which it is judged
@@ -111,7 +111,7 @@ asking_reasons true frames asks = renewing_reasons (received frames) (asked_in a
 asking_reasons false frames asks = call_reasons (received frames) (asked_in asks) 0 (0 ∷ [])
 
 -- this is why a request cannot be sent after some bytes, or none where it can
-pub record IsJudged (limits : Limits) (asks : List Placed) (requests : List Named) (opens : Bool) (octets : List ℕ) (why : Option AskFault) : Type 0 where
+pub record IsReasonAgainstAsking (limits : Limits) (asks : List Placed) (requests : List Named) (opens : Bool) (octets : List ℕ) (why : Option AskFault) : Type 0 where
   pub frames : List Frame
   pub rest : List ℕ
   pub run : Run (judge_rules limits asks requests) octets frames rest Going
@@ -126,7 +126,7 @@ place_after at (name ∷ names) = place_after name.place names
 pub record IsSent (limits : Limits) (requests : List Named) (octets : List ℕ) (before : List Named) (request : Named) : Type 0 where
   pub later : place_after 0 before ≤ request.place
   pub within : request.place ≤ length octets
-  pub taken : IsJudged limits (asks_of before) requests request.opens (take request.place octets) None
+  pub taken : IsReasonAgainstAsking limits (named_asks_of before) requests request.opens (take request.place octets) None
 
 -- a request cannot be sent after those before it. The bytes are taken up to its place: no further than
 -- before if that is passed, and to their end if they are fewer. At its place the client refuses it
@@ -134,7 +134,7 @@ pub record IsSent (limits : Limits) (requests : List Named) (octets : List ℕ) 
 pub record IsNotSent
     (limits : Limits) (requests : List Named) (octets : List ℕ) (before : List Named) (request : Named) (end : ℕ) (fault : AskFault) : Type 0 where
   pub end_is : end ≡ max (place_after 0 before) (min request.place (length octets))
-  pub refused : (request.place ≡ end) → IsJudged limits (asks_of before) requests request.opens (take end octets) (Some fault)
+  pub refused : (request.place ≡ end) → IsReasonAgainstAsking limits (named_asks_of before) requests request.opens (take end octets) (Some fault)
   pub placeless : ((request.place ≡ end) → ⊥) → fault ≡ NotOpen
 
 -- the verdict is on bytes up to this place, and ends the channel
@@ -154,23 +154,23 @@ IsNoStop (Stops end fault) = ⊥
 IsNoStop other = Unit {0}
 
 -- the verdict after these requests were sent, and these were not: where all were sent it stops at none
-abbrev pub Leaves : Limits → List Named → List ℕ → List Named → List Named → Verdict → Type 0
-Leaves limits requests octets before [] verdict = IsNoStop verdict
-Leaves limits requests octets before (next ∷ others) verdict = IsBefore limits requests octets before next verdict
+abbrev pub LeavesUnsent : Limits → List Named → List ℕ → List Named → List Named → Verdict → Type 0
+LeavesUnsent limits requests octets before [] verdict = IsNoStop verdict
+LeavesUnsent limits requests octets before (next ∷ others) verdict = IsBefore limits requests octets before next verdict
 
 -- the verdict of a client with these limits that sends these requests in order, each where so many bytes
 -- have come, until something is wrong or one cannot be sent: so many were sent before
 pub record IsServerVerdict (limits : Limits) (requests : List Named) (octets : List ℕ) (verdict : Verdict) : Type 0 where
   pub sent : ℕ
   pub each : AllAfter (IsSent limits requests octets) (take sent requests)
-  pub leaves : Leaves limits requests octets (take sent requests) (drop sent requests) verdict
-  pub is : IsVerdictOn limits (asks_of (take sent requests)) requests octets verdict
+  pub leaves : LeavesUnsent limits requests octets (take sent requests) (drop sent requests) verdict
+  pub is : IsVerdictOn limits (named_asks_of (take sent requests)) requests octets verdict
 
 -- ---- channels, as far as they have come
 
 -- the channel goes on after these operations and bytes, and no reply in them is of another kind than
 -- its request
-pub record Follows (requests : List Named) (x : ClientChannel) (asks : List Placed) (octets : List ℕ) : Type 0 where
+pub record GoesOnAfter (requests : List Named) (x : ClientChannel) (asks : List Placed) (octets : List ℕ) : Type 0 where
   pub frames : List Frame
   pub rest : List ℕ
   pub stands : ClientStands x asks octets frames rest

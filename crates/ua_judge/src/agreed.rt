@@ -3,7 +3,7 @@
 ghost use Rattle.std.specs.Prelude.{◌≡◌, ◌≤◌, None, Some, length, option_map, IfOk, IfSome, MatchOption};
 ghost use Rattle.ua_frame.specs.Messages.{ack, hello};
 ghost use Rattle.ua_frame.specs.Whole.{whole_of};
-ghost use Rattle.ua_judge.specs.Agreed.{IsFirst, ack_of, hello_of, HasAck, HasHello, AckLimits};
+ghost use Rattle.ua_judge.specs.Agreed.{IsFirst, ack_in_frame, hello_in_frame, HasAck, HasHello, AckLimits};
 ghost use Rattle.ua_judge.specs.Agreed.{HelloLimits, AreServerLimits, AreClientLimits};
 
 use crate::limits::limits_with;
@@ -40,7 +40,7 @@ fn read_hello(alloc: Global, body: &[u8]) -> Result<Option<Hello>, AllocError>
 /// The Acknowledge that a frame carries.
 fn ack_of(alloc: Global, frame: &[u8]) -> Result<Option<Ack>, AllocError>
     requires { 8 ≤ length frame.now }
-    ensures { IfOk result (λ found. found ≡ ack_of frame.now) }
+    ensures { IfOk result (λ found. found ≡ ack_in_frame frame.now) }
 {
     match kind_of(frame) {
         Some(Kind::Ack) => read_ack(alloc, &frame[8..]),
@@ -51,7 +51,7 @@ fn ack_of(alloc: Global, frame: &[u8]) -> Result<Option<Ack>, AllocError>
 /// The Hello that a frame carries.
 fn hello_of(alloc: Global, frame: &[u8]) -> Result<Option<Hello>, AllocError>
     requires { 8 ≤ length frame.now }
-    ensures { IfOk result (λ found. found ≡ hello_of frame.now) }
+    ensures { IfOk result (λ found. found ≡ hello_in_frame frame.now) }
 {
     match kind_of(frame) {
         Some(Kind::Hel) => read_hello(alloc, &frame[8..]),

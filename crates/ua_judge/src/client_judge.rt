@@ -2,7 +2,7 @@
 
 ghost use Rattle.std.specs.Prelude.{◌≡◌, ◌<◌, ◌≤◌, ◌-◌, ℕ, List, None, length, take, drop, IfOk};
 ghost use Rattle.ua_frame.specs.declared.limits.Limits.{Limits};
-ghost use Rattle.ua_judge.specs.Judging.{Advances, IsOutcome, IsRefusal, ServerTakesTo, closed_at};
+ghost use Rattle.ua_judge.specs.Judging.{AdvancesServer, IsOutcome, IsRefusalVerdict, ServerTakesTo, closed_at};
 ghost use Rattle.ua_channel.specs.ServerAnswers.{Progress};
 ghost use Rattle.ua_judge.specs.Verdicts.{IsClientVerdict, ServerAt};
 
@@ -25,7 +25,7 @@ fn closed_at(end: usize, event: &ServerEvent) -> Option<Verdict>
 
 /// The verdict at a fault that is a refusal.
 fn refused_at(end: usize, fault: ChannelFault) -> Result<Option<Verdict>, AllocError>
-    ensures { IfOk result (IsRefusal end fault) }
+    ensures { IfOk result (IsRefusalVerdict end fault) }
 {
     match fault {
         ChannelFault::Refused { code, .. } => Ok(Some(Verdict::Breaks { end, code })),
@@ -52,7 +52,7 @@ fn advance(
     piece: &[u8],
 ) -> ua_channel::Taken<Result<ServerEvent, ChannelFault>>
     ensures takes { (limits : Limits) (channel : ℕ) (octets : List ℕ) → ServerAt limits channel server.old octets
-        → Advances limits channel server.new piece.now octets result.size result.outcome }
+        → AdvancesServer limits channel server.new piece.now octets result.size result.outcome }
     ensures within { result.size ≤ length piece.now }
     ensures progress { Progress piece.now result.size result.outcome }
 {

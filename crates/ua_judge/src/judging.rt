@@ -1,7 +1,7 @@
 //! Both sides of a recorded connection, judged.
 
 ghost use Rattle.std.specs.Prelude.{◌≡◌, drop, map, IfOk};
-ghost use Rattle.ua_judge.specs.Judged.{JudgesUp, JudgesDown, token_name, channel_of};
+ghost use Rattle.ua_judge.specs.Judged.{JudgesUp, JudgesDown, token_name, channel_of_openings};
 
 use crate::agreed::{limits_of_client, limits_of_server};
 use crate::client_judge::judge_client;
@@ -33,7 +33,7 @@ fn tokens_of(alloc: Global, openings: &[Opened]) -> Result<Vec<Named>, AllocErro
 
 /// The channel of openings: that of the first, or 0.
 fn channel_of(openings: &[Opened]) -> u32
-    ensures { result ≡ channel_of openings.now }
+    ensures { result ≡ channel_of_openings openings.now }
 {
     match openings.first() {
         Some(opened) => opened.channel,

@@ -3,8 +3,8 @@
 ghost use Rattle.std.specs.List.{concat};
 ghost use Rattle.std.specs.Prelude.{◌≡◌, not, IfOk};
 ghost use Rattle.ua_channel.specs.ClientTold.ClientTold.{Answered};
-ghost use Rattle.ua_judge.specs.Kinds.{encoding_of, is_fit, is_misfit, is_reply_to, kind_asked, request_kind_of};
-ghost use Rattle.ua_services.specs.Request.{numbered as kind_numbered};
+ghost use Rattle.ua_judge.specs.Kinds.{encoding_of, is_fit_answer, is_misfit, is_reply_to, kind_asked_under, request_kind_of};
+ghost use Rattle.ua_services.specs.Request.{request_kind_numbered as kind_numbered};
 ghost use Rattle.ua_services.specs.Response.{own_answer, responses};
 
 use crate::named::Named;
@@ -94,7 +94,7 @@ pub fn request_kind_of(alloc: Global, body: &[u8]) -> Result<Option<RequestKind>
 
 /// Whether a reply answers a request of this kind.
 fn answers(alloc: Global, kind: RequestKind, reply: &Message) -> Result<bool, AllocError>
-    ensures { IfOk result (λ fit. fit ≡ is_fit (Some kind) (concat reply.now)) }
+    ensures { IfOk result (λ fit. fit ≡ is_fit_answer (Some kind) (concat reply.now)) }
 {
     match encoding_of(alloc, &mut reply.source())? {
         Some(number) => Ok(is_reply_to(kind, number)),
@@ -104,7 +104,7 @@ fn answers(alloc: Global, kind: RequestKind, reply: &Message) -> Result<bool, Al
 
 /// The kind of the request under one of our RequestIds.
 fn kind_asked(requests: &[Named], id: u32) -> Option<RequestKind>
-    ensures { result ≡ kind_asked requests.now id }
+    ensures { result ≡ kind_asked_under requests.now id }
 {
     if id < 2 {
         return None;

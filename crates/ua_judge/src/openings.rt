@@ -1,7 +1,7 @@
 //! The tokens of a server.
 
 ghost use Rattle.std.specs.Prelude.{◌≡◌, ◌≤◌, ◌++◌, length, IfOk, OnOk, option_to_list};
-ghost use Rattle.ua_judge.specs.Openings.{opened_by, opened_in, AreOpenings};
+ghost use Rattle.ua_judge.specs.Openings.{opened_in_frame, opened_in, AreOpenings};
 
 use crate::raw_frame::{id_place, kind_of, split_frame};
 use std::alloc::{AllocError, Global};
@@ -37,7 +37,7 @@ fn read_opened(alloc: Global, body: &[u8]) -> Result<Option<Opened>, AllocError>
 /// What a frame of a server opens.
 fn opened_by(alloc: Global, frame: &[u8]) -> Result<Option<Opened>, AllocError>
     requires { 8 ≤ length frame.now }
-    ensures { IfOk result (λ found. found ≡ opened_by frame.now) }
+    ensures { IfOk result (λ found. found ≡ opened_in_frame frame.now) }
 {
     match (kind_of(frame), id_place(frame)) {
         (Some(Kind::Opn), Some(place)) => read_opened(alloc, &frame[place + 4..]),
@@ -48,7 +48,7 @@ fn opened_by(alloc: Global, frame: &[u8]) -> Result<Option<Opened>, AllocError>
 /// Appends what a frame of a server opens, if it opens something.
 fn push_opened(alloc: Global, frame: &[u8], found: &mut Vec<Opened>) -> Result<(), AllocError>
     requires { 8 ≤ length frame.now }
-    ensures { OnOk result (found.new.items ≡ found.old.items ++ option_to_list (opened_by frame.now)) }
+    ensures { OnOk result (found.new.items ≡ found.old.items ++ option_to_list (opened_in_frame frame.now)) }
 {
     if let Some(opened) = opened_by(alloc, frame)? {
         found.push(opened)?;

@@ -1,7 +1,7 @@
 //! Streams with other numbers.
 
 ghost use Rattle.std.specs.Prelude.{◌≡◌, ◌≤◌, ◌<◌, ◌+◌, ◌^◌, ◌++◌, length, IfOk, OnOk};
-ghost use Rattle.ua_judge.specs.Renumbered.{with_number, renumbered, IsRenumbered};
+ghost use Rattle.ua_judge.specs.Renumbered.{with_number_at, renumbered, IsRenumbered};
 
 use crate::field::Field;
 use crate::named::{Named, rank_of};
@@ -17,7 +17,7 @@ fn push_with_number(
     out: &mut Vec<u8>,
 ) -> Result<(), AllocError>
     requires { place + 4 ≤ length frame.now }
-    ensures { OnOk result (out.new.items ≡ out.old.items ++ with_number place number frame.now) }
+    ensures { OnOk result (out.new.items ≡ out.old.items ++ with_number_at place number frame.now) }
 {
     out.extend_from_slice(&frame[..place])?;
     number.append(out)?;

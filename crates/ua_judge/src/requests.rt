@@ -6,7 +6,7 @@ ghost use Rattle.ua_frame.specs.Frames.{kind_of};
 ghost use Rattle.ua_frame.specs.declared.kind.Kind.TheVariants.{Msg};
 ghost use Rattle.ua_judge.specs.Begun.{AreBegun, begun_after, begun_kind};
 ghost use Rattle.ua_judge.specs.RawFrames.{id_place};
-ghost use Rattle.ua_judge.specs.Requests.{request_at, AreRequests};
+ghost use Rattle.ua_judge.specs.Requests.{request_behind_id, AreRequests};
 
 use crate::kinds::request_kind_of;
 use crate::named::Named;
@@ -72,7 +72,7 @@ fn push_chunk(
     requires within { place + 4 ≤ length frame.now }
     ensures sends { (before : List (List ℕ)) → AreBegun begun.old.items before
         → OnOk result (requests.new.items
-        ≡ requests.old.items ++ option_to_list (request_at before end (id_place frame.now) frame.now)) }
+        ≡ requests.old.items ++ option_to_list (request_behind_id before end (id_place frame.now) frame.now)) }
     ensures begun { (before : List (List ℕ)) → AreBegun begun.old.items before
         → OnOk result (AreBegun begun.new.items (before ++ frame.now ∷ [])) }
 {
@@ -102,7 +102,7 @@ fn push_request(
     requires { 8 ≤ length frame.now }
     ensures sends { (before : List (List ℕ)) → AreBegun begun.old.items before
         → OnOk result (requests.new.items
-        ≡ requests.old.items ++ option_to_list (request_at before end (id_place frame.now) frame.now)) }
+        ≡ requests.old.items ++ option_to_list (request_behind_id before end (id_place frame.now) frame.now)) }
     ensures begun { (before : List (List ℕ)) → AreBegun begun.old.items before
         → OnOk result (AreBegun begun.new.items (before ++ frame.now ∷ [])) }
 {

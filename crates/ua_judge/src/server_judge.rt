@@ -6,16 +6,16 @@ ghost use Rattle.std.specs.Prelude.{List, None, Option, Some, Err, is_some, IfOk
 ghost use Rattle.ua_channel.specs.Asks.{Placed, asked_in, next_id};
 ghost use Rattle.ua_channel.specs.Asks.Asking.{Call, Renewal};
 ghost use Rattle.ua_channel.specs.Client.{client_limits};
-ghost use Rattle.ua_channel.specs.ClientAsks.{AnswersFor, IsFor};
+ghost use Rattle.ua_channel.specs.ClientAsks.{AnswersFor, IsAskFaultFor};
 ghost use Rattle.ua_channel.specs.ClientTold.ClientTold.{Answered};
 ghost use Rattle.ua_channel.specs.declared.client.fault.AskFault.{AskFault};
 ghost use Rattle.ua_channel.specs.declared.client.fault.AskFault.TheVariants.{NotOpen};
-ghost use Rattle.ua_judge.specs.Judging.{GoesOn, TakesTo, TakesUpTo, failed, reply_verdict, verdict_at};
+ghost use Rattle.ua_judge.specs.Judging.{GoesOnJudging, TakesTo, TakesUpTo, failed, reply_verdict, verdict_at};
 ghost use Rattle.ua_judge.specs.Kinds.{is_misfit};
 ghost use Rattle.ua_judge.specs.declared.named.Named.{Named};
 ghost use Rattle.ua_judge.specs.declared.verdict.Verdict.TheVariants.{Stops};
-ghost use Rattle.ua_judge.specs.Verdicts.{Follows, IsJudged, IsNoStop, IsServerVerdict, IsVerdictOn};
-ghost use Rattle.ua_judge.specs.Verdicts.{asking, asks_of, place_after};
+ghost use Rattle.ua_judge.specs.Verdicts.{GoesOnAfter, IsReasonAgainstAsking, IsNoStop, IsServerVerdict, IsVerdictOn};
+ghost use Rattle.ua_judge.specs.Verdicts.{asking, named_asks_of, place_after};
 
 use crate::kinds::is_misfit;
 use crate::named::Named;
@@ -30,13 +30,13 @@ use ua_frame::Limits;
 /// Sends a renewal.
 fn renew(client: &mut ClientChannel) -> Result<(), AskFault>
     ensures asks { (requests : List Named) (asks : List Placed) (octets : List ℕ)
-        → Follows requests client.old asks octets
+        → GoesOnAfter requests client.old asks octets
         → MatchResult result
-        (λ _. Follows requests client.new (asks ++ (length octets, Renewal (next_id (asked_in asks))) ∷ []) octets)
-        (λ _. Follows requests client.new asks octets) }
+        (λ _. GoesOnAfter requests client.new (asks ++ (length octets, Renewal (next_id (asked_in asks))) ∷ []) octets)
+        (λ _. GoesOnAfter requests client.new asks octets) }
     ensures judged { (requests : List Named) (asks : List Placed) (octets : List ℕ)
-        → Follows requests client.old asks octets
-        → (why : Option AskFault) × (IsJudged (client_limits client.old) asks requests true octets why
+        → GoesOnAfter requests client.old asks octets
+        → (why : Option AskFault) × (IsReasonAgainstAsking (client_limits client.old) asks requests true octets why
         × AnswersFor why result) }
     ensures limits { client_limits client.new ≡ client_limits client.old }
 {
@@ -52,13 +52,13 @@ fn renew(client: &mut ClientChannel) -> Result<(), AskFault>
 /// Sends a call, with a body that does not matter.
 fn call(client: &mut ClientChannel) -> Result<(), AskFault>
     ensures asks { (requests : List Named) (asks : List Placed) (octets : List ℕ)
-        → Follows requests client.old asks octets
+        → GoesOnAfter requests client.old asks octets
         → MatchResult result
-        (λ _. Follows requests client.new (asks ++ (length octets, Call (next_id (asked_in asks))) ∷ []) octets)
-        (λ _. Follows requests client.new asks octets) }
+        (λ _. GoesOnAfter requests client.new (asks ++ (length octets, Call (next_id (asked_in asks))) ∷ []) octets)
+        (λ _. GoesOnAfter requests client.new asks octets) }
     ensures judged { (requests : List Named) (asks : List Placed) (octets : List ℕ)
-        → Follows requests client.old asks octets
-        → (why : Option AskFault) × (IsJudged (client_limits client.old) asks requests false octets why
+        → GoesOnAfter requests client.old asks octets
+        → (why : Option AskFault) × (IsReasonAgainstAsking (client_limits client.old) asks requests false octets why
         × AnswersFor why result) }
     ensures limits { client_limits client.new ≡ client_limits client.old }
 {
@@ -74,13 +74,13 @@ fn call(client: &mut ClientChannel) -> Result<(), AskFault>
 /// Sends the next request of the recorded client.
 fn ask(client: &mut ClientChannel, opens: bool) -> Result<(), AskFault>
     ensures asks { (requests : List Named) (asks : List Placed) (octets : List ℕ)
-        → Follows requests client.old asks octets
+        → GoesOnAfter requests client.old asks octets
         → MatchResult result
-        (λ _. Follows requests client.new (asks ++ (length octets, asking opens (next_id (asked_in asks))) ∷ []) octets)
-        (λ _. Follows requests client.new asks octets) }
+        (λ _. GoesOnAfter requests client.new (asks ++ (length octets, asking opens (next_id (asked_in asks))) ∷ []) octets)
+        (λ _. GoesOnAfter requests client.new asks octets) }
     ensures judged { (requests : List Named) (asks : List Placed) (octets : List ℕ)
-        → Follows requests client.old asks octets
-        → (why : Option AskFault) × (IsJudged (client_limits client.old) asks requests opens octets why
+        → GoesOnAfter requests client.old asks octets
+        → (why : Option AskFault) × (IsReasonAgainstAsking (client_limits client.old) asks requests opens octets why
         × AnswersFor why result) }
     ensures limits { client_limits client.new ≡ client_limits client.old }
 {
@@ -171,7 +171,7 @@ fn take_next(
 ) -> Result<Taken, AllocError>
     requires some { at < end }
     requires within { end ≤ length octets.now }
-    ensures takes { (asks : List Placed) → Follows requests.now client.old asks (take at octets.now)
+    ensures takes { (asks : List Placed) → GoesOnAfter requests.now client.old asks (take at octets.now)
         → IfOk result (λ r.
         TakesTo (client_limits client.old) requests.now asks octets.now r.at client.new r.verdict) }
     ensures within { IfOk result (λ r. r.at ≤ end) }
@@ -199,7 +199,7 @@ fn take_to(
     place: usize,
 ) -> Result<Taken, AllocError>
     requires { from ≤ length octets.now }
-    ensures takes { (asks : List Placed) → Follows requests.now client.old asks (take from octets.now)
+    ensures takes { (asks : List Placed) → GoesOnAfter requests.now client.old asks (take from octets.now)
         → IfOk result (λ r.
         TakesUpTo (client_limits client.old) requests.now asks octets.now from place r.at client.new r.verdict) }
     ensures within { IfOk result (λ r. r.at ≤ length octets.now) }
@@ -220,14 +220,14 @@ fn take_to(
 /// Sends a request of the recorded client where the bytes that were taken end at its place.
 fn send(client: &mut ClientChannel, request: &Named, at: usize) -> Result<(), AskFault>
     ensures asks { (requests : List Named) (asks : List Placed) (octets : List ℕ)
-        → length octets ≡ at → Follows requests client.old asks octets
+        → length octets ≡ at → GoesOnAfter requests client.old asks octets
         → MatchResult result
-        (λ _. Follows requests client.new
+        (λ _. GoesOnAfter requests client.new
         (asks ++ (request.now.place, asking request.now.opens (next_id (asked_in asks))) ∷ []) octets)
-        (λ _. Follows requests client.new asks octets) }
+        (λ _. GoesOnAfter requests client.new asks octets) }
     ensures judged { (requests : List Named) (asks : List Placed) (octets : List ℕ)
-        → Follows requests client.old asks octets → request.now.place ≡ at
-        → (why : Option AskFault) × (IsJudged (client_limits client.old) asks requests request.now.opens octets why
+        → GoesOnAfter requests client.old asks octets → request.now.place ≡ at
+        → (why : Option AskFault) × (IsReasonAgainstAsking (client_limits client.old) asks requests request.now.opens octets why
         × AnswersFor why result) }
     ensures placed { IfOk result (λ _. request.now.place ≡ at) }
     ensures placeless { (request.now.place ≡ at → ⊥) → result ≡ Err NotOpen }
@@ -242,7 +242,7 @@ fn send(client: &mut ClientChannel, request: &Named, at: usize) -> Result<(), As
 /// The verdict where a request cannot be sent.
 fn stopped(at: usize, fault: AskFault) -> Result<Taken, AllocError>
     ensures stops { IfOk result (λ taken. taken ≡ record { at = at; verdict = Some (Stops at fault) }) }
-    ensures named { (why : Option AskFault) → IsFor why fault → IfOk result (λ _. why ≡ Some fault) }
+    ensures named { (why : Option AskFault) → IsAskFaultFor why fault → IfOk result (λ _. why ≡ Some fault) }
 {
     match fault {
         AskFault::OutOfMemory => Err(AllocError),
@@ -265,9 +265,9 @@ fn go_on(
 ) -> Result<Taken, AllocError>
     requires { from ≤ length octets.now }
     ensures takes { (before : List Named) → place_after 0 before ≡ from
-        → Follows requests.now client.old (asks_of before) (take from octets.now)
+        → GoesOnAfter requests.now client.old (named_asks_of before) (take from octets.now)
         → IfOk result (λ r.
-        GoesOn (client_limits client.old) requests.now before request.now octets.now r.at client.new r.verdict) }
+        GoesOnJudging (client_limits client.old) requests.now before request.now octets.now r.at client.new r.verdict) }
     ensures within { IfOk result (λ r. r.at ≤ length octets.now) }
     ensures limits { client_limits client.new ≡ client_limits client.old }
 {
@@ -291,7 +291,7 @@ fn finish(
     from: usize,
 ) -> Result<Verdict, AllocError>
     requires { from ≤ length octets.now }
-    ensures { (asks : List Placed) → Follows requests.now client.old asks (take from octets.now)
+    ensures { (asks : List Placed) → GoesOnAfter requests.now client.old asks (take from octets.now)
         → IfOk result (λ verdict.
         IsNoStop verdict × IsVerdictOn (client_limits client.old) asks requests.now octets.now verdict) }
 {

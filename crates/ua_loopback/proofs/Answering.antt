@@ -27,7 +27,7 @@ use Rattle.ua_services.proofs.NoneEmpty.{response_takes_some}
 use Rattle.ua_services.specs.Response.{response}
 use Rattle.ua_services.specs.declared.response.Response.{Response}
 use Rattle.ua_server.specs.Reply.{answered}
-use Rattle.ua_server.specs.Said.{Course, behind_first, first_of, course_after, said_of}
+use Rattle.ua_server.specs.Said.{Course, behind_first, first_time, course_after, said_of}
 use Rattle.ua_server.specs.State.{State}
 use Rattle.ua_server.proofs.SaidInParts.{course}
 use Rattle.ua_client.specs.Sent.{calls_at}
@@ -170,7 +170,7 @@ answer_told back id m = told_reply (cut_refusal back (response.canonical m)) id 
 abbrev pub answers_told : Lane → State → List DateTime → ℕ → List (List ℕ) → List Heard
 answers_told back state moments id [] = []
 answers_told back state moments id (body ∷ bodies) =
-    answer_told back id (answered state (first_of moments) body).1 ∷ answers_told back (answered state (first_of moments) body).0 (behind_first moments)
+    answer_told back id (answered state (first_time moments) body).1 ∷ answers_told back (answered state (first_time moments) body).0 (behind_first moments)
     (id + 1) bodies
 
 cond_some : (b : Bool) (t : Heard) (ts : List Heard) → 0 < length ts → 0 < length (cond b (t ∷ ts) ts)
@@ -191,7 +191,7 @@ told_each back state moments id (body ∷ bodies) k from to =
     by (λ later. told_each back given.0 (behind_first moments) (id + 1) bodies k (omega (arith, later)) (omega (arith, to))) (cases_lt id k)
   where
     given : State × Response
-    given = answered state (first_of moments) body
+    given = answered state (first_time moments) body
 
     by : (id < k → 0 < length (told_of k (answers_told back given.0 (behind_first moments) (id + 1) bodies))) → ((id < k) ⊎ (k ≤ id))
         → 0 < length (told_of k (answers_told back state moments id (body ∷ bodies)))
@@ -259,7 +259,7 @@ module _ (server client : Limits) (url : Option (List ℕ)) (channel : ℕ) (on 
         ends = λ some. absurd (omega (arith, some));
       }
   replies_read asks octets told c state n moments id (body ∷ bodies) r h next waiting few issued newest =
-      let given : State × Response = answered state (first_of moments) body in
+      let given : State × Response = answered state (first_time moments) body in
       let reply : List ℕ = response.canonical given.1 in
       let out : List ℕ × ℕ = replied back reply n id in
       let heard : List Heard = told ++ answer_told back id given.1 ∷ [] in

@@ -33,20 +33,20 @@ use Rattle.ua_channel_laws.proofs.ReadOn.{begins_run, events_on, one_octets, tol
 use Rattle.ua_channel.proofs.OpeningFrames.{opening_size}
 use Rattle.ua_client.specs.Carried.{Carries}
 use Rattle.ua_client.specs.Client.{IsReady, OpensClient, connection_of}
-use Rattle.ua_client.specs.Hearing.{channel_of, untaken_of}
-use Rattle.ua_client.specs.Opening.{IsOpened, OpensAt, hello_octets, open_octets}
+use Rattle.ua_client.specs.Hearing.{channel_of_connection, untaken_of}
+use Rattle.ua_client.specs.Opening.{IsOpened, OpensAt, hello_octets, open_frame_octets}
 use Rattle.ua_client.specs.Renewing.{IsSettled}
 use Rattle.ua_client.specs.ClientPlace.{ClientPlace, StandsAt, id_at}
 use Rattle.ua_client.specs.declared.client.Client.{Client}
 use Rattle.ua_client.specs.declared.connection.Connection.{Connection}
 use Rattle.ua_client.proofs.Carrying.{carried-as}
-use Rattle.ua_loopback.specs.Accepted.{IsAccepted, acknowledged}
+use Rattle.ua_loopback.specs.Accepted.{IsAcceptedUnder, acknowledged}
 use Rattle.ua_loopback.specs.Beginning.{Beginning}
-use Rattle.ua_loopback.specs.Course.Course.{Begun}
+use Rattle.ua_loopback.specs.Course.ClientCourse.{Begun}
 use Rattle.ua_loopback.specs.Course.{opening_octets}
 use Rattle.ua_loopback.specs.Says.{server_output, state_told}
 use Rattle.ua_loopback.specs.Talking.{AreTalking, IsLineTo, TalksAt, opening}
-use Rattle.ua_loopback.specs.inside.Talking.{CanOpen, StaysTalking, Went}
+use Rattle.ua_loopback.specs.inside.Talking.{CanOpenTo, StaysTalking, HasOpenedTo}
 use Rattle.ua_loopback.specs.Together.{AreServing, opening_answer}
 use Rattle.ua_loopback.specs.Turns.{opening_told}
 use Rattle.ua_loopback.proofs.Ending.{frames_behind}
@@ -66,7 +66,7 @@ no_asks = refl
 -- ---- it took all that the server says of the opening
 
 module _ (b : Beginning) (url : Option (List ℕ)) (x : ClientChannel) (octets : List ℕ) (moment : DateTime) (o : IsOpened x octets)
-    (can : CanOpen b (client_limits x) url moment) (front : Extends octets (opening_answer b (client_limits x) url)) where
+    (can : CanOpenTo b (client_limits x) url moment) (front : Extends octets (opening_answer b (client_limits x) url)) where
   abbrev opn : Frame
   opn = opened_frame b.channel 1 1 0 1 3600000 b.moment
 
@@ -142,32 +142,32 @@ module _ (b : Beginning) (url : Option (List ℕ)) (x : ClientChannel) (octets :
 -- ---- both are in step
 
 module _ (b : Beginning) (limits : Limits) (url : Option (List ℕ)) (moment : DateTime) (first after : Option Traffic) (client : Client) (law : SettlesOpened)
-    (o : OpensClient limits url moment first after (Ok client)) (able : CanOpen b limits url moment) (line : IsLineTo b [] [] first) where
+    (o : OpensClient limits url moment first after (Ok client)) (able : CanOpenTo b limits url moment) (line : IsLineTo b [] [] first) where
   abbrev l : Limits
-  l = client_limits (channel_of o.last)
+  l = client_limits (channel_of_connection o.last)
 
-  at : OpensAt (hello_octets (client_limits (channel_of o.begun)) (url_of (channel_of o.begun))) (open_octets moment) (channel_of o.last) o.opens.sent
+  at : OpensAt (hello_octets (client_limits (channel_of_connection o.begun)) (url_of (channel_of_connection o.begun))) (open_frame_octets moment) (channel_of_connection o.last) o.opens.sent
       o.opens.moves.taken (Ok client)
   at = o.opens.answers o.fresh.goes
 
   -- where it stands
-  pub settled_there : (s : ClientPlace) × (s.octets ≡ o.opens.moves.taken) × (s.asks ≡ []) × StandsAt (channel_of o.last) s × IsSettled s
-  settled_there = law (channel_of o.last) o.opens.moves.taken at.1
+  pub settled_there : (s : ClientPlace) × (s.octets ≡ o.opens.moves.taken) × (s.asks ≡ []) × StandsAt (channel_of_connection o.last) s × IsSettled s
+  settled_there = law (channel_of_connection o.last) o.opens.moves.taken at.1
 
-  opens_there : IsOpened (channel_of o.last) settled_there.0.octets
-  opens_there = subst (IsOpened (channel_of o.last)) (sym settled_there.1) at.1
+  opens_there : IsOpened (channel_of_connection o.last) settled_there.0.octets
+  opens_there = subst (IsOpened (channel_of_connection o.last)) (sym settled_there.1) at.1
 
   limits_are : l ≡ limits
   limits_are = sym o.opens.keeps.same.limits ∙ o.fresh.limits_are
 
-  can : CanOpen b l url moment
-  can = subst (λ (m : Limits). CanOpen b m url moment) (sym limits_are) able
+  can : CanOpenTo b l url moment
+  can = subst (λ (m : Limits). CanOpenTo b m url moment) (sym limits_are) able
 
   sent_is : o.opens.sent ≡ opening_octets limits url moment
   sent_is =
       at.0
-      ∙ ap (λ (t : List ℕ). t ++ open_octets moment)
-      (ap (λ (m : Limits). hello_octets m (url_of (channel_of o.begun))) o.fresh.limits_are
+      ∙ ap (λ (t : List ℕ). t ++ open_frame_octets moment)
+      (ap (λ (m : Limits). hello_octets m (url_of (channel_of_connection o.begun))) o.fresh.limits_are
       ∙ ap (λ (u : Option (List ℕ)). hello_octets limits u) o.fresh.url_is)
 
   got_is : o.opens.moves.got ≡ settled_there.0.octets ++ untaken_of o.last
@@ -187,18 +187,18 @@ module _ (b : Beginning) (limits : Limits) (url : Option (List ℕ)) (moment : D
   front_is = fronts b after (opening_octets l url moment) o.opens.moves.got settled_there.0.octets (untaken_of o.last) line_then got_is
 
   short : url_length url ≤ 4095
-  short = short_url b l url moment (channel_of o.last) settled_there.0.octets can.hello_fits can.url_fits opens_there front_is
+  short = short_url b l url moment (channel_of_connection o.last) settled_there.0.octets can.hello_fits can.url_fits opens_there front_is
 
   said_is : server_output b (opening_octets l url moment) ≡ opening_answer b l url
   said_is = opening_said b l url moment can.hello_fits short can.dated
 
   octets_are : settled_there.0.octets ≡ server_output b (opening_octets l url moment)
-  octets_are = opening_taken b url (channel_of o.last) settled_there.0.octets moment opens_there can (subst (Extends settled_there.0.octets) said_is front_is)
+  octets_are = opening_taken b url (channel_of_connection o.last) settled_there.0.octets moment opens_there can (subst (Extends settled_there.0.octets) said_is front_is)
       ∙ sym said_is
 
   serves : AreServing b url (opening_octets l url moment) (opening_told b.limits l url) (with_token (greeted_at (hello_to l url)))
-      (channel_of o.last) settled_there.0 (opened_at (ack_to (hello_to l url) b.limits) b.channel 1 (next_number 1))
-  serves = begin_together b url moment (channel_of o.last) settled_there.0 can.hello_fits short can.dated can.ack_fits can.on can.answered settled_there.3
+      (channel_of_connection o.last) settled_there.0 (opened_at (ack_to (hello_to l url) b.limits) b.channel 1 (next_number 1))
+  serves = begin_together b url moment (channel_of_connection o.last) settled_there.0 can.hello_fits short can.dated can.ack_fits can.on can.answered settled_there.3
       settled_there.2 octets_are (o.opens.keeps.next ∙ o.fresh.next_is)
 
   first_id : id_at settled_there.0 ≡ 2
@@ -229,7 +229,7 @@ module _ (b : Beginning) (limits : Limits) (url : Option (List ℕ)) (moment : D
   opened_talks octets is = record {
     url_is = sym o.opens.keeps.same.url ∙ o.fresh.url_is;
     dated = able.answered;
-    accepted = AllAfter-nil (IsAccepted (acknowledged b.limits limits url));
+    accepted = AllAfter-nil (IsAcceptedUnder (acknowledged b.limits limits url));
     number_is = sym settled_there.3.number_is ∙ (o.opens.keeps.next ∙ o.fresh.next_is);
     state_is = ap (λ (ts : List Told). state_told b ts) (append-nil (opening_told b.limits limits url))
         ∙ state_first_two b (agreement_of b.limits (hello_to limits url));
@@ -241,9 +241,9 @@ module _ (b : Beginning) (limits : Limits) (url : Option (List ℕ)) (moment : D
         talks_by);
   }
 
-  pub went_first : Went b limits url moment (connection_of client) first after
+  pub went_first : HasOpenedTo b limits url moment (connection_of client) first after
   went_first = record {
-    channel = channel_of o.last;
+    channel = channel_of_connection o.last;
     opened = settled_there.0;
     opens = opens_there;
     opened_at = settled_there.3;

@@ -25,16 +25,16 @@ use Rattle.ua_client.specs.declared.fault.ClientFault.TheVariants as fault
 use Rattle.ua_client.specs.declared.fault.ClientFault.TheVariants.{OutOfMemory}
 use Rattle.ua_client.specs.declared.reply.Reply.{Reply}
 use Rattle.ua_client.proofs.Settled.{NonePending}
-use Rattle.ua_loopback.specs.Accepted.{IsTurnFault, tokens_held, turn_refusal}
+use Rattle.ua_loopback.specs.Accepted.{IsTurnFault, tokens_held, turn_refusal_under}
 use Rattle.ua_loopback.specs.Beginning.{Beginning}
 use Rattle.ua_loopback.specs.Faults.{FailsBehind, IsOutside}
-use Rattle.ua_loopback.specs.Replies.{HaveMisanswer, lane_back, requests_replies, turn_state}
+use Rattle.ua_loopback.specs.Replies.{HaveMisanswer, lane_back_by_token, requests_replies, turn_state}
 use Rattle.ua_loopback.specs.Says.{services_after, server_output}
 use Rattle.ua_loopback.specs.Sends.{closing_behind}
 use Rattle.ua_loopback.specs.Talking.{IsBehindFirst, IsLineTo, IsSentOver, IsTalking, Reads, SoFar, StopsOver, acked_in}
-use Rattle.ua_loopback.specs.Talking.{closed_octets, id_in, newest_in, octets_of, opening, state_in, told_in, with_turn}
+use Rattle.ua_loopback.specs.Talking.{closed_octets, id_in, newest_in, octets_of_turn, opening, state_in, told_so_far, with_turn}
 use Rattle.ua_loopback.specs.Turns.{turn_told}
-use Rattle.ua_loopback.specs.inside.Talking.{CanOpen}
+use Rattle.ua_loopback.specs.inside.Talking.{CanOpenTo}
 use Rattle.ua_loopback.proofs.Begun.{SettlesOpened, opened_ready, opened_talk, settled_there}
 use Rattle.ua_loopback.proofs.Faults.{calls_fail, calls_stop, close_fails, close_stops, open_fails, open_stops, renewal_fails, renewal_stops, sent_over}
 use Rattle.ua_loopback.proofs.OneTurn.{calls_refused, calls_replied, calls_sent, calls_talk, closes_left, closes_read, closes_silent}
@@ -44,7 +44,7 @@ use Rattle.ua_loopback.proofs.Staying.{ToldBehind}
 
 -- ---- it opens
 
-module _ (limits : Limits) (url : Option (List ℕ)) (moment : DateTime) (before after : Option Traffic) (b : Beginning) (able : CanOpen b limits url moment)
+module _ (limits : Limits) (url : Option (List ℕ)) (moment : DateTime) (before after : Option Traffic) (b : Beginning) (able : CanOpenTo b limits url moment)
     (line : IsLineTo b [] [] before) where
   pub opens_talk : SettlesOpened → (result : Result Client ClientFault) → (OpensNothing before after result ⊎ OpensClient limits url moment before after result)
       → IfOk result (λ client. IsTalking (opening b limits url moment) client after)
@@ -91,7 +91,7 @@ into_all requests x y before after result had have c = record {
 
 module _ (t : SoFar) (moment : DateTime) (turn : Option (List Request)) (y : Client) (after : Option Traffic)
     (k : IsTalking (with_turn t moment turn) y after) where
-  pub reads_turn : Reads t.server (with_turn t moment turn).octets (told_in t ++ turn_told (newest_in t) (id_in t) turn)
+  pub reads_turn : Reads t.server (with_turn t moment turn).octets (told_so_far t ++ turn_told (newest_in t) (id_in t) turn)
   reads_turn = turn_read t moment turn k.site (connection_of y) after k.talks
 
   pub leaves_turn : services_after t.server (with_turn t moment turn).octets ≡ turn_state (state_in t) t.server.moment turn
@@ -134,15 +134,15 @@ module _ (t : SoFar) (x : Client) (before : Option Traffic) (k : IsTalking t x b
         }
 
     pub asks_sent : (moment : DateTime) (result : Result A ClientFault) → CallsAll view requests (connection_of x) (connection_of y) before after result
-        → OnOk result (IsSentOver (octets_of t moment (Some requests)) before after)
+        → OnOk result (IsSentOver (octets_of_turn t moment (Some requests)) before after)
     asks_sent moment (Err f) c = tt
     asks_sent moment (Ok found) c =
-        sent_over c.moves.got c.sent (octets_of t moment (Some requests)) before after
+        sent_over c.moves.got c.sent (octets_of_turn t moment (Some requests)) before after
         (calls_sent t k.site (connection_of x) before k.talks (connection_of y) after c.sent c.moves c.same law moment requests (view found)
         (c.answers k.site stands_there)) c.moves.carried
 
     pub asks_replied : (result : Result A ClientFault) → CallsAll view requests (connection_of x) (connection_of y) before after result
-        → IfOk result (λ found. map (λ (r : Reply). Some r) (view found) ≡ requests_replies (lane_back t.server t.limits t.url (newest_in t))
+        → IfOk result (λ found. map (λ (r : Reply). Some r) (view found) ≡ requests_replies (lane_back_by_token t.server t.limits t.url (newest_in t))
         (state_in t) t.server.moment requests)
     asks_replied (Err f) c = tt
     asks_replied (Ok found) c =
@@ -150,7 +150,7 @@ module _ (t : SoFar) (x : Client) (before : Option Traffic) (k : IsTalking t x b
         (c.answers k.site stands_there)
 
     pub asks_refused : (result : Result A ClientFault) → CallsAll view requests (connection_of x) (connection_of y) before after result
-        → IfErr result (λ f. IsTurnFault f → turn_refusal (acked_in t) t.turns (Some requests) ≡ Some f)
+        → IfErr result (λ f. IsTurnFault f → turn_refusal_under (acked_in t) t.turns (Some requests) ≡ Some f)
     asks_refused (Ok found) c = tt
     asks_refused (Err f) c = λ is.
         calls_refused t k.site (connection_of x) before k.talks (connection_of y) after c.sent c.moves c.same law t.server.moment requests f is
@@ -178,7 +178,7 @@ module _ (t : SoFar) (x : Client) (before : Option Traffic) (k : IsTalking t x b
     asks_fails never_before (Ok found) c = tt
     asks_fails never_before (Err f) c =
         subst (λ (s : State). FailsBehind (HaveMisanswer s t.server.moment requests) f) k.talks.state_is
-        (calls_fail t.server t.limits t.url t.octets (told_in t) (newest_in t) (id_in t) (tokens_held 1 t.turns) k.site (connection_of x) before k.talks.talking
+        (calls_fail t.server t.limits t.url t.octets (told_so_far t) (newest_in t) (id_in t) (tokens_held 1 t.turns) k.site (connection_of x) before k.talks.talking
         (connection_of y) after c.sent c.moves c.same law never_before
         requests f (c.answers k.site stands_there) A c.stops)
 
@@ -194,7 +194,7 @@ module _ (t : SoFar) (x : Client) (before : Option Traffic) (k : IsTalking t x b
     asks_stop never_before (Err f) c = (
       c.sent,
       sent_over c.moves.got c.sent c.sent before after refl c.moves.carried,
-      calls_stop t.server t.limits t.url t.octets (told_in t) (newest_in t) (id_in t) (tokens_held 1 t.turns) k.site (connection_of x) before k.talks.talking
+      calls_stop t.server t.limits t.url t.octets (told_so_far t) (newest_in t) (id_in t) (tokens_held 1 t.turns) k.site (connection_of x) before k.talks.talking
           (connection_of y) after c.sent c.moves c.same law never_before
           requests f (c.answers k.site stands_there) A c.stops,
     )
@@ -226,14 +226,14 @@ module _ (t : SoFar) (x : Client) (before : Option Traffic) (k : IsTalking t x b
 
     pub renews_sent : IsTrue (date_time.encodable moment) → (result : Result (Unit {0}) ClientFault)
         → Renews moment (connection_of x) (connection_of y) before after result
-        → OnOk result (IsSentOver (octets_of t moment None) before after)
+        → OnOk result (IsSentOver (octets_of_turn t moment None) before after)
     renews_sent dated (Err f) c = tt
     renews_sent dated (Ok done) c =
-        sent_over c.moves.got c.sent (octets_of t moment None) before after
+        sent_over c.moves.got c.sent (octets_of_turn t moment None) before after
         (renewing_sent t k.site (connection_of x) before k.talks (connection_of y) after moment dated done c stands_there) c.moves.carried
 
     pub renews_not : (result : Result (Unit {0}) ClientFault) → Renews moment (connection_of x) (connection_of y) before after result
-        → IfErr result (λ f. IsTurnFault f → turn_refusal (acked_in t) t.turns None ≡ Some f)
+        → IfErr result (λ f. IsTurnFault f → turn_refusal_under (acked_in t) t.turns None ≡ Some f)
     renews_not (Ok done) c = tt
     renews_not (Err f) c = λ is. renewing_not t k.site (connection_of x) before k.talks (connection_of y) after moment f is c stands_there
 
@@ -241,7 +241,7 @@ module _ (t : SoFar) (x : Client) (before : Option Traffic) (k : IsTalking t x b
         → Renews moment (connection_of x) (connection_of y) before after result → IfErr result (λ f. FailsBehind ⊥ f)
     renews_fails dated (Ok done) c = tt
     renews_fails dated (Err f) c =
-        renewal_fails t.server t.limits t.url t.octets (told_in t) (newest_in t) (id_in t) (tokens_held 1 t.turns) k.site
+        renewal_fails t.server t.limits t.url t.octets (told_so_far t) (newest_in t) (id_in t) (tokens_held 1 t.turns) k.site
         (connection_of x) before k.talks.talking (connection_of y) after c.sent c.moves c.same moment dated k.talks.dated
         (Unit {0}) f (c.answers k.site stands_there) (c.judged k.site stands_there) c.stops
 
@@ -252,7 +252,7 @@ module _ (t : SoFar) (x : Client) (before : Option Traffic) (k : IsTalking t x b
     renews_stop dated (Err f) c = (
       c.sent,
       sent_over c.moves.got c.sent c.sent before after refl c.moves.carried,
-      renewal_stops t.server t.limits t.url t.octets (told_in t) (newest_in t) (id_in t) (tokens_held 1 t.turns) k.site (connection_of x) before k.talks.talking
+      renewal_stops t.server t.limits t.url t.octets (told_so_far t) (newest_in t) (id_in t) (tokens_held 1 t.turns) k.site (connection_of x) before k.talks.talking
           (connection_of y) after c.sent c.moves c.same moment dated k.talks.dated
           (Unit {0}) f (c.answers k.site stands_there) (c.judged k.site stands_there) c.stops,
     )
@@ -260,7 +260,7 @@ module _ (t : SoFar) (x : Client) (before : Option Traffic) (k : IsTalking t x b
   -- ---- it closes
 
   module _ (moment : DateTime) where
-    pub closes_there : ServerCloses t.server.limits t.server.channel (closed_octets t moment) (told_in t ++ Closed ∷ [])
+    pub closes_there : ServerCloses t.server.limits t.server.channel (closed_octets t moment) (told_so_far t ++ Closed ∷ [])
     closes_there = closes_read t k.site (connection_of x) before k.talks moment
 
     pub silent_there : server_output t.server (closed_octets t moment) ≡ server_output t.server t.octets
@@ -287,8 +287,8 @@ module _ (t : SoFar) (x : Client) (before : Option Traffic) (k : IsTalking t x b
     closes_stop after (Err f) c = (
       c.sent,
       sent_over [] c.sent c.sent before after refl c.carried,
-      close_stops t.server (Unit {0}) k.site moment t.octets c.sent (told_in t ++ Closed ∷ []) f
-          (subst (λ (o : List ℕ). ServerCloses t.server.limits t.server.channel (t.octets ++ o) (told_in t ++ Closed ∷ []))
+      close_stops t.server (Unit {0}) k.site moment t.octets c.sent (told_so_far t ++ Closed ∷ []) f
+          (subst (λ (o : List ℕ). ServerCloses t.server.limits t.server.channel (t.octets ++ o) (told_so_far t ++ Closed ∷ []))
           (sym (closing_is t k.site (connection_of x) before k.talks moment)) closes_there)
           (c.answers k.site stands_there),
     )

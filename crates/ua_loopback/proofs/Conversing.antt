@@ -22,11 +22,11 @@ use Rattle.ua_channel.specs.ServerTold.{Told, Opened, Closed}
 use Rattle.ua_channel_laws.proofs.ServerReading.{reads_close, reads_renewal}
 use Rattle.ua_services.specs.declared.request.Request.{Request}
 use Rattle.ua_client.specs.Sent.{bodies_of, calls_octets, numbers_behind}
-use Rattle.ua_loopback.specs.Accepted.{AreAccepted, IsAccepted, acknowledged, tokens_held, turn_reasons}
+use Rattle.ua_loopback.specs.Accepted.{AreAcceptedUnder, IsAcceptedUnder, acknowledged, tokens_held, turn_reasons_under}
 use Rattle.ua_loopback.specs.Course.{opening_octets}
 use Rattle.ua_loopback.specs.Sends.{closing_behind, conversation_octets, turn_number, turn_octets, turns_number, turns_octets}
 use Rattle.ua_loopback.specs.Together.{behind_calls}
-use Rattle.ua_loopback.specs.Turns.{calls_told, conversation_told, id_behind, ids_behind, opening_told, token_behind, tokens_behind, turn_told, turns_told}
+use Rattle.ua_loopback.specs.Turns.{calls_told, conversation_told, id_behind_turn, ids_behind, opening_told, token_behind_turn, tokens_behind, turn_told, turns_told}
 use Rattle.ua_loopback.proofs.Answering.{hello_stays, issued_stays}
 use Rattle.ua_loopback.proofs.Pushes.{ids_push}
 use Rattle.ua_loopback.proofs.Reaching.{AreAsked, calls_counted, calls_read, none_parts, not_refused, opening_read}
@@ -75,7 +75,7 @@ module _ (server client : Limits) (url : Option (List ℕ)) (channel : ℕ) (mom
     }
 
     -- requests more
-    module _ (held : ℕ) (requests : List Request) (judged : first_reason (turn_reasons a held id (Some requests)) ≡ None) where
+    module _ (held : ℕ) (requests : List Request) (judged : first_reason (turn_reasons_under a held id (Some requests)) ≡ None) where
       abbrev bodies : List (List ℕ)
       bodies = bodies_of requests
 
@@ -106,7 +106,7 @@ module _ (server client : Limits) (url : Option (List ℕ)) (channel : ℕ) (mom
       }
 
     -- a renewal more
-    renewal_read : (held : ℕ) → first_reason (turn_reasons a held id None) ≡ None
+    renewal_read : (held : ℕ) → first_reason (turn_reasons_under a held id None) ≡ None
         → AreRead (octets ++ frame_octets (renewal_frame channel number id moment)) (told ++ Opened id 0 (token + 1) 3600000 ∷ []) (token + 1)
         (next_number number) (id + 1)
     renewal_read held judged =
@@ -131,9 +131,9 @@ module _ (server client : Limits) (url : Option (List ℕ)) (channel : ℕ) (mom
         }
 
     -- a turn more
-    turn_read : (held : ℕ) (t : Option (List Request)) → first_reason (turn_reasons a held id t) ≡ None
-        → AreRead (octets ++ turn_octets (lane_under token) number id moment t) (told ++ turn_told token id t) (token_behind token t)
-        (turn_number (lane_under token) number t) (id_behind id t)
+    turn_read : (held : ℕ) (t : Option (List Request)) → first_reason (turn_reasons_under a held id t) ≡ None
+        → AreRead (octets ++ turn_octets (lane_under token) number id moment t) (told ++ turn_told token id t) (token_behind_turn token t)
+        (turn_number (lane_under token) number t) (id_behind_turn id t)
     turn_read held (Some requests) judged = requests_read held requests judged
     turn_read held None judged =
         subst (λ (o : List ℕ). AreRead (octets ++ o) (told ++ turn_told token id None) (token + 1) (next_number number) (id + 1))
@@ -147,7 +147,7 @@ module _ (server client : Limits) (url : Option (List ℕ)) (channel : ℕ) (mom
 
   -- turns behind others
   turns_read : (before turns : List (Option (List Request))) (octets : List ℕ) (told : List Told) (token number id : ℕ) → ids_behind 2 before ≡ id
-      → AreRead octets told token number id → AllFrom (IsAccepted a) before turns
+      → AreRead octets told token number id → AllFrom (IsAcceptedUnder a) before turns
       → AreRead (octets ++ turns_octets a channel moment token number id turns) (told ++ turns_told token id turns) (tokens_behind token turns)
       (turns_number a channel token number turns) (ids_behind id turns)
   turns_read before [] octets told token number id same r accepted =
@@ -155,20 +155,20 @@ module _ (server client : Limits) (url : Option (List ℕ)) (channel : ℕ) (mom
       (subst (λ (ts : List Told). AreRead octets ts token number id) (sym (append-nil told)) r)
   turns_read before (t ∷ ts) octets told token number id same r accepted =
       let one : List ℕ = turn_octets (lane_under token) number id moment t in
-      let k : ℕ = token_behind token t in
+      let k : ℕ = token_behind_turn token t in
       let n : ℕ = turn_number (lane_under token) number t in
-      let i : ℕ = id_behind id t in
-      let judged : first_reason (turn_reasons a (tokens_held 1 before) id t) ≡ None = ap (λ (m : ℕ). first_reason (turn_reasons a (tokens_held 1 before) m t))
+      let i : ℕ = id_behind_turn id t in
+      let judged : first_reason (turn_reasons_under a (tokens_held 1 before) id t) ≡ None = ap (λ (m : ℕ). first_reason (turn_reasons_under a (tokens_held 1 before) m t))
       (sym same) ∙ accepted.0 in
       subst (λ (o : List ℕ). AreRead o (told ++ turns_told token id (t ∷ ts)) (tokens_behind k ts) (turns_number a channel k n ts) (ids_behind i ts))
       (append_assoc octets one (turns_octets a channel moment k n i ts))
       (subst (λ (us : List Told). AreRead ((octets ++ one) ++ turns_octets a channel moment k n i ts) us (tokens_behind k ts) (turns_number a channel k n ts)
       (ids_behind i ts)) (append_assoc told (turn_told token id t) (turns_told k i ts))
-      (turns_read (before ++ t ∷ []) ts (octets ++ one) (told ++ turn_told token id t) k n i (ids_push 2 before t ∙ ap (λ (m : ℕ). id_behind m t) same)
+      (turns_read (before ++ t ∷ []) ts (octets ++ one) (told ++ turn_told token id t) k n i (ids_push 2 before t ∙ ap (λ (m : ℕ). id_behind_turn m t) same)
       (turn_read octets told token number id r (tokens_held 1 before) t judged) accepted.1))
 
   -- from the HEL to the CLO
-  pub conversation_read : IsTrue (hello.encodable (hello_to client url)) → url_length url ≤ 4095 → (turns : List (Option (List Request))) → AreAccepted a turns
+  pub conversation_read : IsTrue (hello.encodable (hello_to client url)) → url_length url ≤ 4095 → (turns : List (Option (List Request))) → AreAcceptedUnder a turns
       → ServerCloses server channel (conversation_octets server client url channel moment turns) (conversation_told server client url turns)
   unfolding AllAfter
   conversation_read fits short turns accepted =

@@ -12,7 +12,7 @@ use Rattle.ua_channel.specs.declared.client.channel.ClientChannel.{ClientChannel
 use Rattle.ua_services.specs.declared.request.Request.{Request}
 use Rattle.ua_client.specs.Carried.{Carries}
 use Rattle.ua_client.specs.Client.{Closes, ClosesAt, IsReady, OpensClient, OpensNothing, closing_at, connection_of}
-use Rattle.ua_client.specs.Hearing.{channel_of, untaken_of}
+use Rattle.ua_client.specs.Hearing.{channel_of_connection, untaken_of}
 use Rattle.ua_client.specs.Calls.{AreGroups, all_of}
 use Rattle.ua_client.specs.Kept.{CallsInto, KeepsAt}
 use Rattle.ua_client.specs.Renewing.{IsRefusal, IsRenewed, Renews, RenewsAt, renewal_at}
@@ -27,17 +27,17 @@ use Rattle.ua_client.specs.declared.fault.ClientFault.TheVariants.{OutOfMemory}
 use Rattle.ua_client.specs.declared.reply.Reply.{Reply}
 use Rattle.ua_client.proofs.Carrying.{carried-as, carried-then}
 use Rattle.ua_client.proofs.Settled.{NonePending}
-use Rattle.ua_loopback.specs.Accepted.{FirstRefused, IsTurnFault, acknowledged, turn_refusal}
+use Rattle.ua_loopback.specs.Accepted.{FirstRefusedUnder, IsTurnFault, acknowledged, turn_refusal_under}
 use Rattle.ua_loopback.specs.Beginning.{Beginning}
-use Rattle.ua_loopback.specs.Course.{Converses, Course, opening_octets}
-use Rattle.ua_loopback.specs.Course.Course.{Asked, Renewed}
+use Rattle.ua_loopback.specs.Course.{Converses, ClientCourse, opening_octets}
+use Rattle.ua_loopback.specs.Course.ClientCourse.{Asked, Renewed}
 use Rattle.ua_loopback.specs.Kept.{Served, traffic_of}
 use Rattle.ua_loopback.specs.Faults.{BehindRefused, FailsBehind}
-use Rattle.ua_loopback.specs.Replies.{lane_back, turn_replies, turns_replies, turns_state}
+use Rattle.ua_loopback.specs.Replies.{lane_back_by_token, turn_replies, replies_to_turns, turns_state}
 use Rattle.ua_loopback.specs.Sends.{closing_behind, turns_octets}
 use Rattle.ua_loopback.specs.Says.{end_by, services_after, server_output}
-use Rattle.ua_loopback.specs.Talking.{IsLineTo, IsTalking, SoFar, StopsOver, TalksAt, acked_in, closed_octets, octets_of, state_in, newest_in, with_turn}
-use Rattle.ua_loopback.specs.inside.Talking.{CanOpen, HasMisanswer, HaveMisanswers, Stays, StaysBefore, StaysBehind, StaysTalking, Talked, Went, WentBefore}
+use Rattle.ua_loopback.specs.Talking.{IsLineTo, IsTalking, SoFar, StopsOver, TalksAt, acked_in, closed_octets, octets_of_turn, state_in, newest_in, with_turn}
+use Rattle.ua_loopback.specs.inside.Talking.{CanOpenTo, HasMisanswer, HaveMisanswers, StaysAfterTurns, StaysBefore, StaysBehindTurn, StaysTalking, Talked, HasOpenedTo, WentBefore}
 use Rattle.ua_loopback.specs.Turns.{conversation_told}
 use Rattle.ua_loopback.proofs.Begun.{SettlesOpened, went_first}
 use Rattle.ua_loopback.proofs.Faults.{fails_by, misanswers_in, sent_both, sent_over}
@@ -98,14 +98,14 @@ module _ (b : Beginning) (limits : Limits) (url : Option (List ℕ)) (moment : D
   abbrev opening : List ℕ
   opening = opening_octets limits url moment
 
-  abbrev was : Stays moment (opening_octets limits url moment) opened turns x first now had
+  abbrev was : StaysAfterTurns moment (opening_octets limits url moment) opened turns x first now had
   was = s.stays
 
   abbrev talk : SoFar
   talk = record { server = b; limits = limits; url = url; turns = turns; octets = opening ++ was.sent }
 
   -- what was sent with this turn
-  more_sent : (turn : Option (List Request)) (sent : List ℕ) → sent ≡ octets_of talk moment turn
+  more_sent : (turn : Option (List Request)) (sent : List ℕ) → sent ≡ octets_of_turn talk moment turn
       → was.sent ++ sent ≡ turns_octets (acked_in talk) b.channel moment 1 2 2 (turns ++ turn ∷ [])
   more_sent turn sent is =
       ap (λ (o : List ℕ). o ++ sent) s.sent_is
@@ -114,16 +114,16 @@ module _ (b : Beginning) (limits : Limits) (url : Option (List ℕ)) (moment : D
 
   -- the replies with it
   more_replied : (turn : Option (List Request)) (added : List Reply) → have ≡ had ++ added
-      → map (λ (r : Reply). Some r) added ≡ turn_replies (lane_back b limits url (newest_in talk)) (state_in talk) b.moment turn
-      → map (λ (r : Reply). Some r) have ≡ turns_replies b limits url b.first 1 (turns ++ turn ∷ [])
+      → map (λ (r : Reply). Some r) added ≡ turn_replies (lane_back_by_token b limits url (newest_in talk)) (state_in talk) b.moment turn
+      → map (λ (r : Reply). Some r) have ≡ replies_to_turns b limits url b.first 1 (turns ++ turn ∷ [])
   more_replied turn added have_is replied =
       ap (λ (rs : List Reply). map (λ (r : Reply). Some r) rs) have_is
       ∙ (some-append had added
       ∙ (ap (λ (os : List (Option Reply)). os ++ map (λ (r : Reply). Some r) added) s.replied
-      ∙ (ap (λ (os : List (Option Reply)). turns_replies b limits url b.first 1 turns ++ os) replied ∙ sym (replies_push b limits url b.first 1 turns turn))))
+      ∙ (ap (λ (os : List (Option Reply)). replies_to_turns b limits url b.first 1 turns ++ os) replied ∙ sym (replies_push b limits url b.first 1 turns turn))))
 
   -- where both ends are behind it
-  talks_on : (turn : Option (List Request)) (u : ClientPlace) (sent : List ℕ) → sent ≡ octets_of talk moment turn
+  talks_on : (turn : Option (List Request)) (u : ClientPlace) (sent : List ℕ) → sent ≡ octets_of_turn talk moment turn
       → TalksAt (with_turn talk moment turn) u y after
       → TalksAt (record { server = b; limits = limits; url = url; turns = turns ++ turn ∷ []; octets = opening ++ (was.sent ++ sent) }) u y after
   talks_on turn u sent is talks =
@@ -142,14 +142,14 @@ module _ (b : Beginning) (limits : Limits) (url : Option (List ℕ)) (moment : D
       → StaysTalking b limits url moment opened (turns ++ Some requests ∷ []) y first after have
   asked_on law requests done c =
       let a = c.answers was.site was.at in
-      let sent_is : c.sent ≡ octets_of talk moment (Some requests) = calls_sent talk was.site x now s.talks y after c.sent c.moves c.same law moment requests
+      let sent_is : c.sent ≡ octets_of_turn talk moment (Some requests) = calls_sent talk was.site x now s.talks y after c.sent c.moves c.same law moment requests
       c.added a in
       record {
         stays = record {
           site = a.behind;
           at = a.at;
           sent = was.sent ++ c.sent;
-          course = subst (λ (r : List Reply). Course moment opened (turns ++ Some requests ∷ []) a.behind (was.sent ++ c.sent) r) (sym c.have_is)
+          course = subst (λ (r : List Reply). ClientCourse moment opened (turns ++ Some requests ∷ []) a.behind (was.sent ++ c.sent) r) (sym c.have_is)
               (Asked (Some requests) a.groups was.course (ap (λ (rs : List Request). Some rs) a.parts) a.sized a.rounds);
           got = was.got ++ c.moves.got;
           carried = carried_on c.moves.got c.sent c.moves.carried;
@@ -170,16 +170,16 @@ module _ (b : Beginning) (limits : Limits) (url : Option (List ℕ)) (moment : D
   renewed_on dated done c same =
       let a = c.answers was.site was.at in
       let u : ClientPlace = a.1.0 in
-      let renewed : IsRenewed (channel_of y) was.site u c.moves.taken = a.1.1 in
-      let sent_is : c.sent ≡ octets_of talk moment None = renewing_sent talk was.site x now s.talks y after moment dated done c was.at in
+      let renewed : IsRenewed (channel_of_connection y) was.site u c.moves.taken = a.1.1 in
+      let sent_is : c.sent ≡ octets_of_turn talk moment None = renewing_sent talk was.site x now s.talks y after moment dated done c was.at in
       record {
         stays = record {
           site = u;
           at = renewed.at;
           sent = was.sent ++ c.sent;
-          course = subst (λ (o : List ℕ). Course moment opened (turns ++ None ∷ []) u (was.sent ++ o) have) (sym a.0)
-              (subst (λ (r : List Reply). Course moment opened (turns ++ None ∷ []) u (was.sent ++ renewal_at was.site moment) r) (sym same)
-              (Renewed None (channel_of y) was.course refl renewed));
+          course = subst (λ (o : List ℕ). ClientCourse moment opened (turns ++ None ∷ []) u (was.sent ++ o) have) (sym a.0)
+              (subst (λ (r : List Reply). ClientCourse moment opened (turns ++ None ∷ []) u (was.sent ++ renewal_at was.site moment) r) (sym same)
+              (Renewed None (channel_of_connection y) was.course refl renewed));
           got = was.got ++ c.moves.got;
           carried = carried_on c.moves.got c.sent c.moves.carried;
           got_is = got_on was.got c.moves.got was.site.octets (untaken_of x) c.moves.taken (untaken_of y) was.got_is c.moves.parts
@@ -204,19 +204,19 @@ module _ (b : Beginning) (limits : Limits) (url : Option (List ℕ)) (moment : D
   -- or it is not taken, by the first reason against it
 
   pub asked_not : NonePending → (t : Option (List Request)) (requests : List Request) (f : CallsFault) → t ≡ Some requests
-      → CallsInto {A = Unit {0}} requests x y now after (Err f) had have → IsTurnFault f.fault → turn_refusal (acked_in talk) turns t ≡ Some f.fault
+      → CallsInto {A = Unit {0}} requests x y now after (Err f) had have → IsTurnFault f.fault → turn_refusal_under (acked_in talk) turns t ≡ Some f.fault
   asked_not law t requests f is c reason =
-      ap (turn_refusal (acked_in talk) turns) is ∙ calls_refused talk was.site x now s.talks y after c.sent c.moves c.same law moment requests f.fault reason
+      ap (turn_refusal_under (acked_in talk) turns) is ∙ calls_refused talk was.site x now s.talks y after c.sent c.moves c.same law moment requests f.fault reason
       (c.answers was.site was.at).broken
 
   pub renewed_not : (t : Option (List Request)) (f : ClientFault) → t ≡ None → Renews {A = Unit {0}} moment x y now after (Err f) → IsTurnFault f
-      → turn_refusal (acked_in talk) turns t ≡ Some f
-  renewed_not t f is c reason = ap (turn_refusal (acked_in talk) turns) is ∙ renewing_not talk was.site x now s.talks y after moment f reason c was.at
+      → turn_refusal_under (acked_in talk) turns t ≡ Some f
+  renewed_not t f is c reason = ap (turn_refusal_under (acked_in talk) turns) is ∙ renewing_not talk was.site x now s.talks y after moment f reason c was.at
 
   -- and what stands before it was done
 
   asked_before : NonePending → (requests : List Request) (f : CallsFault) → CallsInto {A = Unit {0}} requests x y now after (Err f) had have
-      → IsTurnFault f.fault → StaysBehind b limits url moment opened turns (Some requests) y first after have
+      → IsTurnFault f.fault → StaysBehindTurn b limits url moment opened turns (Some requests) y first after have
   asked_before law requests f c reason =
       let q = c.answers was.site was.at in
       let a = q.broken in
@@ -227,7 +227,7 @@ module _ (b : Beginning) (limits : Limits) (url : Option (List ℕ)) (moment : D
       in
       let have_is : have ≡ had ++ a.replies = c.have_is ∙ ap (λ (rs : List Reply). had ++ rs) added_is in
       let before_is : c.sent ≡ a.sent_before = a.sent_parts ∙ (ap (λ (o : List ℕ). a.sent_before ++ o) none.0 ∙ append-nil a.sent_before) in
-      let sent_is : c.sent ≡ octets_of talk moment (Some asked) = first_sent talk was.site x now s.talks y after c.sent c.moves c.same law moment requests
+      let sent_is : c.sent ≡ octets_of_turn talk moment (Some asked) = first_sent talk was.site x now s.talks y after c.sent c.moves c.same law moment requests
       f.fault reason a in
       let octets_are = first_octets talk was.site x now s.talks y after c.sent c.moves c.same law moment requests f.fault reason a in
       record {
@@ -238,8 +238,8 @@ module _ (b : Beginning) (limits : Limits) (url : Option (List ℕ)) (moment : D
             site = a.behind;
             at = first_at talk was.site x now s.talks y after c.sent c.moves c.same law moment requests f.fault reason a;
             sent = was.sent ++ c.sent;
-            course = subst (λ (o : List ℕ). Course moment opened (turns ++ Some asked ∷ []) a.behind (was.sent ++ o) have) (sym before_is)
-                (subst (λ (r : List Reply). Course moment opened (turns ++ Some asked ∷ []) a.behind (was.sent ++ a.sent_before) r) (sym have_is)
+            course = subst (λ (o : List ℕ). ClientCourse moment opened (turns ++ Some asked ∷ []) a.behind (was.sent ++ o) have) (sym before_is)
+                (subst (λ (r : List Reply). ClientCourse moment opened (turns ++ Some asked ∷ []) a.behind (was.sent ++ a.sent_before) r) (sym have_is)
                 (Asked (Some asked) a.groups was.course refl (groups_front a.groups a.group a.sized) a.rounds));
             got = was.got ++ c.moves.got;
             carried = carried_on c.moves.got c.sent c.moves.carried;
@@ -257,16 +257,16 @@ module _ (b : Beginning) (limits : Limits) (url : Option (List ℕ)) (moment : D
 
   pub stays_before : NonePending → (t : Option (List Request)) (requests : List Request) (f : CallsFault) → t ≡ Some requests
       → CallsInto {A = Unit {0}} requests x y now after (Err f) had have → IsTurnFault f.fault
-      → StaysBehind b limits url moment opened turns t y first after have
-  stays_before law t requests f is c reason = subst (λ (o : Option (List Request)). StaysBehind b limits url moment opened turns o y first after have) (sym is)
+      → StaysBehindTurn b limits url moment opened turns t y first after have
+  stays_before law t requests f is c reason = subst (λ (o : Option (List Request)). StaysBehindTurn b limits url moment opened turns o y first after have) (sym is)
       (asked_before law requests f c reason)
 
   pub renewed_before : (t : Option (List Request)) (f : ClientFault) → t ≡ None → Renews {A = Unit {0}} moment x y now after (Err f)
       → (IsRefusal {A = Unit {0}} (Err f) → (y ≡ x) × (after ≡ now)) → have ≡ had → IsTurnFault f
-      → StaysBehind b limits url moment opened turns t y first after have
+      → StaysBehindTurn b limits url moment opened turns t y first after have
   renewed_before t f is c unchanged same reason =
-      let u = unchanged (is_refusal was.site moment (channel_of y) c.sent c.moves.taken f reason (c.answers was.site was.at)) in
-      subst (λ (o : Option (List Request)). StaysBehind b limits url moment opened turns o y first after have) (sym is) (record {
+      let u = unchanged (is_refusal was.site moment (channel_of_connection y) c.sent c.moves.taken f reason (c.answers was.site was.at)) in
+      subst (λ (o : Option (List Request)). StaysBehindTurn b limits url moment opened turns o y first after have) (sym is) (record {
         done = turns;
         done_is = refl;
         stays = subst (λ (z : Connection). StaysTalking b limits url moment opened turns z first after have) (sym u.0)
@@ -301,8 +301,8 @@ asked_stops b limits url moment opened turns x first now after had s ready f sto
 -- it closes
 pub talked_all : (b : Beginning) (limits : Limits) (url : Option (List ℕ)) (moment : DateTime) (turns : List (Option (List Request))) (x : Connection)
     (first now after : Option Traffic) (replies : List Reply)
-    (w : Went b limits url moment x first now) (y : Connection) (later : Option Traffic) (done : Unit {0})
-    → StaysTalking b limits url moment w.opened turns y first later replies → Closes {A = Unit {0}} moment (channel_of y) later after (Ok done)
+    (w : HasOpenedTo b limits url moment x first now) (y : Connection) (later : Option Traffic) (done : Unit {0})
+    → StaysTalking b limits url moment w.opened turns y first later replies → Closes {A = Unit {0}} moment (channel_of_connection y) later after (Ok done)
     → Talked b limits url moment turns first after replies
 talked_all b limits url moment turns x first now after replies w y later done s c =
     let opening : List ℕ = opening_octets limits url moment in
@@ -412,10 +412,10 @@ module _ {A : Type 0} (turn_of : A → Option (List Request)) where
       → index < length turns → t ≡ get_or turns index t
       → ((b : Beginning) (limits : Limits) (url : Option (List ℕ)) (opened : ClientPlace) (done : List (Option (List Request))) (first : Option Traffic)
       → StaysTalking b limits url moment opened done (connection_of y) first now have
-      → turn_refusal (acknowledged b.limits limits url) done (turn_of t) ≡ Some f)
+      → turn_refusal_under (acknowledged b.limits limits url) done (turn_of t) ≡ Some f)
       → (b : Beginning) (limits : Limits) (url : Option (List ℕ)) (opened : ClientPlace) (first : Option Traffic)
       → StaysTalking b limits url moment opened [] (connection_of x) first before had
-      → FirstRefused (acknowledged b.limits limits url) (map turn_of turns) index f
+      → FirstRefusedUnder (acknowledged b.limits limits url) (map turn_of turns) index f
   refused_next moment turns index x y before now had have t f so less is refused b limits url opened first s =
       let done = so.stays b limits url opened first s in
       record {
@@ -438,7 +438,7 @@ module _ {A : Type 0} (turn_of : A → Option (List Request)) where
       → index < length turns → t ≡ get_or turns index t
       → ((b : Beginning) (limits : Limits) (url : Option (List ℕ)) (opened : ClientPlace) (done : List (Option (List Request))) (first : Option Traffic)
       → StaysTalking b limits url moment opened done (connection_of y) first now have
-      → StaysBehind b limits url moment opened done (turn_of t) (connection_of z) first after later)
+      → StaysBehindTurn b limits url moment opened done (turn_of t) (connection_of z) first after later)
       → (b : Beginning) (limits : Limits) (url : Option (List ℕ)) (opened : ClientPlace) (first : Option Traffic)
       → StaysTalking b limits url moment opened [] (connection_of x) first before had
       → StaysBefore b limits url moment opened (map turn_of turns) index (connection_of z) first after later
@@ -496,8 +496,8 @@ module _ {A : Type 0} (turn_of : A → Option (List Request)) where
 
 -- it opened
 pub went_by : (limits : Limits) (url : Option (List ℕ)) (moment : DateTime) (before after : Option Traffic) (client : Client) → SettlesOpened
-    → (OpensNothing before after (Ok client) ⊎ OpensClient limits url moment before after (Ok client)) → (b : Beginning) → CanOpen b limits url moment
-    → IsLineTo b [] [] before → Went b limits url moment (connection_of client) before after
+    → (OpensNothing before after (Ok client) ⊎ OpensClient limits url moment before after (Ok client)) → (b : Beginning) → CanOpenTo b limits url moment
+    → IsLineTo b [] [] before → HasOpenedTo b limits url moment (connection_of client) before after
 went_by limits url moment before after client law (inl nothing) b able line = let none : ◌≡◌ {A = Result Client ClientFault} (Ok client) (Err OutOfMemory) =
     nothing.0 in absurd cc
 went_by limits url moment before after client law (inr o) b able line = went_first b limits url moment before after client law o able line

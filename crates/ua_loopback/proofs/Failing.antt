@@ -22,7 +22,7 @@ use Rattle.ua_loopback.specs.Says.{end_by, server_output}
 use Rattle.ua_loopback.specs.Talking.{IsLineTo, StopsOver}
 use Rattle.ua_loopback.specs.declared.stage.Stage.{Stage}
 use Rattle.ua_loopback.specs.declared.stage.Stage.TheVariants as stage
-use Rattle.ua_loopback.specs.inside.Talking.{CanOpen, HaveMisanswers, WentBefore, broken_fault, fault_at, outcome_at}
+use Rattle.ua_loopback.specs.inside.Talking.{CanOpenTo, HaveMisanswers, WentBefore, broken_fault, fault_at_stage, outcome_at}
 use Rattle.ua_loopback.proofs.Courses.{line_begins, waits_refused}
 use Rattle.ua_loopback.proofs.Sounds.{turns_answered}
 
@@ -38,17 +38,17 @@ broken_if stage.Broken b up goes ends over = refl
 -- ---- what is told
 
 -- what is no reason against a turn is told as it is
-as_it_is : (far : Stage) (f : ClientFault) → broken_fault f ≡ f → fault_at far f ≡ f
+as_it_is : (far : Stage) (f : ClientFault) → broken_fault f ≡ f → fault_at_stage far f ≡ f
 as_it_is stage.Going f same = refl
 as_it_is (stage.Ended end) f same = refl
 as_it_is stage.Broken f same = same
 
-told_so : (far : Stage) (f : ClientFault) → broken_fault f ≡ f → FailsAt far f → FailsAt far (fault_at far f)
+told_so : (far : Stage) (f : ClientFault) → broken_fault f ≡ f → FailsAt far f → FailsAt far (fault_at_stage far f)
 told_so far f same fails = subst (FailsAt far) (sym (as_it_is far f same)) fails
 
 -- a reason against a turn is told where the connection waits and goes on; over a broken line that memory was refused
 told_turn : (far : Stage) (f : ClientFault) (b : Beginning) (up : List ℕ) → end_by b up ≡ Going → EndsAt far b up → FailsAt stage.Going f
-    → broken_fault f ≡ fault.OutOfMemory → FailsAt far (fault_at far f)
+    → broken_fault f ≡ fault.OutOfMemory → FailsAt far (fault_at_stage far f)
 told_turn stage.Going f b up goes ends going broken = going
 told_turn (stage.Ended ending.Closed) f b up goes ends going broken = let no : ◌≡◌ {A = End ℕ} Over Going = sym ends ∙ goes in absurd cc
 told_turn (stage.Ended (ending.Refused code)) f b up goes ends going broken = let no : ◌≡◌ {A = End ℕ} (Stopped code.code) Going = sym ends ∙ goes in absurd cc
@@ -59,7 +59,7 @@ told_turn stage.Broken f b up goes ends going broken = subst (FailsAt stage.Brok
 -- at such a server every fault is want of memory, or a reason against a turn
 fails_at : (M : Type 0) (far : Stage) (f : ClientFault) (b : Beginning) (up : List ℕ) → (M → ⊥) → FailsBehind M f → StopsAfter f b up
     → (IsTurnFault f → end_by b up ≡ Going) → EndsAt far b up → (is_line_fault f ≡ true → IsOver far) → length (server_output b up) < most_reads
-    → FailsAt far (fault_at far f)
+    → FailsAt far (fault_at_stage far f)
 fails_at M far fault.Read b up none h stops waits ends over few = told_so far fault.Read refl (broken_if far b up (stops.read refl) ends (over refl))
 fails_at M far fault.Write b up none h stops waits ends over few = told_so far fault.Write refl (broken_if far b up (stops.write refl) ends (over refl))
 fails_at M far fault.TooLong b up none h stops waits ends over few = let many = stops.long refl in absurd (omega (arith, many, few))
@@ -84,14 +84,14 @@ some_failures f old new none is line =
 pub fails_on : (r told : Result (Unit {0}) ClientFault) (far : Stage) (b : Beginning) (limits : Limits) (channel : ℕ) (services : State) (url : Option (List ℕ))
     (moment : DateTime) (turns : List (Option (List Request))) (place : ℕ) (old new : Served) (replies : List Reply)
     → told ≡ outcome_at far r → b ≡ record { limits = limits; channel = channel; first = services; moment = moment }
-    → CanOpen (record { limits = limits; channel = channel; first = services; moment = moment }) limits url moment → IsSoundState services
+    → CanOpenTo (record { limits = limits; channel = channel; first = services; moment = moment }) limits url moment → IsSoundState services
     → old.up ≡ [] → old.read ≡ 0 → old.failures ≡ 0 → new.failures ≡ failures_behind old.failures r → (0 < new.failures → IsOver far) → EndsAt far b new.up
     → length (server_output b new.up) < most_reads
-    → IfErr r (λ f. (b' : Beginning) → CanOpen b' limits url moment → IsLineTo b' [] [] (Some (traffic_of b old)) → url_length url ≤ 4095
+    → IfErr r (λ f. (b' : Beginning) → CanOpenTo b' limits url moment → IsLineTo b' [] [] (Some (traffic_of b old)) → url_length url ≤ 4095
     → FailsBehind (HaveMisanswers b'.first b'.moment turns) f)
-    → IfErr r (λ f. (b' : Beginning) → CanOpen b' limits url moment → IsLineTo b' [] [] (Some (traffic_of b old)) → url_length url ≤ 4095
+    → IfErr r (λ f. (b' : Beginning) → CanOpenTo b' limits url moment → IsLineTo b' [] [] (Some (traffic_of b old)) → url_length url ≤ 4095
     → StopsOver f b' [] (Some (traffic_of b old)) (Some (traffic_of b new)))
-    → IfErr r (λ f. IsTurnFault f → (b' : Beginning) → CanOpen b' limits url moment → IsLineTo b' [] [] (Some (traffic_of b old))
+    → IfErr r (λ f. IsTurnFault f → (b' : Beginning) → CanOpenTo b' limits url moment → IsLineTo b' [] [] (Some (traffic_of b old))
     → WentBefore b' limits url moment turns place (Some (traffic_of b old)) (Some (traffic_of b new)) replies)
     → IfErr told (λ f. url_length url ≤ 4095 → FailsAt far f)
 fails_on (Ok found) told far b limits channel services url moment turns place old new replies told_is is able sound none nothing_read no_failure failed over
@@ -101,7 +101,7 @@ fails_on (Err f) told far b limits channel services url moment turns place old n
     few t u before =
     subst (λ (r : Result (Unit {0}) ClientFault). IfErr r (λ g. url_length url ≤ 4095 → FailsAt far g)) (sym told_is) (λ short.
     let begun : Beginning = record { limits = limits; channel = channel; first = services; moment = moment } in
-    let can : CanOpen b limits url moment = subst (λ (d : Beginning). CanOpen d limits url moment) (sym is) able in
+    let can : CanOpenTo b limits url moment = subst (λ (d : Beginning). CanOpenTo d limits url moment) (sym is) able in
     let line : IsLineTo b [] [] (Some (traffic_of b old)) = line_begins b old none nothing_read in
     let stops = u b can line short in
     let up_is : stops.0 ≡ new.up = ap (λ (o : List ℕ). o ++ stops.0) (sym none) ∙ sym stops.1 in
@@ -118,7 +118,7 @@ ok_told far (Ok done) told X told_is x = subst (λ (o : Result (Unit {0}) Client
 ok_told far (Err f) told X told_is x = subst (λ (o : Result (Unit {0}) ClientFault). OnOk o X) (sym told_is) tt
 
 -- a reason against a turn that is told is the one that the client came to
-same_reason : (far : Stage) (f : ClientFault) → IsTurnFault (fault_at far f) → f ≡ fault_at far f
+same_reason : (far : Stage) (f : ClientFault) → IsTurnFault (fault_at_stage far f) → f ≡ fault_at_stage far f
 same_reason stage.Going f reason = refl
 same_reason (stage.Ended end) f reason = refl
 same_reason stage.Broken fault.NotWritable reason = absurd reason

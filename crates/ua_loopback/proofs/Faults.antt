@@ -32,8 +32,8 @@ use Rattle.ua_server.specs.State.{State}
 use Rattle.ua_client.specs.Calls.{BreaksAt, BrokenAll, ClientGoesOn, Rounds, all_of, asked_at, refusal_at, sent_at}
 use Rattle.ua_client.specs.Carried.{Carries, IsAtEnd, IsPart}
 use Rattle.ua_client.specs.Client.{ClosesAt, OpensClient, OpensNothing, closing_at}
-use Rattle.ua_client.specs.Hearing.{MovesConnection, StopsAt, channel_of, most_reads, untaken_of}
-use Rattle.ua_client.specs.Opening.{BreaksOpening, BreaksSending, BreaksWaiting, GoesWithout, hello_octets, open_octets}
+use Rattle.ua_client.specs.Hearing.{MovesConnection, StopsAt, channel_of_connection, most_reads, untaken_of}
+use Rattle.ua_client.specs.Opening.{BreaksOpening, BreaksSending, BreaksWaiting, GoesWithout, hello_octets, open_frame_octets}
 use Rattle.ua_client.specs.Renewing.{RenewsAt, asks_renewed, is_renewed, refused_by, renewal_at, renewal_refusal}
 use Rattle.ua_client.specs.Replies.{AreAwaited, IsMisanswered}
 use Rattle.ua_client.specs.Sent.{bodies_of}
@@ -48,11 +48,11 @@ use Rattle.ua_loopback.specs.Accepted.{acknowledged, held_behind_calls}
 use Rattle.ua_loopback.specs.Beginning.{Beginning}
 use Rattle.ua_loopback.specs.Faults.{FailsBehind, IsOutside, StopsAfter}
 use Rattle.ua_loopback.specs.Replies.{HaveMisanswer, turn_state, turns_state}
-use Rattle.ua_loopback.specs.Says.{end_by, server_output, times_of_answers, state_told}
+use Rattle.ua_loopback.specs.Says.{end_by, server_output, answer_times, state_told}
 use Rattle.ua_loopback.specs.Talking.{AreTalking, IsLineTo, IsSentOver, StopsOver}
 use Rattle.ua_loopback.specs.Together.{opening_answer}
 use Rattle.ua_loopback.specs.Turns.{calls_told}
-use Rattle.ua_loopback.specs.inside.Talking.{CanOpen, HasMisanswer, HaveMisanswers}
+use Rattle.ua_loopback.specs.inside.Talking.{CanOpenTo, HasMisanswer, HaveMisanswers}
 use Rattle.ua_loopback.proofs.Ending.{all_last}
 use Rattle.ua_loopback.proofs.Opened.{answer_read, opening_said}
 use Rattle.ua_loopback.proofs.Reaching.{opening_read, requests_read, writable}
@@ -154,8 +154,8 @@ said_enough b (Some g) sent got more n line few =
 module _ (b : Beginning) (limits : Limits) (url : Option (List ℕ)) (octets : List ℕ) (told : List Told) (token id held : ℕ) (site : ClientPlace)
     (x : Connection) (before : Option Traffic) (t : AreTalking b limits url octets told token id held site x before)
     (y : Connection) (after : Option Traffic) (sent : List ℕ) (moves : MovesConnection x y sent before after)
-    (same : SameClient (channel_of x) (channel_of y)) where
-  limits_then : client_limits (channel_of y) ≡ limits
+    (same : SameClient (channel_of_connection x) (channel_of_connection y)) where
+  limits_then : client_limits (channel_of_connection y) ≡ limits
   limits_then = sym same.limits ∙ t.served.limits_are
 
   line_then : IsLineTo b (octets ++ sent) (t.got ++ moves.got) after
@@ -174,7 +174,7 @@ module _ (b : Beginning) (limits : Limits) (url : Option (List ℕ)) (octets : L
 
   module _ (law : NonePending) (never_before : ToldBehind) (groups : List (List Request)) (group : List Request) (behind : ClientPlace)
       (sent_before sent_then taken_before taken_then : List ℕ) (replies : List Reply)
-      (rounds : Rounds (channel_of y) site groups behind sent_before taken_before replies) (some : AreSome (groups ++ group ∷ []))
+      (rounds : Rounds (channel_of_connection y) site groups behind sent_before taken_before replies) (some : AreSome (groups ++ group ∷ []))
       (sent_parts : sent ≡ sent_before ++ sent_then) (taken_parts : moves.taken ≡ taken_before ++ taken_then) where
     abbrev all : List Request
     all = all_of groups
@@ -199,7 +199,7 @@ module _ (b : Beginning) (limits : Limits) (url : Option (List ℕ)) (octets : L
     first : Behind b limits url octets told token id held site.number sent_before replies all behind
     first =
         let later = said_further b (octets ++ sent_before) sent_then in
-        rounds_served b limits url octets told token id held law (channel_of x) t.served limits_then rounds
+        rounds_served b limits url octets told token id held law (channel_of_connection x) t.served limits_then rounds
         (all_front (λ (g : List Request). 0 < length g) groups group some) (server_output b ((octets ++ sent_before) ++ sent_then))
         (front_of_front behind.octets taken_then (server_output b ((octets ++ sent_before) ++ sent_then)) front_here)
         (record { more = later.further; parts = later.parts })
@@ -210,25 +210,25 @@ module _ (b : Beginning) (limits : Limits) (url : Option (List ℕ)) (octets : L
     abbrev told_here : List Told
     told_here = told ++ calls_told token id (bodies_of all)
 
-    same_here : client_limits (channel_of y) ≡ client_limits first.channel
+    same_here : client_limits (channel_of_connection y) ≡ client_limits first.channel
     same_here = limits_then ∙ sym first.served.limits_are
 
     module _ (judged : refusal_at behind group ≡ None) (sent_is : sent_then ≡ sent_at behind group) where
       front_asked : Extends (behind.octets ++ taken_then) (server_output b ((octets ++ sent_before) ++ sent_at behind group))
       front_asked = subst (λ (o : List ℕ). Extends (behind.octets ++ taken_then) (server_output b ((octets ++ sent_before) ++ o))) sent_is front_here
 
-      fails_not : (heard : List Heard) (why : Why) → ClientEnded (channel_of y) (asked_at behind group) (behind.octets ++ taken_then) heard why → ⊥
+      fails_not : (heard : List Heard) (why : Why) → ClientEnded (channel_of_connection y) (asked_at behind group) (behind.octets ++ taken_then) heard why → ⊥
       fails_not heard why ended =
           asked_fails_not b url (octets ++ sent_before) told_here first.served.at_server first.channel behind first.served.at_client group first.served.on
           first.served.serving some_here judged
-          (channel_of y) same_here (behind.octets ++ taken_then) heard why ended front_asked
+          (channel_of_connection y) same_here (behind.octets ++ taken_then) heard why ended front_asked
 
-      misses_not : ClientGoesOn (channel_of y) (asked_at behind group) (behind.octets ++ taken_then) behind.told (AreAwaited group (id_at behind))
+      misses_not : ClientGoesOn (channel_of_connection y) (asked_at behind group) (behind.octets ++ taken_then) behind.told (AreAwaited group (id_at behind))
           → untaken_of y ≡ [] → IsAtEnd after → ⊥
       misses_not h none end =
           asked_misses_not b url (octets ++ sent_before) told_here first.served.at_server first.channel behind first.served.at_client group first.served.on
           first.served.serving some_here judged
-          (channel_of y) same_here (behind.octets ++ taken_then) h (all_here none end
+          (channel_of_connection y) same_here (behind.octets ++ taken_then) h (all_here none end
           ∙ ap (λ (o : List ℕ). server_output b ((octets ++ sent_before) ++ o)) sent_is)
 
       fits : AreWritable group
@@ -237,12 +237,12 @@ module _ (b : Beginning) (limits : Limits) (url : Option (List ℕ)) (octets : L
           (sym (refused_there b limits url (octets ++ sent_before) told_here token (id + length all) (held_behind_calls held (length all)) behind first.channel
           first.served group) ∙ judged)
 
-      misanswers : ClientGoesOn (channel_of y) (asked_at behind group) (behind.octets ++ taken_then) behind.told (IsMisanswered group (id_at behind))
+      misanswers : ClientGoesOn (channel_of_connection y) (asked_at behind group) (behind.octets ++ taken_then) behind.told (IsMisanswered group (id_at behind))
           → HaveMisanswer (state_told b told) b.moment (all ++ group)
       misanswers h =
           let there = asked_misanswered b url (octets ++ sent_before) told_here first.served.at_server first.channel behind first.served.at_client group
           first.served.on first.served.serving some_here judged
-          (channel_of y) same_here (behind.octets ++ taken_then) never_before first.served.serving.together.stands h front_asked fits in
+          (channel_of_connection y) same_here (behind.octets ++ taken_then) never_before first.served.serving.together.stands h front_asked fits in
           let state_is = state_calls b told token id all (writable (acknowledged b.limits limits url) id all first.judged) in
           misanswered_behind (state_told b told) b.moment all group (subst (λ (s : State). HaveMisanswer s b.moment group) state_is there)
 
@@ -321,32 +321,32 @@ module _ (b : Beginning) (limits : Limits) (url : Option (List ℕ)) (octets : L
     now = with_answer (with_renewal c (id_at site)) (s.issued + 1) (next_number c.next)
 
     reads_renewal : renewal_refusal site ≡ None → sent ≡ renewal_at site moment
-        → ClientReads (client_limits (channel_of y)) (asks_renewed site) (server_output b (octets ++ sent)) renewed now
+        → ClientReads (client_limits (channel_of_connection y)) (asks_renewed site) (server_output b (octets ++ sent)) renewed now
     reads_renewal judged sent_is =
         subst (λ (l : Limits). ClientReads l (asks_renewed site) (server_output b (octets ++ sent)) renewed now) (t.served.limits_are ∙ sym limits_then)
-        (subst (λ (o : List ℕ). ClientReads (client_limits (channel_of x)) (asks_renewed site) (server_output b (octets ++ o)) renewed now) (sym sent_is)
-        (renewal_heard b url octets told s (channel_of x) site c moment t.served.on t.served.serving judged dated t.served.settled answered))
+        (subst (λ (o : List ℕ). ClientReads (client_limits (channel_of_connection x)) (asks_renewed site) (server_output b (octets ++ o)) renewed now) (sym sent_is)
+        (renewal_heard b url octets told s (channel_of_connection x) site c moment t.served.on t.served.serving judged dated t.served.settled answered))
 
     renewing_fails_not : renewal_refusal site ≡ None → sent ≡ renewal_at site moment → (heard : List Heard) (why : Why)
-        → ClientEnded (channel_of y) (asks_renewed site) (site.octets ++ moves.taken) heard why → ⊥
+        → ClientEnded (channel_of_connection y) (asks_renewed site) (site.octets ++ moves.taken) heard why → ⊥
     renewing_fails_not judged sent_is heard why ended =
-        client_not_failed (channel_of y) (asks_renewed site) (site.octets ++ moves.taken) front_then.more heard renewed now why ended
-        (subst (λ (o : List ℕ). ClientReads (client_limits (channel_of y)) (asks_renewed site) o renewed now) front_then.parts (reads_renewal judged sent_is))
+        client_not_failed (channel_of_connection y) (asks_renewed site) (site.octets ++ moves.taken) front_then.more heard renewed now why ended
+        (subst (λ (o : List ℕ). ClientReads (client_limits (channel_of_connection y)) (asks_renewed site) o renewed now) front_then.parts (reads_renewal judged sent_is))
 
     never_true : true ≡ false → ⊥
     never_true e = cc
 
     renewing_misses_not : renewal_refusal site ≡ None → sent ≡ renewal_at site moment
-        → GoesWithout is_renewed (channel_of y) (asks_renewed site) (site.octets ++ moves.taken) site.told → untaken_of y ≡ [] → IsAtEnd after → ⊥
+        → GoesWithout is_renewed (channel_of_connection y) (asks_renewed site) (site.octets ++ moves.taken) site.told → untaken_of y ≡ [] → IsAtEnd after → ⊥
     renewing_misses_not judged sent_is h none end =
         let told_is : site.told ++ h.heard ≡ renewed =
-        client_told (channel_of y) (asks_renewed site) (site.octets ++ moves.taken) (site.told ++ h.heard) renewed now h.goes
-        (subst (λ (o : List ℕ). ClientReads (client_limits (channel_of y)) (asks_renewed site) o renewed now) (sym (all_then none end))
+        client_told (channel_of_connection y) (asks_renewed site) (site.octets ++ moves.taken) (site.told ++ h.heard) renewed now h.goes
+        (subst (λ (o : List ℕ). ClientReads (client_limits (channel_of_connection y)) (asks_renewed site) o renewed now) (sym (all_then none end))
         (reads_renewal judged sent_is)) in
         let heard_is : h.heard ≡ heard.Renewed (s.issued + 1) ∷ [] = append_cancel_left site.told h.heard (heard.Renewed (s.issued + 1) ∷ []) told_is in
         never_true (sym (ap (list_any is_renewed) heard_is) ∙ h.none)
 
-    renewal_by_fault : (A : Type 0) (f : ClientFault) → RenewsAt {A = A} site moment (channel_of y) sent moves.taken (Err f)
+    renewal_by_fault : (A : Type 0) (f : ClientFault) → RenewsAt {A = A} site moment (channel_of_connection y) sent moves.taken (Err f)
         → refused_by {A = A} (Err f) ≡ renewal_refusal site → StopsAt {A = A} most_reads most_reads moves.got y after (Err f) → FailsBehind ⊥ f
     renewal_by_fault A (fault.Peer code) h e stops = absurd (renewing_fails_not (sym e) h.0 (site.told ++ h.1.heard) (peers code.code) h.1.ended)
     renewal_by_fault A (fault.Refused code) h e stops = absurd (renewing_fails_not (sym e) h.0 (site.told ++ h.1.heard) (ours code.code) h.1.ended)
@@ -363,27 +363,27 @@ module _ (b : Beginning) (limits : Limits) (url : Option (List ℕ)) (octets : L
     renewal_by_fault A (fault.Service code) h e stops = h
     renewal_by_fault A fault.Closed h e stops = h
 
-    pub renewal_fails : (A : Type 0) (f : ClientFault) → RenewsAt {A = A} site moment (channel_of y) sent moves.taken (Err f)
+    pub renewal_fails : (A : Type 0) (f : ClientFault) → RenewsAt {A = A} site moment (channel_of_connection y) sent moves.taken (Err f)
         → refused_by {A = A} (Err f) ≡ renewal_refusal site → StopsAt {A = A} most_reads most_reads moves.got y after (Err f) → FailsBehind ⊥ f
     renewal_fails A f h e stops = renewal_by_fault A f h e stops
 
     reads_renewed : renewal_refusal site ≡ None → end_by b (octets ++ renewal_at site moment) ≡ Going
     reads_renewed judged =
-        let r = server_renewed b url octets told s (channel_of x) site c moment t.served.on t.served.serving judged dated in
+        let r = server_renewed b url octets told s (channel_of_connection x) site c moment t.served.on t.served.serving judged dated in
         end_is b (octets ++ renewal_at site moment) r.frames [] Going r.run
 
-    pub renewal_stops : (A : Type 0) (f : ClientFault) → RenewsAt {A = A} site moment (channel_of y) sent moves.taken (Err f)
+    pub renewal_stops : (A : Type 0) (f : ClientFault) → RenewsAt {A = A} site moment (channel_of_connection y) sent moves.taken (Err f)
         → refused_by {A = A} (Err f) ≡ renewal_refusal site → StopsAt {A = A} most_reads most_reads moves.got y after (Err f)
         → StopsAfter f b (octets ++ sent)
     renewal_stops A f h e stops = record {
       read = λ is.
-          let there : RenewsAt {A = A} site moment (channel_of y) sent moves.taken (Err fault.Read) =
-          subst (λ (g : ClientFault). RenewsAt {A = A} site moment (channel_of y) sent moves.taken (Err g)) is h in
+          let there : RenewsAt {A = A} site moment (channel_of_connection y) sent moves.taken (Err fault.Read) =
+          subst (λ (g : ClientFault). RenewsAt {A = A} site moment (channel_of_connection y) sent moves.taken (Err g)) is h in
           let judged : None ≡ renewal_refusal site = subst (λ (g : ClientFault). refused_by {A = A} (Err g) ≡ renewal_refusal site) is e in
           ap (λ (o : List ℕ). end_by b (octets ++ o)) there.0 ∙ reads_renewed (sym judged);
       write = λ is.
-          let there : RenewsAt {A = A} site moment (channel_of y) sent moves.taken (Err fault.Write) =
-          subst (λ (g : ClientFault). RenewsAt {A = A} site moment (channel_of y) sent moves.taken (Err g)) is h in
+          let there : RenewsAt {A = A} site moment (channel_of_connection y) sent moves.taken (Err fault.Write) =
+          subst (λ (g : ClientFault). RenewsAt {A = A} site moment (channel_of_connection y) sent moves.taken (Err g)) is h in
           let judged : None ≡ renewal_refusal site = subst (λ (g : ClientFault). refused_by {A = A} (Err g) ≡ renewal_refusal site) is e in
           front_waits b (octets ++ sent) there.0.0.more
           (ap (end_by b) (append_assoc octets sent there.0.0.more ∙ ap (λ (o : List ℕ). octets ++ o) (sym there.0.0.parts)) ∙ reads_renewed (sym judged));
@@ -396,16 +396,16 @@ module _ (b : Beginning) (limits : Limits) (url : Option (List ℕ)) (octets : L
 -- ---- the opening
 
 -- what a server says of the HEL alone
-said_first : (b : Beginning) (g : Agreement) → output_of b.channel b.first (Agreed g ∷ []) Going (times_of_answers (Agreed g ∷ []) b.moment)
+said_first : (b : Beginning) (g : Agreement) → output_of b.channel b.first (Agreed g ∷ []) Going (answer_times (Agreed g ∷ []) b.moment)
     ≡ frame_octets (ack_frame g.ack)
 unfolding output_of
 said_first b g = append-nil (frame_octets (ack_frame g.ack) ++ []) ∙ append-nil (frame_octets (ack_frame g.ack))
 
 module _ (b : Beginning) (limits : Limits) (url : Option (List ℕ)) (moment : DateTime) (first after : Option Traffic) (why_not : ClientFault)
-    (o : OpensClient limits url moment first after (Err why_not)) (able : CanOpen b limits url moment) (short : url_length url ≤ 4095)
+    (o : OpensClient limits url moment first after (Err why_not)) (able : CanOpenTo b limits url moment) (short : url_length url ≤ 4095)
     (line : IsLineTo b [] [] first) where
   abbrev x : ClientChannel
-  x = channel_of o.last
+  x = channel_of_connection o.last
 
   abbrev sent : List ℕ
   sent = o.opens.sent
@@ -417,7 +417,7 @@ module _ (b : Beginning) (limits : Limits) (url : Option (List ℕ)) (moment : D
   hello = hello_octets limits url
 
   abbrev opening : List ℕ
-  opening = open_octets moment
+  opening = open_frame_octets moment
 
   abbrev acked : Ack
   acked = ack_to (hello_to limits url) b.limits
@@ -450,7 +450,7 @@ module _ (b : Beginning) (limits : Limits) (url : Option (List ℕ)) (moment : D
   said_hello =
       let r = reads_hello b.limits b.channel limits url able.hello_fits short in
       said_by_run b hello r.frames [] Going r.run
-      ∙ (ap (λ (t : List Told). output_of b.channel b.first t Going (times_of_answers t b.moment)) r.told_is
+      ∙ (ap (λ (t : List Told). output_of b.channel b.first t Going (answer_times t b.moment)) r.told_is
       ∙ said_first b (agreement_of b.limits (hello_to limits url)))
 
   reads_all : ClientReads (client_limits x) [] (opening_answer b limits url) all_heard now_open
@@ -494,8 +494,8 @@ module _ (b : Beginning) (limits : Limits) (url : Option (List ℕ)) (moment : D
       (subst (λ (u : List ℕ). ClientReads (client_limits x) [] u all_heard now_open) (sym whole) reads_all) in
       omega (arith, ap length told_is)
 
-  hello_is : hello_octets (client_limits (channel_of o.begun)) (url_of (channel_of o.begun)) ≡ hello
-  hello_is = ap (λ (m : Limits). hello_octets m (url_of (channel_of o.begun))) o.fresh.limits_are
+  hello_is : hello_octets (client_limits (channel_of_connection o.begun)) (url_of (channel_of_connection o.begun)) ≡ hello
+  hello_is = ap (λ (m : Limits). hello_octets m (url_of (channel_of_connection o.begun))) o.fresh.limits_are
       ∙ ap (λ (u : Option (List ℕ)). hello_octets limits u) o.fresh.url_is
 
   opening_by_fault : (A : Type 0) (f : ClientFault) → BreaksOpening hello opening x sent taken f
@@ -556,7 +556,7 @@ module _ (b : Beginning) (limits : Limits) (url : Option (List ℕ)) (moment : D
 
 pub open_fails : (b : Beginning) (limits : Limits) (url : Option (List ℕ)) (moment : DateTime) (first after : Option Traffic) (f : ClientFault)
     → (OpensNothing first after (Err f) ⊎ OpensClient limits url moment first after (Err f))
-    → CanOpen b limits url moment → url_length url ≤ 4095 → IsLineTo b [] [] first → IsOutside f
+    → CanOpenTo b limits url moment → url_length url ≤ 4095 → IsLineTo b [] [] first → IsOutside f
 open_fails b limits url moment first after f (inl nothing) able short line = subst IsOutside (sym (same_fault f fault.OutOfMemory nothing.0)) tt
   where
     same_fault : (g h : ClientFault) → ◌≡◌ {A = Result Client ClientFault} (Err g) (Err h) → g ≡ h
@@ -565,7 +565,7 @@ open_fails b limits url moment first after f (inr o) able short line = opening_f
 
 pub open_stops : (b : Beginning) (limits : Limits) (url : Option (List ℕ)) (moment : DateTime) (first after : Option Traffic) (f : ClientFault)
     → (OpensNothing first after (Err f) ⊎ OpensClient limits url moment first after (Err f))
-    → CanOpen b limits url moment → url_length url ≤ 4095 → IsLineTo b [] [] first → StopsOver f b [] first after
+    → CanOpenTo b limits url moment → url_length url ≤ 4095 → IsLineTo b [] [] first → StopsOver f b [] first after
 open_stops b limits url moment first after f (inl nothing) able short line =
     ([], nothing_sent first after nothing.1, memory_stops b [] f (same_fault f fault.OutOfMemory nothing.0))
   where

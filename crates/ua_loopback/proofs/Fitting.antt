@@ -7,7 +7,7 @@ use Rattle.std.proofs.Math.Facts.{Fits-lt-pow, Fits-of_z}
 use Rattle.std.proofs.lemmas.Bool.{and_from, lt-ltb}
 use mir.Val.{hbits}
 use Rattle.ua_wire.specs.Counted.{text}
-use Rattle.ua_wire.specs.Signed.{in_range, octets_of}
+use Rattle.ua_wire.specs.Signed.{in_range, width_octets}
 use Rattle.ua_builtin.specs.DateTime.{date_time}
 use Rattle.ua_builtin.specs.declared.date_time.DateTime.{DateTime}
 use Rattle.ua_frame.specs.Messages.{ack, hello}
@@ -15,7 +15,7 @@ use Rattle.ua_frame.specs.declared.limits.Limits.{Limits}
 use Rattle.ua_server.specs.State.{State}
 use Rattle.ua_loopback.specs.Beginning.{Beginning}
 use Rattle.ua_loopback.specs.Talking.{CanBegin}
-use Rattle.ua_loopback.specs.inside.Talking.{CanOpen}
+use Rattle.ua_loopback.specs.inside.Talking.{CanOpenTo}
 
 -- ---- moments
 
@@ -26,8 +26,8 @@ signed_fits w (negsuc n) f = lt-ltb n (2 ^ hbits w) f.sfits
 pub moment_fits : (moment : DateTime) → FitsSigned w64 moment.ticks → IsTrue (date_time.encodable moment)
 unfolding date_time
 moment_fits moment f =
-    and_from (in_range w64 moment.ticks) (nat_lt (cast_unsigned w64 moment.ticks) (256 ^ octets_of w64)) (signed_fits w64 moment.ticks f)
-    (lt-ltb (cast_unsigned w64 moment.ticks) (256 ^ octets_of w64) (Fits-lt-pow (Fits-of_z f)))
+    and_from (in_range w64 moment.ticks) (nat_lt (cast_unsigned w64 moment.ticks) (256 ^ width_octets w64)) (signed_fits w64 moment.ticks f)
+    (lt-ltb (cast_unsigned w64 moment.ticks) (256 ^ width_octets w64) (Fits-lt-pow (Fits-of_z f)))
 
 -- ---- numbers
 
@@ -40,7 +40,7 @@ lesser n m less = omega (arith, less)
 -- what a client with these limits and a server send to open a channel can be written
 pub can_open_to : (b : Beginning) (limits : Limits) (url : Option (List ℕ)) (moment : DateTime) → CanBegin b → Fits w32 limits.receive_buffer_size
     → Fits w32 limits.send_buffer_size → Fits w32 limits.max_message_size → Fits w32 limits.max_chunk_count
-    → FitsSigned w64 moment.ticks → IsTrue (text.encodable url) → CanOpen b limits url moment
+    → FitsSigned w64 moment.ticks → IsTrue (text.encodable url) → CanOpenTo b limits url moment
 unfolding hello ack
 can_open_to b limits url moment can receive send octets chunks dated url_fits = record {
   hello_fits =
@@ -68,7 +68,7 @@ can_open_to b limits url moment can receive send octets chunks dated url_fits = 
 pub can_open : (limits : Limits) (channel : ℕ) (first : State) (url : Option (List ℕ)) (moment : DateTime) → Fits w32 limits.receive_buffer_size
     → Fits w32 limits.send_buffer_size → Fits w32 limits.max_message_size → Fits w32 limits.max_chunk_count
     → Fits w32 channel → FitsSigned w64 moment.ticks → IsTrue (text.encodable url)
-    → CanOpen (record { limits = limits; channel = channel; first = first; moment = moment }) limits url moment
+    → CanOpenTo (record { limits = limits; channel = channel; first = first; moment = moment }) limits url moment
 can_open limits channel first url moment receive send octets chunks small dated url_fits =
     can_open_to (record { limits = limits; channel = channel; first = first; moment = moment }) limits url moment
     (record {

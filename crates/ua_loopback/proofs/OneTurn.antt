@@ -16,20 +16,20 @@ use Rattle.ua_server.specs.Said.{output_of}
 use Rattle.ua_server.specs.State.{State}
 use Rattle.ua_client.specs.Calls.{AnsweredAll, BrokenAll, all_of}
 use Rattle.ua_client.specs.Client.{closing_at, closing_by}
-use Rattle.ua_client.specs.Hearing.{MovesConnection, channel_of}
+use Rattle.ua_client.specs.Hearing.{MovesConnection, channel_of_connection}
 use Rattle.ua_client.specs.Renewing.{Renews}
 use Rattle.ua_client.specs.ClientPlace.{ClientPlace, StandsAt, id_at}
 use Rattle.ua_client.specs.declared.connection.Connection.{Connection}
 use Rattle.ua_client.specs.declared.fault.ClientFault.{ClientFault}
 use Rattle.ua_client.specs.declared.reply.Reply.{Reply}
 use Rattle.ua_client.proofs.Settled.{NonePending}
-use Rattle.ua_loopback.specs.Accepted.{IsAccepted, IsTurnFault, held_behind, tokens_held, turn_reasons, turn_refusal}
+use Rattle.ua_loopback.specs.Accepted.{IsAcceptedUnder, IsTurnFault, held_behind, tokens_held, turn_reasons_under, turn_refusal_under}
 use Rattle.ua_loopback.specs.Beginning.{Beginning}
-use Rattle.ua_loopback.specs.Replies.{lane_back, requests_replies, turn_state}
-use Rattle.ua_loopback.specs.Says.{services_after, server_output, times_of_answers, state_told}
+use Rattle.ua_loopback.specs.Replies.{lane_back_by_token, requests_replies, turn_state}
+use Rattle.ua_loopback.specs.Says.{services_after, server_output, answer_times, state_told}
 use Rattle.ua_loopback.specs.Sends.{closing_behind, turn_number, turn_octets}
-use Rattle.ua_loopback.specs.Talking.{AreTalking, Reads, SoFar, TalksAt, acked_in, closed_octets, id_in, octets_of, state_in, newest_in, told_in, with_turn}
-use Rattle.ua_loopback.specs.Turns.{id_behind, opening_told, token_behind, turn_told, turns_told}
+use Rattle.ua_loopback.specs.Talking.{AreTalking, Reads, SoFar, TalksAt, acked_in, closed_octets, id_in, octets_of_turn, state_in, newest_in, told_so_far, with_turn}
+use Rattle.ua_loopback.specs.Turns.{id_behind_turn, opening_told, token_behind_turn, turn_told, turns_told}
 use Rattle.ua_loopback.proofs.Pushes.{held_push, ids_push, number_push, state_push, told_push, tokens_push}
 use Rattle.ua_loopback.proofs.Reaching.{closing_read}
 use Rattle.ua_loopback.proofs.Replying.{state_closed, state_renewal}
@@ -43,14 +43,14 @@ use Rattle.ua_loopback.proofs.Talks.{renewed_judged, renewing_refused, rounds_oc
 
 -- with a turn more
 pub told_more : (t : SoFar) (moment : DateTime) (turn : Option (List Request))
-    → told_in (with_turn t moment turn) ≡ told_in t ++ turn_told (newest_in t) (id_in t) turn
+    → told_so_far (with_turn t moment turn) ≡ told_so_far t ++ turn_told (newest_in t) (id_in t) turn
 told_more t moment turn =
     let first : List Told = opening_told t.server.limits t.limits t.url in
     ap (λ (ts : List Told). first ++ ts) (told_push 1 2 t.turns turn)
     ∙ sym (append_assoc first (turns_told 1 2 t.turns) (turn_told (newest_in t) (id_in t) turn))
 
 -- the server reads all that was sent
-pub talk_read : (t : SoFar) (site : ClientPlace) (x : Connection) (now : Option Traffic) → TalksAt t site x now → Reads t.server t.octets (told_in t)
+pub talk_read : (t : SoFar) (site : ClientPlace) (x : Connection) (now : Option Traffic) → TalksAt t site x now → Reads t.server t.octets (told_so_far t)
 talk_read t site x now s = (s.talking.served.at_server, s.talking.served.serving.together.server_reads)
 
 -- and its services are as the turns leave them
@@ -63,7 +63,7 @@ talk_left t site x now s =
 
 module _ (t : SoFar) (moment : DateTime) (turn : Option (List Request)) (site : ClientPlace) (y : Connection) (after : Option Traffic)
     (s : TalksAt (with_turn t moment turn) site y after) where
-  pub turn_read : Reads t.server (with_turn t moment turn).octets (told_in t ++ turn_told (newest_in t) (id_in t) turn)
+  pub turn_read : Reads t.server (with_turn t moment turn).octets (told_so_far t ++ turn_told (newest_in t) (id_in t) turn)
   turn_read = subst (λ (ts : List Told). Reads t.server (with_turn t moment turn).octets ts) (told_more t moment turn)
       (talk_read (with_turn t moment turn) site y after s)
 
@@ -83,90 +83,90 @@ module _ (t : SoFar) (site : ClientPlace) (x : Connection) (before : Option Traf
   abbrev lane : Lane
   lane = call_lane (acked_in t) b.channel (newest_in t)
 
-  more_sent : (moment : DateTime) (turn : Option (List Request)) → sent ≡ turn_octets lane site.number (id_in t) moment turn → sent ≡ octets_of t moment turn
+  more_sent : (moment : DateTime) (turn : Option (List Request)) → sent ≡ turn_octets lane site.number (id_in t) moment turn → sent ≡ octets_of_turn t moment turn
   more_sent moment turn is = is ∙ ap (λ (n : ℕ). turn_octets lane n (id_in t) moment turn) s.number_is
 
-  more_talking : SameClient (channel_of x) (channel_of y) → (moment : DateTime) (turn : Option (List Request)) (u : ClientPlace)
-      → sent ≡ octets_of t moment turn
-      → AreTalking b t.limits t.url (t.octets ++ sent) (told_in t ++ turn_told (newest_in t) (id_in t) turn) (token_behind (newest_in t) turn)
-      (id_behind (id_in t) turn) (held_behind held turn) u y after
-      → u.number ≡ turn_number lane site.number turn → first_reason (turn_reasons (acked_in t) held (id_in t) turn) ≡ None
-      → state_told b (told_in t ++ turn_told (newest_in t) (id_in t) turn) ≡ turn_state (state_told b (told_in t)) b.moment turn
+  more_talking : SameClient (channel_of_connection x) (channel_of_connection y) → (moment : DateTime) (turn : Option (List Request)) (u : ClientPlace)
+      → sent ≡ octets_of_turn t moment turn
+      → AreTalking b t.limits t.url (t.octets ++ sent) (told_so_far t ++ turn_told (newest_in t) (id_in t) turn) (token_behind_turn (newest_in t) turn)
+      (id_behind_turn (id_in t) turn) (held_behind held turn) u y after
+      → u.number ≡ turn_number lane site.number turn → first_reason (turn_reasons_under (acked_in t) held (id_in t) turn) ≡ None
+      → state_told b (told_so_far t ++ turn_told (newest_in t) (id_in t) turn) ≡ turn_state (state_told b (told_so_far t)) b.moment turn
       → TalksAt (with_turn t moment turn) u y after
   more_talking same moment turn u sent_is talking number_is judged state = record {
     url_is = sym same.url ∙ s.url_is;
     dated = s.dated;
-    accepted = AllAfter-push (IsAccepted (acked_in t)) t.turns turn s.accepted judged;
+    accepted = AllAfter-push (IsAcceptedUnder (acked_in t)) t.turns turn s.accepted judged;
     number_is = number_is ∙ (ap (λ (n : ℕ). turn_number lane n turn) s.number_is ∙ sym (number_push (acked_in t) b.channel 1 2 t.turns turn));
     state_is =
         ap (λ (ts : List Told). state_told b ts) (told_more t moment turn)
         ∙ (state ∙ (ap (λ (st : State). turn_state st b.moment turn) s.state_is ∙ sym (state_push b.first b.moment t.turns turn)));
     talking =
-        talking_as b t.limits t.url (t.octets ++ sent) (t.octets ++ octets_of t moment turn) (told_in t ++ turn_told (newest_in t) (id_in t) turn)
-        (told_in (with_turn t moment turn)) (token_behind (newest_in t) turn) (newest_in (with_turn t moment turn))
-        (id_behind (id_in t) turn) (id_in (with_turn t moment turn)) (held_behind held turn) (tokens_held 1 (t.turns ++ turn ∷ [])) u y after
+        talking_as b t.limits t.url (t.octets ++ sent) (t.octets ++ octets_of_turn t moment turn) (told_so_far t ++ turn_told (newest_in t) (id_in t) turn)
+        (told_so_far (with_turn t moment turn)) (token_behind_turn (newest_in t) turn) (newest_in (with_turn t moment turn))
+        (id_behind_turn (id_in t) turn) (id_in (with_turn t moment turn)) (held_behind held turn) (tokens_held 1 (t.turns ++ turn ∷ [])) u y after
         (ap (λ (o : List ℕ). t.octets ++ o) sent_is) (sym (told_more t moment turn)) (sym (tokens_push 1 t.turns turn)) (sym (ids_push 2 t.turns turn))
         (sym (held_push 1 t.turns turn)) talking;
   }
 
-  module _ (moves : MovesConnection x y sent before after) (same : SameClient (channel_of x) (channel_of y)) where
+  module _ (moves : MovesConnection x y sent before after) (same : SameClient (channel_of_connection x) (channel_of_connection y)) where
     -- requests are answered
-    module _ (moment : DateTime) (requests : List Request) (replies : List Reply) (u : ClientPlace) (at : StandsAt (channel_of y) u)
+    module _ (moment : DateTime) (requests : List Request) (replies : List Reply) (u : ClientPlace) (at : StandsAt (channel_of_connection y) u)
         (octets_are : u.octets ≡ site.octets ++ moves.taken)
-        (there : Behind b t.limits t.url t.octets (told_in t) (newest_in t) (id_in t) held site.number sent replies requests u) where
-      pub asked_sent : sent ≡ octets_of t moment (Some requests)
+        (there : Behind b t.limits t.url t.octets (told_so_far t) (newest_in t) (id_in t) held site.number sent replies requests u) where
+      pub asked_sent : sent ≡ octets_of_turn t moment (Some requests)
       asked_sent = more_sent moment (Some requests) there.sent_is
 
       pub asked_more : TalksAt (with_turn t moment (Some requests)) u y after
       asked_more =
           more_talking same moment (Some requests) u asked_sent
-          (talks_asked b t.limits t.url t.octets (told_in t) (newest_in t) (id_in t) held site x before s.talking y after sent moves same requests replies u at
+          (talks_asked b t.limits t.url t.octets (told_so_far t) (newest_in t) (id_in t) held site x before s.talking y after sent moves same requests replies u at
           octets_are there) there.number_is there.judged
-          (asked_state b t.limits t.url t.octets (told_in t) (newest_in t) (id_in t) held site x before s.talking y after sent moves same requests replies u at
+          (asked_state b t.limits t.url t.octets (told_so_far t) (newest_in t) (id_in t) held site x before s.talking y after sent moves same requests replies u at
           octets_are there)
 
-      asked_replies : map (λ (r : Reply). Some r) replies ≡ requests_replies (lane_back b t.limits t.url (newest_in t)) (state_in t) b.moment requests
-      asked_replies = there.replies_are ∙ ap (λ (st : State). requests_replies (lane_back b t.limits t.url (newest_in t)) st b.moment requests) s.state_is
+      asked_replies : map (λ (r : Reply). Some r) replies ≡ requests_replies (lane_back_by_token b t.limits t.url (newest_in t)) (state_in t) b.moment requests
+      asked_replies = there.replies_are ∙ ap (λ (st : State). requests_replies (lane_back_by_token b t.limits t.url (newest_in t)) st b.moment requests) s.state_is
 
     -- all of them
     module _ (law : NonePending) (moment : DateTime) (requests : List Request) (replies : List Reply)
-        (q : AnsweredAll requests site (channel_of y) sent moves.taken replies) where
-      there : Behind b t.limits t.url t.octets (told_in t) (newest_in t) (id_in t) held site.number sent replies requests q.behind
-      there = answered_behind b t.limits t.url t.octets (told_in t) (newest_in t) (id_in t) held site x before s.talking y after sent moves same law requests
+        (q : AnsweredAll requests site (channel_of_connection y) sent moves.taken replies) where
+      there : Behind b t.limits t.url t.octets (told_so_far t) (newest_in t) (id_in t) held site.number sent replies requests q.behind
+      there = answered_behind b t.limits t.url t.octets (told_so_far t) (newest_in t) (id_in t) held site x before s.talking y after sent moves same law requests
           replies q
 
-      pub calls_sent : sent ≡ octets_of t moment (Some requests)
+      pub calls_sent : sent ≡ octets_of_turn t moment (Some requests)
       calls_sent = asked_sent moment requests replies q.behind q.at (rounds_octets q.rounds) there
 
       pub calls_talk : TalksAt (with_turn t moment (Some requests)) q.behind y after
       calls_talk = asked_more moment requests replies q.behind q.at (rounds_octets q.rounds) there
 
-      pub calls_replied : map (λ (r : Reply). Some r) replies ≡ requests_replies (lane_back b t.limits t.url (newest_in t)) (state_in t) b.moment requests
+      pub calls_replied : map (λ (r : Reply). Some r) replies ≡ requests_replies (lane_back_by_token b t.limits t.url (newest_in t)) (state_in t) b.moment requests
       calls_replied = asked_replies moment requests replies q.behind q.at (rounds_octets q.rounds) there
 
     -- or the first of them, up to one that is refused
     module _ (law : NonePending) (moment : DateTime) (requests : List Request) (f : ClientFault) (is : IsTurnFault f)
         (q : BrokenAll requests site y sent moves.taken f) where
-      pub calls_refused : turn_refusal (acked_in t) t.turns (Some requests) ≡ Some f
-      calls_refused = asked_refused b t.limits t.url t.octets (told_in t) (newest_in t) (id_in t) held site x before s.talking y after sent moves same law
+      pub calls_refused : turn_refusal_under (acked_in t) t.turns (Some requests) ≡ Some f
+      calls_refused = asked_refused b t.limits t.url t.octets (told_so_far t) (newest_in t) (id_in t) held site x before s.talking y after sent moves same law
           requests f is q
 
-      first_there : Behind b t.limits t.url t.octets (told_in t) (newest_in t) (id_in t) held site.number sent q.replies (all_of q.groups) q.behind
-      first_there = first_behind b t.limits t.url t.octets (told_in t) (newest_in t) (id_in t) held site x before s.talking y after sent moves same law requests
+      first_there : Behind b t.limits t.url t.octets (told_so_far t) (newest_in t) (id_in t) held site.number sent q.replies (all_of q.groups) q.behind
+      first_there = first_behind b t.limits t.url t.octets (told_so_far t) (newest_in t) (id_in t) held site x before s.talking y after sent moves same law requests
           f is q
 
-      pub first_at : StandsAt (channel_of y) q.behind
-      first_at = refused_at b t.limits t.url t.octets (told_in t) (newest_in t) (id_in t) held site x before s.talking y after sent moves same law requests f is
+      pub first_at : StandsAt (channel_of_connection y) q.behind
+      first_at = refused_at b t.limits t.url t.octets (told_so_far t) (newest_in t) (id_in t) held site x before s.talking y after sent moves same law requests f is
           q
 
       pub first_octets : q.behind.octets ≡ site.octets ++ moves.taken
-      first_octets = refused_octets b t.limits t.url t.octets (told_in t) (newest_in t) (id_in t) held site x before s.talking y after sent moves same law
+      first_octets = refused_octets b t.limits t.url t.octets (told_so_far t) (newest_in t) (id_in t) held site x before s.talking y after sent moves same law
           requests f is q
 
-      pub first_sent : sent ≡ octets_of t moment (Some (all_of q.groups))
+      pub first_sent : sent ≡ octets_of_turn t moment (Some (all_of q.groups))
       first_sent = asked_sent moment (all_of q.groups) q.replies q.behind first_at first_octets first_there
 
-      pub first_replied : map (λ (r : Reply). Some r) q.replies ≡ requests_replies (lane_back b t.limits t.url (newest_in t)) (state_in t) b.moment
+      pub first_replied : map (λ (r : Reply). Some r) q.replies ≡ requests_replies (lane_back_by_token b t.limits t.url (newest_in t)) (state_in t) b.moment
           (all_of q.groups)
       first_replied = asked_replies moment (all_of q.groups) q.replies q.behind first_at first_octets first_there
 
@@ -177,61 +177,61 @@ module _ (t : SoFar) (site : ClientPlace) (x : Connection) (before : Option Traf
 module _ (t : SoFar) (site : ClientPlace) (x : Connection) (before : Option Traffic) (s : TalksAt t site x before) (y : Connection) (after : Option Traffic)
     (moment : DateTime) where
   module _ (dated : IsTrue (date_time.encodable moment)) (done : Unit {0}) (c : Renews {A = Unit {0}} moment x y before after (Ok done))
-      (at : StandsAt (channel_of x) site) where
-    judged : turn_refusal (acked_in t) t.turns None ≡ None
-    judged = renewed_judged t.server t.limits t.url t.octets (told_in t) (newest_in t) (id_in t) (tokens_held 1 t.turns) site x before s.talking y after c.sent
+      (at : StandsAt (channel_of_connection x) site) where
+    judged : turn_refusal_under (acked_in t) t.turns None ≡ None
+    judged = renewed_judged t.server t.limits t.url t.octets (told_so_far t) (newest_in t) (id_in t) (tokens_held 1 t.turns) site x before s.talking y after c.sent
         c.moves c.same moment (sym (c.judged site at))
 
-    pub renewing_sent : c.sent ≡ octets_of t moment None
+    pub renewing_sent : c.sent ≡ octets_of_turn t moment None
     renewing_sent =
         more_sent t site x before s y after c.sent moment None
-        ((c.answers site at).0 ∙ renewal_sent t.server t.limits t.url t.octets (told_in t) (newest_in t) (id_in t) (tokens_held 1 t.turns) site x before
+        ((c.answers site at).0 ∙ renewal_sent t.server t.limits t.url t.octets (told_so_far t) (newest_in t) (id_in t) (tokens_held 1 t.turns) site x before
         s.talking y after c.sent c.moves c.same moment)
 
     pub renewing_talks : TalksAt (with_turn t moment None) (c.answers site at).1.0 y after
     renewing_talks =
         let a = c.answers site at in
         more_talking t site x before s y after c.sent c.same moment None a.1.0 renewing_sent
-        (talks_renewed t.server t.limits t.url t.octets (told_in t) (newest_in t) (id_in t) (tokens_held 1 t.turns) site x before s.talking y after c.sent
+        (talks_renewed t.server t.limits t.url t.octets (told_so_far t) (newest_in t) (id_in t) (tokens_held 1 t.turns) site x before s.talking y after c.sent
         c.moves c.same moment dated s.dated (sym (c.judged site at)) a.0 a.1.0 a.1.1)
-        a.1.1.number judged (state_renewal t.server (told_in t) (id_in t) 0 (newest_in t + 1) 3600000)
+        a.1.1.number judged (state_renewal t.server (told_so_far t) (id_in t) 0 (newest_in t + 1) 3600000)
 
   -- or not
-  pub renewing_not : (f : ClientFault) → IsTurnFault f → Renews {A = Unit {0}} moment x y before after (Err f) → StandsAt (channel_of x) site
-      → turn_refusal (acked_in t) t.turns None ≡ Some f
+  pub renewing_not : (f : ClientFault) → IsTurnFault f → Renews {A = Unit {0}} moment x y before after (Err f) → StandsAt (channel_of_connection x) site
+      → turn_refusal_under (acked_in t) t.turns None ≡ Some f
   renewing_not f reason c at =
-      renewing_refused t.server t.limits t.url t.octets (told_in t) (newest_in t) (id_in t) (tokens_held 1 t.turns) site x before s.talking y after c.sent
+      renewing_refused t.server t.limits t.url t.octets (told_so_far t) (newest_in t) (id_in t) (tokens_held 1 t.turns) site x before s.talking y after c.sent
       c.moves c.same moment f reason (c.answers site at) (c.judged site at)
 
 -- ---- the CLO
 
 module _ (b : Beginning) (octets more : List ℕ) (told : List Told) (q : ServerCloses b.limits b.channel more (told ++ Closed ∷ []))
-    (here : server_output b octets ≡ output_of b.channel b.first told Going (times_of_answers told b.moment)) where
+    (here : server_output b octets ≡ output_of b.channel b.first told Going (answer_times told b.moment)) where
   -- a CLO is not answered
   closing_said : server_output b more ≡ server_output b octets
   closing_said =
       said_by_run b more q.frames [] Over q.run
-      ∙ (ap (λ (k : List Told). output_of b.channel b.first k Over (times_of_answers k b.moment)) q.told_is ∙ (said_over b told ∙ sym here))
+      ∙ (ap (λ (k : List Told). output_of b.channel b.first k Over (answer_times k b.moment)) q.told_is ∙ (said_over b told ∙ sym here))
 
 module _ (t : SoFar) (site : ClientPlace) (x : Connection) (now : Option Traffic) (s : TalksAt t site x now) (moment : DateTime) where
   pub closing_is : closing_at site moment ≡ closing_behind (acked_in t) t.server.channel moment t.turns
   closing_is =
-      closing_there t.server t.limits t.url t.octets (told_in t) (newest_in t) (id_in t) (tokens_held 1 t.turns) site (channel_of x) s.talking.served moment
+      closing_there t.server t.limits t.url t.octets (told_so_far t) (newest_in t) (id_in t) (tokens_held 1 t.turns) site (channel_of_connection x) s.talking.served moment
       ∙ ap (λ (n : ℕ). closing_by (Some (call_lane (acked_in t) t.server.channel (newest_in t))) n (id_in t) moment) s.number_is
 
-  pub closes_read : ServerCloses t.server.limits t.server.channel (closed_octets t moment) (told_in t ++ Closed ∷ [])
+  pub closes_read : ServerCloses t.server.limits t.server.channel (closed_octets t moment) (told_so_far t ++ Closed ∷ [])
   closes_read =
       let r = s.talking.served in
       let used : id_at site < 4294967296 = omega (arith, r.id_is, r.few) in
-      subst (λ (o : List ℕ). ServerCloses t.server.limits t.server.channel (t.octets ++ o) (told_in t ++ Closed ∷ [])) closing_is
-      (closing_read t.server.limits t.url t.server.channel t.octets (told_in t) r.at_server (channel_of x) site r.at_client r.on r.serving.together moment used)
+      subst (λ (o : List ℕ). ServerCloses t.server.limits t.server.channel (t.octets ++ o) (told_so_far t ++ Closed ∷ [])) closing_is
+      (closing_read t.server.limits t.url t.server.channel t.octets (told_so_far t) r.at_server (channel_of_connection x) site r.at_client r.on r.serving.together moment used)
 
   pub closes_silent : server_output t.server (closed_octets t moment) ≡ server_output t.server t.octets
   closes_silent =
-      closing_said t.server t.octets (closed_octets t moment) (told_in t) closes_read
-      (said_there t.server t.octets (told_in t) s.talking.served.at_server s.talking.served.serving.together.server_reads)
+      closing_said t.server t.octets (closed_octets t moment) (told_so_far t) closes_read
+      (said_there t.server t.octets (told_so_far t) s.talking.served.at_server s.talking.served.serving.together.server_reads)
 
   pub closes_left : services_after t.server (closed_octets t moment) ≡ state_in t
   closes_left =
       left_by_run t.server (closed_octets t moment) closes_read.frames [] Over closes_read.run
-      ∙ (ap (λ (ts : List Told). state_told t.server ts) closes_read.told_is ∙ (state_closed t.server (told_in t) ∙ s.state_is))
+      ∙ (ap (λ (ts : List Told). state_told t.server ts) closes_read.told_is ∙ (state_closed t.server (told_so_far t) ∙ s.state_is))

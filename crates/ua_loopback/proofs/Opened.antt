@@ -25,14 +25,14 @@ use Rattle.ua_server.specs.Said.{state_after, output_of}
 use Rattle.ua_client.specs.ClientPlace.{ClientPlace, StandsAt}
 use Rattle.ua_loopback.specs.Beginning.{Beginning}
 use Rattle.ua_loopback.specs.Course.{opening_octets}
-use Rattle.ua_loopback.specs.Says.{server_output, times_of_answers, state_told}
+use Rattle.ua_loopback.specs.Says.{server_output, answer_times, state_told}
 use Rattle.ua_loopback.specs.Together.{AreServing, opening_answer}
 use Rattle.ua_loopback.proofs.Reaching.{opening_read}
 use Rattle.ua_loopback.proofs.Saying.{said_by_run}
 
 -- what a server says of an agreement and the first token
 said_first_two : (b : Beginning) (g : Agreement) → output_of b.channel b.first (Agreed g ∷ (Opened 1 0 1 3600000 ∷ [])) Going
-    (times_of_answers (Agreed g ∷ (Opened 1 0 1 3600000 ∷ [])) b.moment)
+    (answer_times (Agreed g ∷ (Opened 1 0 1 3600000 ∷ [])) b.moment)
     ≡ frame_octets (ack_frame g.ack) ++ frame_octets (opened_frame b.channel 1 1 0 1 3600000 b.moment)
 unfolding output_of
 said_first_two b g =
@@ -49,14 +49,14 @@ module _ (b : Beginning) (client : Limits) (url : Option (List ℕ)) (moment : D
   opening_said =
       let r = opening_read b.limits b.channel client url moment fits short dated in
       said_by_run b (opening_octets client url moment) r.frames [] Going r.run
-      ∙ (ap (λ (t : List Told). output_of b.channel b.first t Going (times_of_answers t b.moment)) r.told_is
+      ∙ (ap (λ (t : List Told). output_of b.channel b.first t Going (answer_times t b.moment)) r.told_is
       ∙ said_first_two b (agreement_of b.limits (hello_to client url)))
 
 -- what is left behind them
 left_first_two : (b : Beginning) (g : Agreement)
-    → ((state_after b.channel b.first (Agreed g ∷ (Opened 1 0 1 3600000 ∷ [])) (times_of_answers (Agreed g ∷ (Opened 1 0 1 3600000 ∷ [])) b.moment)).agreement
+    → ((state_after b.channel b.first (Agreed g ∷ (Opened 1 0 1 3600000 ∷ [])) (answer_times (Agreed g ∷ (Opened 1 0 1 3600000 ∷ [])) b.moment)).agreement
     ≡ Some g)
-    × ((state_after b.channel b.first (Agreed g ∷ (Opened 1 0 1 3600000 ∷ [])) (times_of_answers (Agreed g ∷ (Opened 1 0 1 3600000 ∷ [])) b.moment)).number
+    × ((state_after b.channel b.first (Agreed g ∷ (Opened 1 0 1 3600000 ∷ [])) (answer_times (Agreed g ∷ (Opened 1 0 1 3600000 ∷ [])) b.moment)).number
     ≡ next_number 1)
 unfolding state_after
 left_first_two b g = (refl, refl)

@@ -16,19 +16,19 @@ use Rattle.ua_client.specs.Client.{closing_at}
 use Rattle.ua_client.specs.Hearing.{failures_behind, most_reads}
 use Rattle.ua_client.specs.declared.fault.ClientFault.{ClientFault}
 use Rattle.ua_client.specs.declared.reply.Reply.{Reply}
-use Rattle.ua_loopback.specs.Accepted.{AreAccepted, FirstRefused, IsTurnFault, acknowledged}
+use Rattle.ua_loopback.specs.Accepted.{AreAcceptedUnder, FirstRefusedUnder, IsTurnFault, acknowledged}
 use Rattle.ua_loopback.specs.Beginning.{Beginning}
 use Rattle.ua_loopback.specs.Course.{Converses, opening_octets}
 use Rattle.ua_loopback.specs.Faults.{BehindRefused, FailsAt, FailsBehind}
 use Rattle.ua_loopback.specs.Kept.{EndsAt, IsOver, LeavesAt, Served, traffic_of}
-use Rattle.ua_loopback.specs.Replies.{turns_replies, turns_state}
+use Rattle.ua_loopback.specs.Replies.{replies_to_turns, turns_state}
 use Rattle.ua_loopback.specs.Says.{end_by, services_after, server_output, state_told}
 use Rattle.ua_loopback.specs.Sends.{conversation_octets}
 use Rattle.ua_loopback.specs.Talking.{IsLineTo, StopsOver}
 use Rattle.ua_loopback.specs.Turns.{conversation_told, opening_told, turns_told}
 use Rattle.ua_loopback.specs.declared.stage.Stage.{Stage}
 use Rattle.ua_loopback.specs.declared.stage.Stage.TheVariants as stage
-use Rattle.ua_loopback.specs.inside.Talking.{CanOpen, HaveMisanswers, Talked, WentBefore, outcome_at}
+use Rattle.ua_loopback.specs.inside.Talking.{CanOpenTo, HaveMisanswers, Talked, WentBefore, outcome_at}
 use Rattle.ua_loopback.proofs.Courses.{behind_refused, closed_by, conversed, line_begins}
 use Rattle.ua_loopback.proofs.Failing.{fails_on, ok_told, reason_told}
 use Rattle.ua_loopback.proofs.Replying.{state_closed}
@@ -38,7 +38,7 @@ use Rattle.ua_loopback.proofs.Saying.{end_is, left_by_run}
 
 -- what a client says that may open over this line: whatever server it leads to
 abbrev pub SaysOver : Beginning → Limits → Option (List ℕ) → DateTime → Served → (Beginning → Type 0) → Type 0
-SaysOver begun limits url moment old P = (b : Beginning) → CanOpen b limits url moment → IsLineTo b [] [] (Some (traffic_of begun old)) → P b
+SaysOver begun limits url moment old P = (b : Beginning) → CanOpenTo b limits url moment → IsLineTo b [] [] (Some (traffic_of begun old)) → P b
 
 -- what it was to do, and at which server; the line before it and after it; how many turns it took,
 -- the replies and its outcome; and what is told of that: the outcome, the connection, the octets
@@ -63,7 +63,7 @@ pub record Ran : Type 0 where
   pub left : State
   -- the server begins as the caller says, with sound services, and both can open; the line is new
   pub begun_is : begun ≡ record { limits = limits; channel = channel; first = services; moment = moment }
-  pub able : CanOpen (record { limits = limits; channel = channel; first = services; moment = moment }) limits url moment
+  pub able : CanOpenTo (record { limits = limits; channel = channel; first = services; moment = moment }) limits url moment
   pub sound : IsSoundState services
   pub none : old.up ≡ []
   pub nothing_read : old.read ≡ 0
@@ -71,7 +71,7 @@ pub record Ran : Type 0 where
   -- what the client says
   pub talked : OnOk outcome
       (SaysOver begun limits url moment old (λ b. Talked b limits url moment turns (Some (traffic_of begun old)) (Some (traffic_of begun new)) replies))
-  pub refused : IfErr outcome (λ f. IsTurnFault f → SaysOver begun limits url moment old (λ b. FirstRefused (acknowledged b.limits limits url) turns taken f))
+  pub refused : IfErr outcome (λ f. IsTurnFault f → SaysOver begun limits url moment old (λ b. FirstRefusedUnder (acknowledged b.limits limits url) turns taken f))
   pub before : IfErr outcome (λ f. IsTurnFault f
       → SaysOver begun limits url moment old (λ b.
       WentBefore b limits url moment turns taken (Some (traffic_of begun old)) (Some (traffic_of begun new)) replies))
@@ -123,8 +123,8 @@ module _ (q : Ran) where
   abbrev now : Option Traffic
   now = Some (traffic_of q.begun q.new)
 
-  can : CanOpen q.begun q.limits q.url q.moment
-  can = subst (λ (d : Beginning). CanOpen d q.limits q.url q.moment) (sym q.begun_is) q.able
+  can : CanOpenTo q.begun q.limits q.url q.moment
+  can = subst (λ (d : Beginning). CanOpenTo d q.limits q.url q.moment) (sym q.begun_is) q.able
 
   line : IsLineTo q.begun [] [] was
   line = line_begins q.begun q.old q.none q.nothing_read
@@ -178,11 +178,11 @@ module _ (q : Ran) where
         ∙ (state_closed q.begun (opening_told q.begun.limits q.limits q.url ++ turns_told 1 2 q.turns)
         ∙ (t.state_is ∙ ap (λ (d : Beginning). turns_state d.first d.moment q.turns) q.begun_is))))
 
-    did_reply : map (λ (r : Reply). Some r) q.replies ≡ turns_replies server q.limits q.url q.services 1 q.turns
-    did_reply = t.replied ∙ ap (λ (d : Beginning). turns_replies d q.limits q.url d.first 1 q.turns) q.begun_is
+    did_reply : map (λ (r : Reply). Some r) q.replies ≡ replies_to_turns server q.limits q.url q.services 1 q.turns
+    did_reply = t.replied ∙ ap (λ (d : Beginning). replies_to_turns d q.limits q.url d.first 1 q.turns) q.begun_is
 
-    did_accept : AreAccepted (acknowledged q.limits q.limits q.url) q.turns
-    did_accept = subst (λ (d : Beginning). AreAccepted (acknowledged d.limits q.limits q.url) q.turns) q.begun_is t.accepted
+    did_accept : AreAcceptedUnder (acknowledged q.limits q.limits q.url) q.turns
+    did_accept = subst (λ (d : Beginning). AreAcceptedUnder (acknowledged d.limits q.limits q.url) q.turns) q.begun_is t.accepted
 
   -- what holds where it did all is told so
   told_so : (X : Type 0) → (Talked q.begun q.limits q.url q.moment q.turns was now q.replies → X) → OnOk q.told X
@@ -206,13 +206,13 @@ module _ (q : Ran) where
   pub told_sent : OnOk q.told (q.up ≡ conversation_octets q.limits q.limits q.url q.channel q.moment q.turns)
   told_sent = told_so _ did_send
 
-  pub told_replied : OnOk q.told (map (λ (r : Reply). Some r) q.replies ≡ turns_replies server q.limits q.url q.services 1 q.turns)
+  pub told_replied : OnOk q.told (map (λ (r : Reply). Some r) q.replies ≡ replies_to_turns server q.limits q.url q.services 1 q.turns)
   told_replied = told_so _ did_reply
 
   pub told_state : OnOk q.told (q.left ≡ turns_state q.services q.moment q.turns)
   told_state = told_so _ did_leave_all
 
-  pub told_accepted : OnOk q.told (AreAccepted (acknowledged q.limits q.limits q.url) q.turns)
+  pub told_accepted : OnOk q.told (AreAcceptedUnder (acknowledged q.limits q.limits q.url) q.turns)
   told_accepted = told_so _ did_accept
 
   -- ---- where it did not
@@ -222,11 +222,11 @@ module _ (q : Ran) where
       → IfErr q.outcome (λ f. IsTurnFault f → P f) → IfErr q.told (λ f. IsTurnFault f → Q f)
   reason_so P Q by p = reason_told q.far q.outcome q.told Q q.told_is (reason_then q.outcome P Q by p)
 
-  pub told_refused : IfErr q.told (λ f. IsTurnFault f → FirstRefused (acknowledged q.limits q.limits q.url) q.turns q.taken f)
+  pub told_refused : IfErr q.told (λ f. IsTurnFault f → FirstRefusedUnder (acknowledged q.limits q.limits q.url) q.turns q.taken f)
   told_refused =
-      reason_so (λ f. SaysOver q.begun q.limits q.url q.moment q.old (λ b. FirstRefused (acknowledged b.limits q.limits q.url) q.turns q.taken f))
-      (λ f. FirstRefused (acknowledged q.limits q.limits q.url) q.turns q.taken f)
-      (λ f h. subst (λ (d : Beginning). FirstRefused (acknowledged d.limits q.limits q.url) q.turns q.taken f) q.begun_is (h q.begun can line)) q.refused
+      reason_so (λ f. SaysOver q.begun q.limits q.url q.moment q.old (λ b. FirstRefusedUnder (acknowledged b.limits q.limits q.url) q.turns q.taken f))
+      (λ f. FirstRefusedUnder (acknowledged q.limits q.limits q.url) q.turns q.taken f)
+      (λ f h. subst (λ (d : Beginning). FirstRefusedUnder (acknowledged d.limits q.limits q.url) q.turns q.taken f) q.begun_is (h q.begun can line)) q.refused
 
   went_before : WentBefore q.begun q.limits q.url q.moment q.turns q.taken was now q.replies
       → BehindRefused server q.limits q.url q.moment q.turns q.taken q.up q.replies

@@ -11,9 +11,9 @@ use Rattle.ua_server.specs.State.{State}
 use Rattle.ua_client.specs.declared.reply.Reply.{Reply}
 use Rattle.ua_loopback.specs.Accepted.{held_behind, tokens_held}
 use Rattle.ua_loopback.specs.Beginning.{Beginning}
-use Rattle.ua_loopback.specs.Replies.{lane_back, turn_replies, turn_state, turns_replies, turns_state}
+use Rattle.ua_loopback.specs.Replies.{lane_back_by_token, turn_replies, turn_state, replies_to_turns, turns_state}
 use Rattle.ua_loopback.specs.Sends.{turn_number, turn_octets, turns_number, turns_octets}
-use Rattle.ua_loopback.specs.Turns.{id_behind, ids_behind, token_behind, tokens_behind, turn_told, turns_told}
+use Rattle.ua_loopback.specs.Turns.{id_behind_turn, ids_behind, token_behind_turn, tokens_behind, turn_told, turns_told}
 
 -- ---- what they tell
 
@@ -21,18 +21,18 @@ pub told_push : (token id : ℕ) (turns : List (Option (List Request))) (t : Opt
     → turns_told token id (turns ++ t ∷ []) ≡ turns_told token id turns ++ turn_told (tokens_behind token turns) (ids_behind id turns) t
 told_push token id [] t = append-nil (turn_told token id t)
 told_push token id (u ∷ us) t =
-    ap (λ (ts : List Told). turn_told token id u ++ ts) (told_push (token_behind token u) (id_behind id u) us t)
-    ∙ sym (append_assoc (turn_told token id u) (turns_told (token_behind token u) (id_behind id u) us)
-    (turn_told (tokens_behind (token_behind token u) us) (ids_behind (id_behind id u) us) t))
+    ap (λ (ts : List Told). turn_told token id u ++ ts) (told_push (token_behind_turn token u) (id_behind_turn id u) us t)
+    ∙ sym (append_assoc (turn_told token id u) (turns_told (token_behind_turn token u) (id_behind_turn id u) us)
+    (turn_told (tokens_behind (token_behind_turn token u) us) (ids_behind (id_behind_turn id u) us) t))
 
 pub tokens_push : (token : ℕ) (turns : List (Option (List Request))) (t : Option (List Request))
-    → tokens_behind token (turns ++ t ∷ []) ≡ token_behind (tokens_behind token turns) t
+    → tokens_behind token (turns ++ t ∷ []) ≡ token_behind_turn (tokens_behind token turns) t
 tokens_push token [] t = refl
-tokens_push token (u ∷ us) t = tokens_push (token_behind token u) us t
+tokens_push token (u ∷ us) t = tokens_push (token_behind_turn token u) us t
 
-pub ids_push : (id : ℕ) (turns : List (Option (List Request))) (t : Option (List Request)) → ids_behind id (turns ++ t ∷ []) ≡ id_behind (ids_behind id turns) t
+pub ids_push : (id : ℕ) (turns : List (Option (List Request))) (t : Option (List Request)) → ids_behind id (turns ++ t ∷ []) ≡ id_behind_turn (ids_behind id turns) t
 ids_push id [] t = refl
-ids_push id (u ∷ us) t = ids_push (id_behind id u) us t
+ids_push id (u ∷ us) t = ids_push (id_behind_turn id u) us t
 
 pub held_push : (held : ℕ) (turns : List (Option (List Request))) (t : Option (List Request))
     → tokens_held held (turns ++ t ∷ []) ≡ held_behind (tokens_held held turns) t
@@ -49,9 +49,9 @@ octets_push a channel moment token number id [] t = append-nil (turn_octets (cal
 octets_push a channel moment token number id (u ∷ us) t =
     let lane : Lane = call_lane a channel token in
     let one : List ℕ = turn_octets lane number id moment u in
-    let k : ℕ = token_behind token u in
+    let k : ℕ = token_behind_turn token u in
     let n : ℕ = turn_number lane number u in
-    let i : ℕ = id_behind id u in
+    let i : ℕ = id_behind_turn id u in
     ap (λ (o : List ℕ). one ++ o) (octets_push a channel moment k n i us t)
     ∙ sym (append_assoc one (turns_octets a channel moment k n i us)
     (turn_octets (call_lane a channel (tokens_behind k us)) (turns_number a channel k n us) (ids_behind i us) moment t))
@@ -60,7 +60,7 @@ pub number_push : (a : Ack) (channel token number : ℕ) (turns : List (Option (
     → turns_number a channel token number (turns ++ t ∷ []) ≡ turn_number (call_lane a channel (tokens_behind token turns))
     (turns_number a channel token number turns) t
 number_push a channel token number [] t = refl
-number_push a channel token number (u ∷ us) t = number_push a channel (token_behind token u) (turn_number (call_lane a channel token) number u) us t
+number_push a channel token number (u ∷ us) t = number_push a channel (token_behind_turn token u) (turn_number (call_lane a channel token) number u) us t
 
 -- ---- what comes of them
 
@@ -71,13 +71,13 @@ state_push s moment (u ∷ us) t = state_push (turn_state s moment u) moment us 
 
 pub replies_push : (b : Beginning) (client : Limits) (url : Option (List ℕ)) (s : State) (token : ℕ) (turns : List (Option (List Request)))
     (t : Option (List Request))
-    → turns_replies b client url s token (turns ++ t ∷ []) ≡ turns_replies b client url s token turns
-    ++ turn_replies (lane_back b client url (tokens_behind token turns)) (turns_state s b.moment turns) b.moment t
-replies_push b client url s token [] t = append-nil (turn_replies (lane_back b client url token) s b.moment t)
+    → replies_to_turns b client url s token (turns ++ t ∷ []) ≡ replies_to_turns b client url s token turns
+    ++ turn_replies (lane_back_by_token b client url (tokens_behind token turns)) (turns_state s b.moment turns) b.moment t
+replies_push b client url s token [] t = append-nil (turn_replies (lane_back_by_token b client url token) s b.moment t)
 replies_push b client url s token (u ∷ us) t =
-    let one : List (Option Reply) = turn_replies (lane_back b client url token) s b.moment u in
+    let one : List (Option Reply) = turn_replies (lane_back_by_token b client url token) s b.moment u in
     let next : State = turn_state s b.moment u in
-    let k : ℕ = token_behind token u in
+    let k : ℕ = token_behind_turn token u in
     ap (λ (os : List (Option Reply)). one ++ os) (replies_push b client url next k us t)
-    ∙ sym (append_assoc one (turns_replies b client url next k us)
-    (turn_replies (lane_back b client url (tokens_behind k us)) (turns_state next b.moment us) b.moment t))
+    ∙ sym (append_assoc one (replies_to_turns b client url next k us)
+    (turn_replies (lane_back_by_token b client url (tokens_behind k us)) (turns_state next b.moment us) b.moment t))

@@ -20,7 +20,7 @@ use Rattle.ua_channel.specs.Client.{client_limits, client_rules_of}
 use Rattle.ua_channel.specs.ClientAsks.{is_too_large, most_tokens, no_id}
 use Rattle.ua_channel_laws.specs.ClientReads.{AtClient, ClientReads, lane_from}
 use Rattle.ua_channel.specs.ClientSends.{close_frame, hello_frame, hello_to, renewal_frame}
-use Rattle.ua_channel.specs.ClientTokens.{channel_in, held_tokens, responses}
+use Rattle.ua_channel.specs.ClientTokens.{first_channel, held_tokens, open_responses}
 use Rattle.ua_channel_laws.specs.InStep.{AreInStep}
 use Rattle.ua_channel_laws.specs.Outgoing.{renewal_by}
 use Rattle.ua_channel_laws.specs.Outgoing.Outgoing.{CallWith}
@@ -61,7 +61,7 @@ module _ (x : ClientChannel) (s : ClientPlace) (c : AtClient) (at : StandsAt x s
   pub lane_here : lane_behind s.before ≡ Some (lane_from c)
   lane_here =
       ap lane_behind before_is
-      ∙ (ap (λ (a : Option Ack). lane_by a (channel_in (responses (received r.frames).openings)) (latest (held_tokens (received r.frames)))) r.ack_is
+      ∙ (ap (λ (a : Option Ack). lane_by a (first_channel (open_responses (received r.frames).openings)) (latest (held_tokens (received r.frames)))) r.ack_is
       ∙ (ap (λ (n : Option ℕ). lane_by (Some c.ack) n (latest (held_tokens (received r.frames)))) r.channel_is
       ∙ ap (λ (k : Option ℕ). lane_by (Some c.ack) (Some c.channel) k) (ap latest r.tokens_are ∙ r.newest_is)))
 

@@ -40,15 +40,15 @@ use Rattle.ua_channel.proofs.ClientFrames.{hello_length, url_short}
 use Rattle.ua_channel.proofs.OneFrameMore.{received-nil}
 use Rattle.ua_channel_laws.proofs.ReadOn.{no_events}
 use Rattle.ua_server.specs.Said.{output_of}
-use Rattle.ua_client.specs.Opening.{IsOpened, open_octets}
+use Rattle.ua_client.specs.Opening.{IsOpened, open_frame_octets}
 use Rattle.ua_loopback.specs.Beginning.{Beginning}
 use Rattle.ua_loopback.specs.Course.{opening_octets}
-use Rattle.ua_loopback.specs.Says.{server_output, times_of_answers}
+use Rattle.ua_loopback.specs.Says.{server_output, answer_times}
 use Rattle.ua_loopback.proofs.Saying.{said_by_run}
 
 -- ---- what a server says of a stream that it refuses from the first frame on
 
-said_none : (b : Beginning) (code : ℕ) → output_of b.channel b.first [] (Stopped code) (times_of_answers [] b.moment) ≡ frame_octets (err_frame (of_code code))
+said_none : (b : Beginning) (code : ℕ) → output_of b.channel b.first [] (Stopped code) (answer_times [] b.moment) ≡ frame_octets (err_frame (of_code code))
 unfolding output_of
 said_none b code = refl
 
@@ -56,7 +56,7 @@ said_refused : (b : Beginning) (octets : List ℕ) (code : ℕ) → Run (server_
     → server_output b octets ≡ frame_octets (err_frame (of_code code))
 said_refused b octets code run =
     said_by_run b octets [] octets (Stopped code) run
-    ∙ (ap (λ (t : List Told). output_of b.channel b.first t (Stopped code) (times_of_answers t b.moment)) (no_events (server_rules b.limits b.channel))
+    ∙ (ap (λ (t : List Told). output_of b.channel b.first t (Stopped code) (answer_times t b.moment)) (no_events (server_rules b.limits b.channel))
     ∙ said_none b code)
 
 err_sized : (code : ℕ) → IsSized (err_frame (of_code code))
@@ -76,7 +76,7 @@ module _ (limits : Limits) (channel : ℕ) (client : Limits) (url : Option (List
   hel = hello_frame (hello_to client url)
 
   abbrev octets : List ℕ
-  octets = frame_octets hel ++ open_octets moment
+  octets = frame_octets hel ++ open_frame_octets moment
 
   hel_size : frame_size hel ≡ 32 + url_length url
   hel_size = omega (arith, hello_length client url)
@@ -105,7 +105,7 @@ module _ (limits : Limits) (channel : ℕ) (client : Limits) (url : Option (List
       goes_on,
       inr (record {
         frame = hel;
-        more = open_octets moment;
+        more = open_frame_octets moment;
         parts = refl;
         sized = hel_sized;
         let_in = subst (λ (g : Gate). LetsIn g hel) (sym gate_is) (record { kind = refl; flag = refl; largest = few; least = omega (arith, hel_size) });
@@ -122,7 +122,7 @@ module _ (limits : Limits) (channel : ℕ) (client : Limits) (url : Option (List
   fault_is : 8192 < frame_size hel → header_fault ((server_rules limits channel).gate []) octets ≡ Some TooLarge
   fault_is big =
       ap (λ (g : Gate). header_fault g octets) gate_is
-      ∙ (fault_front hello_gate (frame_octets hel) (open_octets moment) (omega (arith, length-frame_octets hel))
+      ∙ (fault_front hello_gate (frame_octets hel) (open_frame_octets moment) (omega (arith, length-frame_octets hel))
       ∙ (fault_of-frame hello_gate hel hel_sized ∙ too_large (frame_size hel) refl big))
 
   -- refused for its size
@@ -136,7 +136,7 @@ module _ (limits : Limits) (channel : ℕ) (client : Limits) (url : Option (List
       inl (record {
         fault = TooLarge;
         code = 0x8080_0000;
-        whole = omega (arith, length-append (frame_octets hel) (open_octets moment), length-frame_octets hel);
+        whole = omega (arith, length-append (frame_octets hel) (open_frame_octets moment), length-frame_octets hel);
         fault_is = fault_is big;
         code_is = refl;
         why_is =

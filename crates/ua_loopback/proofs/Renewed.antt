@@ -40,7 +40,7 @@ use Rattle.ua_client.specs.Renewing.{IsRenewed, IsSettled, asks_renewed, is_rene
 use Rattle.ua_client.specs.ClientPlace.{ClientPlace, id_at}
 use Rattle.ua_client.proofs.Renewals.{tokens-answer, tokens-told}
 use Rattle.ua_loopback.specs.Beginning.{Beginning}
-use Rattle.ua_loopback.specs.Says.{server_output, times_of_answers}
+use Rattle.ua_loopback.specs.Says.{server_output, answer_times}
 use Rattle.ua_loopback.specs.Together.{AreServing, renewal_answer}
 use Rattle.ua_loopback.proofs.Reaching.{not_exhausted, renewal_read}
 use Rattle.ua_loopback.proofs.RenewedTaken.{TellsLast, just_answer}
@@ -75,7 +75,7 @@ module _ (b : Beginning) (url : Option (List ℕ)) (octets : List ℕ) (told : L
   opens = Opened id 0 token 3600000 ∷ []
 
   abbrev before : Course
-  before = state_after b.channel b.first told (times_of_answers told b.moment)
+  before = state_after b.channel b.first told (answer_times told b.moment)
 
   -- a token is left
   few : s.issued < 4294967295
@@ -86,7 +86,7 @@ module _ (b : Beginning) (url : Option (List ℕ)) (octets : List ℕ) (told : L
 
   course_is : behind_told b octets told s t.together.server_reads opens ≡ course before.state c.next (b.moment ∷ []) before.agreement
   course_is =
-      ap (λ (ms : List DateTime). course before.state before.number (ms ++ times_of_answers opens b.moment) before.agreement)
+      ap (λ (ms : List DateTime). course before.state before.number (ms ++ answer_times opens b.moment) before.agreement)
       (none_left b.channel b.first told b.moment)
       ∙ ap (λ (n : ℕ). course before.state n (b.moment ∷ []) before.agreement) t.says_next
 
@@ -97,7 +97,7 @@ module _ (b : Beginning) (url : Option (List ℕ)) (octets : List ℕ) (told : L
       ∙ (ap (λ (k : Course). server_output b octets ++ said_of b.channel k opens) course_is
       ∙ ap (λ (o : List ℕ). server_output b octets ++ o) (append-nil (renewal_answer b c.next id token)))
 
-  left_renewed : state_after b.channel b.first (told ++ opens) (times_of_answers (told ++ opens) b.moment)
+  left_renewed : state_after b.channel b.first (told ++ opens) (answer_times (told ++ opens) b.moment)
       ≡ course_after b.channel (course before.state c.next (b.moment ∷ []) before.agreement) opens
   left_renewed = left_on b told opens ∙ ap (λ (k : Course). course_after b.channel k opens) course_is
 

@@ -19,7 +19,7 @@ use Rattle.ua_opening.proofs.BodyLaws.{body_reads_back}
 use Rattle.ua_services.proofs.RequestLawful.{lawful_request}
 use Rattle.ua_services.proofs.RequestRead.{request_read-found}
 use Rattle.ua_services.proofs.ResponseRead.{response_read-found}
-use Rattle.ua_services.specs.Request.{kind_of, request, request_read}
+use Rattle.ua_services.specs.Request.{kind_of_request, request, request_read}
 use Rattle.ua_services.specs.Response.{response, response_read}
 use Rattle.ua_services.specs.declared.fault.RequestFault.{RequestFault}
 use Rattle.ua_services.specs.declared.request.Request.{Request}
@@ -27,16 +27,16 @@ use Rattle.ua_services.specs.declared.request.RequestKind.{RequestKind}
 use Rattle.ua_services.specs.declared.response.Response.{Response}
 use Rattle.ua_server.specs.Answer.{answer}
 use Rattle.ua_server.specs.Reply.{answered, answered_by}
-use Rattle.ua_server.specs.Said.{Course, behind_first, first_of, state_after, course_after, say, start, used_in, with_more}
+use Rattle.ua_server.specs.Said.{Course, behind_first, first_time, state_after, course_after, say, start, used_in, with_more}
 use Rattle.ua_server.specs.State.{State}
-use Rattle.ua_client.specs.Replies.{AreReplies, IsAt, IsMisanswer, IsNoAnswer, IsReplyBy}
+use Rattle.ua_client.specs.Replies.{AreReplies, IsRequestAt, IsMisanswer, IsNoAnswer, IsReplyBy}
 use Rattle.ua_client.specs.Sent.{bodies_of}
 use Rattle.ua_client.specs.Told.{is_told_of, told_of}
 use Rattle.ua_client.specs.declared.reply.Reply.{Reply}
 use Rattle.ua_client.specs.declared.reply.Reply.TheVariants as reply
 use Rattle.ua_loopback.specs.Beginning.{Beginning}
-use Rattle.ua_loopback.specs.Replies.{HaveMisanswer, reply_read, reply_unless, requests_replies, state_behind}
-use Rattle.ua_loopback.specs.Says.{times_of_answers, state_told}
+use Rattle.ua_loopback.specs.Replies.{HaveMisanswer, reply_read, reply_unless, requests_replies, state_behind_requests}
+use Rattle.ua_loopback.specs.Says.{answer_times, state_told}
 use Rattle.ua_loopback.specs.Turns.{calls_told}
 use Rattle.ua_loopback.proofs.Answering.{answer_told, answers_told}
 use Rattle.ua_loopback.proofs.Saying.{left_on}
@@ -77,11 +77,11 @@ moments_left channel c (GaveUp id ∷ told) m rest e = moments_left channel (say
 moments_left channel c (Closed ∷ told) m rest e = moments_left channel (say channel c Closed).1 told m rest
     (subst (λ (n : ℕ). c.moments ≡ replicate n m ++ rest) (none_used (used_in told)) e)
 
-pub none_left : (channel : ℕ) (first : State) (told : List Told) (moment : DateTime) → (state_after channel first told (times_of_answers told moment)).moments
+pub none_left : (channel : ℕ) (first : State) (told : List Told) (moment : DateTime) → (state_after channel first told (answer_times told moment)).moments
     ≡ []
 unfolding state_after
-none_left channel first told moment = moments_left channel (start first (times_of_answers told moment)) told moment []
-    (sym (append-nil (times_of_answers told moment)))
+none_left channel first told moment = moments_left channel (start first (answer_times told moment)) told moment []
+    (sym (append-nil (answer_times told moment)))
 
 pub calls_used : (token id : ℕ) (bodies : List (List ℕ)) → used_in (calls_told token id bodies) ≡ length bodies
 calls_used token id [] = refl
@@ -91,28 +91,28 @@ calls_used token id (body ∷ bodies) = let more = calls_used token (id + 1) bod
 
 calls_state : (channel : ℕ) (c : Course) (token id : ℕ) (ms : List Request) (m : DateTime) (rest : List DateTime) → AreWritable ms
     → c.moments ≡ replicate (length ms) m ++ rest
-    → (course_after channel c (calls_told token id (bodies_of ms))).state ≡ state_behind c.state m ms
+    → (course_after channel c (calls_told token id (bodies_of ms))).state ≡ state_behind_requests c.state m ms
 calls_state channel c token id [] m rest fits e = refl
 calls_state channel c token id (msg ∷ ms) m rest fits e =
     let next : Course = (say channel c (Asked id token (request.canonical msg))).1 in
     calls_state channel next token (id + 1) ms m rest fits.1 (ap behind_first e)
-    ∙ (ap (λ (t : DateTime). state_behind (answered c.state t (request.canonical msg)).0 m ms) (ap first_of e)
-    ∙ ap (λ (g : State × Response). state_behind g.0 m ms) (answered_is c.state m msg fits.0))
+    ∙ (ap (λ (t : DateTime). state_behind_requests (answered c.state t (request.canonical msg)).0 m ms) (ap first_time e)
+    ∙ ap (λ (g : State × Response). state_behind_requests g.0 m ms) (answered_is c.state m msg fits.0))
 
 -- the moments that are there behind what was told, with those for these calls
 pub moments_there : (b : Beginning) (told : List Told) (token id : ℕ) (bodies : List (List ℕ))
-    → (state_after b.channel b.first told (times_of_answers told b.moment)).moments ++ times_of_answers (calls_told token id bodies) b.moment
+    → (state_after b.channel b.first told (answer_times told b.moment)).moments ++ answer_times (calls_told token id bodies) b.moment
     ≡ replicate (length bodies) b.moment ++ []
 moments_there b told token id bodies =
-    ap (λ (ms : List DateTime). ms ++ times_of_answers (calls_told token id bodies) b.moment) (none_left b.channel b.first told b.moment)
+    ap (λ (ms : List DateTime). ms ++ answer_times (calls_told token id bodies) b.moment) (none_left b.channel b.first told b.moment)
     ∙ (ap (λ (n : ℕ). replicate n b.moment) (calls_used token id bodies) ∙ sym (append-nil (replicate (length bodies) b.moment)))
 
 pub state_calls : (b : Beginning) (told : List Told) (token id : ℕ) (ms : List Request) → AreWritable ms
-    → state_told b (told ++ calls_told token id (bodies_of ms)) ≡ state_behind (state_told b told) b.moment ms
+    → state_told b (told ++ calls_told token id (bodies_of ms)) ≡ state_behind_requests (state_told b told) b.moment ms
 state_calls b told token id ms fits =
     ap (λ (k : Course). k.state) (left_on b told (calls_told token id (bodies_of ms)))
     ∙ calls_state b.channel
-    (with_more (state_after b.channel b.first told (times_of_answers told b.moment)) (times_of_answers (calls_told token id (bodies_of ms)) b.moment)) token
+    (with_more (state_after b.channel b.first told (answer_times told b.moment)) (answer_times (calls_told token id (bodies_of ms)) b.moment)) token
     id ms b.moment [] fits
     (moments_there b told token id (bodies_of ms) ∙ ap (λ (n : ℕ). replicate n b.moment ++ []) (length-map ms request.canonical))
 
@@ -165,14 +165,14 @@ replies_are back state moments id [] m rest before all [] fits e is h = refl
 replies_are back state moments id [] m rest before all (r ∷ rs) fits e is h = absurd h
 replies_are back state moments id (msg ∷ ms) m rest before all [] fits e is h = absurd h
 replies_are back state moments id (msg ∷ ms) m rest before all (r ∷ rs) fits e is h =
-    let given : State × Response = answered state (first_of moments) (request.canonical msg) in
+    let given : State × Response = answered state (first_time moments) (request.canonical msg) in
     let x : Heard = answer_told back id given.1 in
     let behind : List Heard = answers_told back given.0 (behind_first moments) (id + 1) (bodies_of ms) in
     let body : List ℕ = response.canonical given.1 in
     let same : h.0.0 ≡ x = told_one id before behind x h.0.0 (is_of (cut_refusal back body) id body) (ap (told_of id) (sym is) ∙ h.0.1) in
-    let one : Some r ≡ reply_unless (cut_refusal back body) body = reply_is (cut_refusal back body) (kind_of msg) id body r
-    (subst (λ (t : Heard). IsReplyBy (kind_of msg) id t r) same h.0.2) in
-    let given_is : given ≡ answer state m msg = ap (λ (t : DateTime). answered state t (request.canonical msg)) (ap first_of e)
+    let one : Some r ≡ reply_unless (cut_refusal back body) body = reply_is (cut_refusal back body) (kind_of_request msg) id body r
+    (subst (λ (t : Heard). IsReplyBy (kind_of_request msg) id t r) same h.0.2) in
+    let given_is : given ≡ answer state m msg = ap (λ (t : DateTime). answered state t (request.canonical msg)) (ap first_time e)
     ∙ answered_is state m msg fits.0 in
     let later = replies_are back given.0 (behind_first moments) (id + 1) ms m rest (before ++ x ∷ []) all rs fits.1 (ap behind_first e)
     (is ∙ sym (append_assoc before (x ∷ []) behind)) h.1 in
@@ -212,15 +212,15 @@ answered_by_it (Some fault) id k body octets e = let no : ◌≡◌ {A = Heard} 
 pub misanswered_at : (back : Lane) (state : State) (moments : List DateTime) (id k : ℕ) (ms : List Request) (m : DateTime) (rest : List DateTime)
     (before all : List Heard) (place : ℕ) (asked : Request) (us : List Heard) (last : Heard) (ws : List Heard)
     → AreWritable ms → moments ≡ replicate (length ms) m ++ rest → all ≡ before ++ answers_told back state moments id (bodies_of ms) → k ≡ id + place
-    → told_of k before ≡ [] → IsAt ms place asked
-    → all ≡ us ++ last ∷ ws → told_of k us ≡ [] → IsMisanswer (kind_of asked) k last → HaveMisanswer state m ms
+    → told_of k before ≡ [] → IsRequestAt ms place asked
+    → all ≡ us ++ last ∷ ws → told_of k us ≡ [] → IsMisanswer (kind_of_request asked) k last → HaveMisanswer state m ms
 misanswered_at back state moments id k [] m rest before all place asked us last ws fits e is k_is none at parts first h = absurd at
 misanswered_at back state moments id k (msg ∷ ms) m rest before all zero asked us last ws fits e is k_is none at parts first h =
-    let given : State × Response = answered state (first_of moments) (request.canonical msg) in
+    let given : State × Response = answered state (first_time moments) (request.canonical msg) in
     let body : List ℕ = response.canonical given.1 in
     let x : Heard = answer_told back id given.1 in
     let behind : List Heard = answers_told back given.0 (behind_first moments) (id + 1) (bodies_of ms) in
-    let given_is : given ≡ answer state m msg = ap (λ (t : DateTime). answered state t (request.canonical msg)) (ap first_of e)
+    let given_is : given ≡ answer state m msg = ap (λ (t : DateTime). answered state t (request.canonical msg)) (ap first_time e)
     ∙ answered_is state m msg fits.0 in
     let here : told_of k all ≡ x ∷ told_of k behind = ap (told_of k) is
     ∙ picks k before x behind none (of_itself (cut_refusal back body) id k body (omega (arith, k_is))) in
@@ -228,16 +228,16 @@ misanswered_at back state moments id k (msg ∷ ms) m rest before all zero asked
     let same : x ≡ last = first_is (told_of k behind) (told_of k ws) x last (sym here ∙ there) in
     inl (
       fits.0,
-      subst (λ (g : State × Response). IsNoAnswer (kind_of msg) (response.canonical g.1)) given_is
-          (subst (λ (o : List ℕ). IsNoAnswer (kind_of msg) o) (answered_by_it (cut_refusal back body) id k body h.0 (same ∙ h.1))
-          (subst (λ (r : Request). IsNoAnswer (kind_of r) h.0) at h.2)),
+      subst (λ (g : State × Response). IsNoAnswer (kind_of_request msg) (response.canonical g.1)) given_is
+          (subst (λ (o : List ℕ). IsNoAnswer (kind_of_request msg) o) (answered_by_it (cut_refusal back body) id k body h.0 (same ∙ h.1))
+          (subst (λ (r : Request). IsNoAnswer (kind_of_request r) h.0) at h.2)),
     )
 misanswered_at back state moments id k (msg ∷ ms) m rest before all (suc n) asked us last ws fits e is k_is none at parts first h =
-    let given : State × Response = answered state (first_of moments) (request.canonical msg) in
+    let given : State × Response = answered state (first_time moments) (request.canonical msg) in
     let body : List ℕ = response.canonical given.1 in
     let x : Heard = answer_told back id given.1 in
     let behind : List Heard = answers_told back given.0 (behind_first moments) (id + 1) (bodies_of ms) in
-    let given_is : given ≡ answer state m msg = ap (λ (t : DateTime). answered state t (request.canonical msg)) (ap first_of e)
+    let given_is : given ≡ answer state m msg = ap (λ (t : DateTime). answered state t (request.canonical msg)) (ap first_time e)
     ∙ answered_is state m msg fits.0 in
     let later = misanswered_at back given.0 (behind_first moments) (id + 1) k ms m rest (before ++ x ∷ []) all n asked us last ws fits.1 (ap behind_first e)
     (is ∙ sym (append_assoc before (x ∷ []) behind)) (omega (arith, k_is))
@@ -245,7 +245,7 @@ misanswered_at back state moments id k (msg ∷ ms) m rest before all (suc n) as
     inr (subst (λ (g : State × Response). HaveMisanswer g.0 m ms) given_is later)
 
 -- the same by the answers to requests behind others
-pub misanswered_behind : (s : State) (m : DateTime) (ms ns : List Request) → HaveMisanswer (state_behind s m ms) m ns → HaveMisanswer s m (ms ++ ns)
+pub misanswered_behind : (s : State) (m : DateTime) (ms ns : List Request) → HaveMisanswer (state_behind_requests s m ms) m ns → HaveMisanswer s m (ms ++ ns)
 misanswered_behind s m [] ns h = h
 misanswered_behind s m (r ∷ ms) ns h = inr (misanswered_behind (answer s m r).0 m ms ns h)
 
@@ -257,7 +257,7 @@ misanswered_among s m (r ∷ ms) ns (inr h) = inr (misanswered_among (answer s m
 -- ---- requests behind others
 
 pub replies-append : (back : Lane) (s : State) (moment : DateTime) (ms ns : List Request)
-    → requests_replies back s moment (ms ++ ns) ≡ requests_replies back s moment ms ++ requests_replies back (state_behind s moment ms) moment ns
+    → requests_replies back s moment (ms ++ ns) ≡ requests_replies back s moment ms ++ requests_replies back (state_behind_requests s moment ms) moment ns
 replies-append back s moment [] ns = refl
 replies-append back s moment (m ∷ ms) ns =
     ap (λ (os : List (Option Reply)). reply_unless (cut_refusal back (response.canonical (answer s moment m).1)) (response.canonical (answer s moment m).1)

@@ -42,10 +42,10 @@ use Rattle.ua_client.specs.declared.reply.Reply.{Reply}
 use Rattle.ua_client.proofs.Askings.{next-calls}
 use Rattle.ua_client.proofs.Grouping.{concat-push}
 use Rattle.ua_client.proofs.Settled.{NonePending, answered-settled}
-use Rattle.ua_loopback.specs.Accepted.{acknowledged, held_behind_calls, turn_reasons}
+use Rattle.ua_loopback.specs.Accepted.{acknowledged, held_behind_calls, turn_reasons_under}
 use Rattle.ua_loopback.specs.Beginning.{Beginning}
-use Rattle.ua_loopback.specs.Replies.{lane_back, requests_replies}
-use Rattle.ua_loopback.specs.Says.{server_output, times_of_answers, state_told}
+use Rattle.ua_loopback.specs.Replies.{lane_back_by_token, requests_replies}
+use Rattle.ua_loopback.specs.Says.{server_output, answer_times, state_told}
 use Rattle.ua_loopback.specs.Together.{AreServing, behind_calls}
 use Rattle.ua_loopback.specs.Turns.{calls_told}
 use Rattle.ua_loopback.specs.Talking.{IsServed}
@@ -164,12 +164,12 @@ module _ (b : Beginning) (limits : Limits) (url : Option (List ℕ)) where
 
   pub renewal_refused_there : (octets : List ℕ) (told : List Told) (token id held : ℕ) (site : ClientPlace) (x : ClientChannel)
       → IsServed b limits url octets told token id held site x
-      → renewal_refusal site ≡ first_reason (turn_reasons (acknowledged b.limits limits url) held id None)
+      → renewal_refusal site ≡ first_reason (turn_reasons_under (acknowledged b.limits limits url) held id None)
   renewal_refused_there octets told token id held site x t =
       let a : Ack = acknowledged b.limits limits url in
       let tokens : length (held_tokens site.before) ≡ held =
       ap length (tokens_here x site t.at_client t.serving.together.stands t.serving.together.client_reads) ∙ t.held_is in
-      ap (λ (k : ℕ). first_reason (turn_reasons a k (id_at site) None)) tokens ∙ ap (λ (n : ℕ). first_reason (turn_reasons a held n None)) t.id_is
+      ap (λ (k : ℕ). first_reason (turn_reasons_under a k (id_at site) None)) tokens ∙ ap (λ (n : ℕ). first_reason (turn_reasons_under a held n None)) t.id_is
 
 -- ---- one turn
 
@@ -228,7 +228,7 @@ module _ (b : Beginning) (limits : Limits) (url : Option (List ℕ)) (octets : L
         }
 
     -- the replies
-    pub group_replied : AreWritable requests → map (λ (r : Reply). Some r) replies ≡ requests_replies (lane_back b limits url token)
+    pub group_replied : AreWritable requests → map (λ (r : Reply). Some r) replies ≡ requests_replies (lane_back_by_token b limits url token)
         (state_told b told) b.moment requests
     group_replied fits =
         let hello_is : s.hello ≡ hello_to limits url = t.serving.together.in_step.hello_is ∙ ap (λ (l : Limits). hello_to l url) t.limits_are in
@@ -236,8 +236,8 @@ module _ (b : Beginning) (limits : Limits) (url : Option (List ℕ)) (octets : L
         let moments = moments_there b told c.newest (id_at site) (bodies_of requests)
         ∙ ap (λ (n : ℕ). replicate n b.moment ++ []) (length-map requests request.canonical) in
         replies_are (lane_of b.channel c.newest (agreement_of b.limits s.hello)) (state_told b told)
-        ((state_after b.channel b.first told (times_of_answers told b.moment)).moments
-        ++ times_of_answers (calls_told c.newest (id_at site) (bodies_of requests)) b.moment) (id_at site) requests b.moment [] site.told behind.told
+        ((state_after b.channel b.first told (answer_times told b.moment)).moments
+        ++ answer_times (calls_told c.newest (id_at site) (bodies_of requests)) b.moment) (id_at site) requests b.moment [] site.told behind.told
         replies
         fits moments all a.replies_are
         ∙ (ap (λ (k : ℕ). requests_replies (lane_of b.channel k (agreement_of b.limits s.hello)) (state_told b told) b.moment requests) t.newest_is
@@ -348,7 +348,7 @@ held_twice held m n some = held_some (held_behind_calls held m) n some ∙ sym (
 pub record Behind (b : Beginning) (limits : Limits) (url : Option (List ℕ)) (octets : List ℕ) (told : List Told) (token id held number : ℕ) (sent : List ℕ)
     (replies : List Reply) (requests : List Request) (site : ClientPlace) : Type 0 where
   pub channel : ClientChannel
-  pub replies_are : map (λ (r : Reply). Some r) replies ≡ requests_replies (lane_back b limits url token) (state_told b told) b.moment requests
+  pub replies_are : map (λ (r : Reply). Some r) replies ≡ requests_replies (lane_back_by_token b limits url token) (state_told b told) b.moment requests
   pub sent_is : sent ≡ calls_octets (Some (call_lane (acknowledged b.limits limits url) b.channel token)) number id (bodies_of requests)
   pub number_is : site.number ≡ numbers_behind (Some (call_lane (acknowledged b.limits limits url) b.channel token)) number (bodies_of requests)
   pub judged : first_reason (group_reasons (Some (acknowledged b.limits limits url)) id requests) ≡ None
@@ -402,7 +402,7 @@ module _ (b : Beginning) (limits : Limits) (url : Option (List ℕ)) (octets : L
       sym (refused_there b limits url (octets ++ sent) told_before token (id + length all) (held_behind_calls held (length all)) m before.channel before.served
       group) ∙ answered.judged in
       let acked : Ack = acknowledged b.limits limits url in
-      let back : Lane = lane_back b limits url token in
+      let back : Lane = lane_back_by_token b limits url token in
       let replied =
       group_replied b limits url (octets ++ sent) told_before token (id + length all) (held_behind_calls held (length all)) m before.channel before.served z t
       part (stands.same.limits ∙ same) down front law group added

@@ -15,7 +15,7 @@ use Rattle.ua_channel.specs.ServerTold.{Told, Closed}
 use Rattle.ua_server.specs.Said.{Course, last_words, state_after, course_after as course_by, output_of, said_of, used_in, with_more}
 use Rattle.ua_server.proofs.SaidInParts.{left-append, left-more, said-append, said-more, used_in-append}
 use Rattle.ua_loopback.specs.Beginning.{Beginning}
-use Rattle.ua_loopback.specs.Says.{end_by, services_after, reading_at_server, server_output, times_of_answers, events_at_server}
+use Rattle.ua_loopback.specs.Says.{end_by, services_after, reading_at_server, server_output, answer_times, events_at_server}
 use Rattle.ua_loopback.proofs.Further.{behind, run_further}
 
 -- ---- by a reading
@@ -33,16 +33,16 @@ module _ (b : Beginning) (octets : List ℕ) (fs : List Frame) (rest : List ℕ)
   end_is = (unique (rules_by b) octets (reading_at_server b octets).frames fs (reading_at_server b octets).rest rest (reading_at_server b octets).end end
       (reading_at_server b octets).run run).ends
 
-  pub said_by_run : server_output b octets ≡ output_of b.channel b.first (events (rules_by b) fs) end (times_of_answers (events (rules_by b) fs) b.moment)
+  pub said_by_run : server_output b octets ≡ output_of b.channel b.first (events (rules_by b) fs) end (answer_times (events (rules_by b) fs) b.moment)
   unfolding server_output
   said_by_run =
-      ap (λ (t : List Told). output_of b.channel b.first t (end_by b octets) (times_of_answers t b.moment)) told_is
-      ∙ ap (λ (e : End ℕ). output_of b.channel b.first (events (rules_by b) fs) e (times_of_answers (events (rules_by b) fs) b.moment)) end_is
+      ap (λ (t : List Told). output_of b.channel b.first t (end_by b octets) (answer_times t b.moment)) told_is
+      ∙ ap (λ (e : End ℕ). output_of b.channel b.first (events (rules_by b) fs) e (answer_times (events (rules_by b) fs) b.moment)) end_is
 
   pub left_by_run : services_after b octets
-      ≡ (state_after b.channel b.first (events (rules_by b) fs) (times_of_answers (events (rules_by b) fs) b.moment)).state
+      ≡ (state_after b.channel b.first (events (rules_by b) fs) (answer_times (events (rules_by b) fs) b.moment)).state
   unfolding services_after
-  left_by_run = ap (λ (t : List Told). (state_after b.channel b.first t (times_of_answers t b.moment)).state) told_is
+  left_by_run = ap (λ (t : List Told). (state_after b.channel b.first t (answer_times t b.moment)).state) told_is
 
 -- ---- a front of octets
 
@@ -87,57 +87,57 @@ pub record SaidFirst (b : Beginning) (octets all : List ℕ) : Type 0 where
   pub further : List ℕ
   pub parts : all ≡ server_output b octets ++ further
 
-pub spent-append : (a c : List Told) (moment : DateTime) → times_of_answers (a ++ c) moment ≡ times_of_answers a moment ++ times_of_answers c moment
+pub spent-append : (a c : List Told) (moment : DateTime) → answer_times (a ++ c) moment ≡ answer_times a moment ++ answer_times c moment
 spent-append a c moment = ap (λ (n : ℕ). replicate n moment) (used_in-append a c) ∙ sym (replicate-append-replicate (used_in a) (used_in c) moment)
 
-pub spent-enough : (a : List Told) (moment : DateTime) → used_in a ≤ length (times_of_answers a moment)
+pub spent-enough : (a : List Told) (moment : DateTime) → used_in a ≤ length (answer_times a moment)
 spent-enough a moment = let len = length-replicate (used_in a) moment in omega (arith, len)
 
 -- how far a server is behind more that is told, where each answer has its moment
-pub left_on : (b : Beginning) (told more : List Told) → state_after b.channel b.first (told ++ more) (times_of_answers (told ++ more) b.moment)
-    ≡ course_by b.channel (with_more (state_after b.channel b.first told (times_of_answers told b.moment)) (times_of_answers more b.moment)) more
+pub left_on : (b : Beginning) (told more : List Told) → state_after b.channel b.first (told ++ more) (answer_times (told ++ more) b.moment)
+    ≡ course_by b.channel (with_more (state_after b.channel b.first told (answer_times told b.moment)) (answer_times more b.moment)) more
 left_on b told more =
     ap (λ (ms : List DateTime). state_after b.channel b.first (told ++ more) ms) (spent-append told more b.moment)
-    ∙ (left-append b.channel b.first told more (times_of_answers told b.moment ++ times_of_answers more b.moment)
-    ∙ ap (λ (k : Course). course_by b.channel k more) (left-more b.channel b.first told (times_of_answers told b.moment) (times_of_answers more b.moment)
+    ∙ (left-append b.channel b.first told more (answer_times told b.moment ++ answer_times more b.moment)
+    ∙ ap (λ (k : Course). course_by b.channel k more) (left-more b.channel b.first told (answer_times told b.moment) (answer_times more b.moment)
     (spent-enough told b.moment)))
 
 -- and what it says of that
-pub said_on : (b : Beginning) (told more : List Told) → output_of b.channel b.first (told ++ more) Going (times_of_answers (told ++ more) b.moment)
-    ≡ output_of b.channel b.first told Going (times_of_answers told b.moment)
-    ++ said_of b.channel (with_more (state_after b.channel b.first told (times_of_answers told b.moment)) (times_of_answers more b.moment)) more
+pub said_on : (b : Beginning) (told more : List Told) → output_of b.channel b.first (told ++ more) Going (answer_times (told ++ more) b.moment)
+    ≡ output_of b.channel b.first told Going (answer_times told b.moment)
+    ++ said_of b.channel (with_more (state_after b.channel b.first told (answer_times told b.moment)) (answer_times more b.moment)) more
 said_on b told more =
-    let ms : List DateTime = times_of_answers told b.moment ++ times_of_answers more b.moment in
+    let ms : List DateTime = answer_times told b.moment ++ answer_times more b.moment in
     ap (λ (m : List DateTime). output_of b.channel b.first (told ++ more) Going m) (spent-append told more b.moment)
     ∙ (said-append b.channel b.first told more Going ms
     ∙ (ap (λ (o : List ℕ). o ++ (said_of b.channel (state_after b.channel b.first told ms) more ++ []))
-    (said-more b.channel b.first told Going (times_of_answers told b.moment) (times_of_answers more b.moment) (spent-enough told b.moment))
-    ∙ (ap (λ (o : List ℕ). output_of b.channel b.first told Going (times_of_answers told b.moment) ++ o)
+    (said-more b.channel b.first told Going (answer_times told b.moment) (answer_times more b.moment) (spent-enough told b.moment))
+    ∙ (ap (λ (o : List ℕ). output_of b.channel b.first told Going (answer_times told b.moment) ++ o)
     (append-nil (said_of b.channel (state_after b.channel b.first told ms) more))
-    ∙ ap (λ (k : Course). output_of b.channel b.first told Going (times_of_answers told b.moment) ++ said_of b.channel k more)
-    (left-more b.channel b.first told (times_of_answers told b.moment) (times_of_answers more b.moment) (spent-enough told b.moment)))))
+    ∙ ap (λ (k : Course). output_of b.channel b.first told Going (answer_times told b.moment) ++ said_of b.channel k more)
+    (left-more b.channel b.first told (answer_times told b.moment) (answer_times more b.moment) (spent-enough told b.moment)))))
 
 -- nothing more is said of a CLO
-pub said_over : (b : Beginning) (told : List Told) → output_of b.channel b.first (told ++ Closed ∷ []) Over (times_of_answers (told ++ Closed ∷ []) b.moment)
-    ≡ output_of b.channel b.first told Going (times_of_answers told b.moment)
+pub said_over : (b : Beginning) (told : List Told) → output_of b.channel b.first (told ++ Closed ∷ []) Over (answer_times (told ++ Closed ∷ []) b.moment)
+    ≡ output_of b.channel b.first told Going (answer_times told b.moment)
 said_over b told =
-    let ms : List DateTime = times_of_answers told b.moment ++ times_of_answers (Closed ∷ []) b.moment in
+    let ms : List DateTime = answer_times told b.moment ++ answer_times (Closed ∷ []) b.moment in
     ap (λ (m : List DateTime). output_of b.channel b.first (told ++ Closed ∷ []) Over m) (spent-append told (Closed ∷ []) b.moment)
     ∙ (said-append b.channel b.first told (Closed ∷ []) Over ms
     ∙ (append-nil (output_of b.channel b.first told Going ms)
-    ∙ said-more b.channel b.first told Going (times_of_answers told b.moment) (times_of_answers (Closed ∷ []) b.moment) (spent-enough told b.moment)))
+    ∙ said-more b.channel b.first told Going (answer_times told b.moment) (answer_times (Closed ∷ []) b.moment) (spent-enough told b.moment)))
 
 -- what is said of more that is told, in one piece
 said_first : (b : Beginning) (a c : List Told) (end : End ℕ) → (further : List ℕ) ×
-    (output_of b.channel b.first (a ++ c) end (times_of_answers (a ++ c) b.moment) ≡ output_of b.channel b.first a Going (times_of_answers a b.moment)
+    (output_of b.channel b.first (a ++ c) end (answer_times (a ++ c) b.moment) ≡ output_of b.channel b.first a Going (answer_times a b.moment)
     ++ further)
 said_first b a c end =
-    let moments = times_of_answers a b.moment ++ times_of_answers c b.moment in (
+    let moments = answer_times a b.moment ++ answer_times c b.moment in (
       said_of b.channel (state_after b.channel b.first a moments) c ++ last_words end,
       ap (λ (ms : List DateTime). output_of b.channel b.first (a ++ c) end ms) (spent-append a c b.moment)
           ∙ (said-append b.channel b.first a c end moments
           ∙ ap (λ (o : List ℕ). o ++ (said_of b.channel (state_after b.channel b.first a moments) c ++ last_words end))
-          (said-more b.channel b.first a Going (times_of_answers a b.moment) (times_of_answers c b.moment) (spent-enough a b.moment))),
+          (said-more b.channel b.first a Going (answer_times a b.moment) (answer_times c b.moment) (spent-enough a b.moment))),
     )
 
 stays_said : (b : Beginning) (octets more : List ℕ) (fs : List Frame) (rest : List ℕ) (end : End ℕ) → (end ≡ Going → ⊥) → Run (rules_by b) octets fs rest end
@@ -161,7 +161,7 @@ goes_said b octets more fs rest r =
       further = first.0;
       parts =
           said_by_run b (octets ++ more) (fs ++ s.frames) s.rest s.end run
-          ∙ (ap (λ (t : List Told). output_of b.channel b.first t s.end (times_of_answers t b.moment)) (events_on R fs s.frames)
+          ∙ (ap (λ (t : List Told). output_of b.channel b.first t s.end (answer_times t b.moment)) (events_on R fs s.frames)
           ∙ (first.1 ∙ ap (λ (o : List ℕ). o ++ first.0) (sym (said_by_run b octets fs rest Going r))));
     }
 

@@ -15,7 +15,7 @@ use Rattle.ua_server.specs.State.{State}
 use Rattle.ua_client.specs.Calls.{BreaksAt, Rounds, sent_at}
 use Rattle.ua_client.specs.Calls.Rounds.{NoRound, OneRound}
 use Rattle.ua_client.specs.Client.{IsLeft, IsReady, connection_of}
-use Rattle.ua_client.specs.Hearing.{channel_of}
+use Rattle.ua_client.specs.Hearing.{channel_of_connection}
 use Rattle.ua_client.specs.Sent.{bodies_of}
 use Rattle.ua_client.specs.Session.{ActivatesBehind, BeginsSessionAs, Replies, ServesAt, activating_at, brings_any, brings_token, creating_at, reply_failure}
 use Rattle.ua_client.specs.ClientPlace.{ClientPlace, id_at}
@@ -28,10 +28,10 @@ use Rattle.ua_client.proofs.Askings.{next-calls}
 use Rattle.ua_client.proofs.Settled.{NonePending}
 use Rattle.ua_loopback.specs.Accepted.{tokens_held}
 use Rattle.ua_loopback.specs.Faults.{FailsBehind}
-use Rattle.ua_loopback.specs.Replies.{HaveMisanswer, lane_back, requests_replies}
+use Rattle.ua_loopback.specs.Replies.{HaveMisanswer, lane_back_by_token, requests_replies}
 use Rattle.ua_loopback.specs.Says.{state_told}
 use Rattle.ua_loopback.specs.Talking.{AreSession, FailsSession, IsSentOver, IsTalking, MisanswersSession}
-use Rattle.ua_loopback.specs.Talking.{SoFar, id_in, newest_in, octets_of, session_requests, told_in, with_turn}
+use Rattle.ua_loopback.specs.Talking.{SoFar, id_in, newest_in, octets_of_turn, session_requests, told_so_far, with_turn}
 use Rattle.ua_loopback.proofs.Faults.{sent_over}
 use Rattle.ua_loopback.proofs.Faults.{fails_by, group_fails}
 use Rattle.ua_loopback.proofs.OneTurn.{asked_more, asked_sent}
@@ -44,14 +44,14 @@ module _ (t : SoFar) (x : Client) (before : Option Traffic) (k : IsTalking t x b
     (policy_id : Option (List ℕ)) (moment : DateTime) (token : NodeId)
     (c : BeginsSessionAs policy_id moment (connection_of x) (connection_of y) before after (Ok token)) where
   abbrev url : Option (List ℕ)
-  url = url_of (channel_of (connection_of x))
+  url = url_of (channel_of_connection (connection_of x))
 
   -- behind CreateSession
   there : ActivatesBehind url policy_id moment k.site (connection_of y) c.sent c.moves.taken (λ (given : NodeId). given ≡ token) (Ok tt)
   there = c.answers k.site k.talks.talking.served.serving.together.stands
 
   -- and behind ActivateSession
-  activated : Replies (activating_at policy_id there.token moment there.between) there.between (channel_of (connection_of y)) there.sent_then there.taken_then
+  activated : Replies (activating_at policy_id there.token moment there.between) there.between (channel_of_connection (connection_of y)) there.sent_then there.taken_then
       (λ (reply : Reply). (reply_failure reply ≡ None) × brings_any tt reply)
   activated = there.further.1
 
@@ -61,10 +61,10 @@ module _ (t : SoFar) (x : Client) (before : Option Traffic) (k : IsTalking t x b
   abbrev second : Request
   second = activating_at policy_id there.token moment there.between
 
-  rounds : Rounds (channel_of (connection_of y)) k.site ((first ∷ []) ∷ ((second ∷ []) ∷ [])) activated.behind
+  rounds : Rounds (channel_of_connection (connection_of y)) k.site ((first ∷ []) ∷ ((second ∷ []) ∷ [])) activated.behind
       (sent_at k.site (first ∷ []) ++ sent_at there.between (second ∷ [])) (there.taken_before ++ there.taken_then) (there.reply ∷ (activated.reply ∷ []))
   rounds =
-      OneRound (second ∷ []) (channel_of (connection_of y))
+      OneRound (second ∷ []) (channel_of_connection (connection_of y))
       (OneRound (first ∷ []) there.channel NoRound (record { same = there.same; at = there.at; came = there.created.came }) there.created.answered)
       (record { same = record { limits = refl; url = refl }; at = activated.at; came = activated.replied.came }) activated.replied.answered
 
@@ -89,20 +89,20 @@ module _ (t : SoFar) (x : Client) (before : Option Traffic) (k : IsTalking t x b
       ∙ (ap (λ (n : ℕ). create_session t.url moment (id_in t) ∷ (activate_session_as policy_id there.token moment n ∷ [])) id_then
       ∙ ap (λ (given : NodeId). create_session t.url moment (id_in t) ∷ (activate_session_as policy_id given moment (id_in t + 1) ∷ [])) there.further.0))
 
-  behind_there : Behind t.server t.limits t.url t.octets (told_in t) (newest_in t) (id_in t) (tokens_held 1 t.turns) k.site.number c.sent
+  behind_there : Behind t.server t.limits t.url t.octets (told_so_far t) (newest_in t) (id_in t) (tokens_held 1 t.turns) k.site.number c.sent
       (there.reply ∷ (activated.reply ∷ [])) (first ∷ (second ∷ [])) activated.behind
   behind_there =
-      asked_behind t.server t.limits t.url t.octets (told_in t) (newest_in t) (id_in t) (tokens_held 1 t.turns) k.site (connection_of x) before k.talks.talking
+      asked_behind t.server t.limits t.url t.octets (told_so_far t) (newest_in t) (id_in t) (tokens_held 1 t.turns) k.site (connection_of x) before k.talks.talking
       (connection_of y) after c.sent c.moves c.same law activated.behind rounds
       (omega arith, (omega arith, tt)) sent_is there.taken_parts
 
-  pub session_sent : IsSentOver (octets_of t moment (Some (session_requests t policy_id token moment))) before after
+  pub session_sent : IsSentOver (octets_of_turn t moment (Some (session_requests t policy_id token moment))) before after
   session_sent =
-      sent_over c.moves.got c.sent (octets_of t moment (Some (session_requests t policy_id token moment))) before after
+      sent_over c.moves.got c.sent (octets_of_turn t moment (Some (session_requests t policy_id token moment))) before after
       (asked_sent t k.site (connection_of x) before k.talks (connection_of y) after c.sent c.moves c.same moment (first ∷ (second ∷ []))
       (there.reply ∷ (activated.reply ∷ [])) activated.behind activated.at
       (rounds_octets rounds ∙ ap (λ (o : List ℕ). k.site.octets ++ o) (sym there.taken_parts)) behind_there
-      ∙ ap (λ (ms : List Request). octets_of t moment (Some ms)) are_session)
+      ∙ ap (λ (ms : List Request). octets_of_turn t moment (Some ms)) are_session)
       c.moves.carried
 
   pub session_on : IsReady y → IsTalking (with_turn t moment (Some (session_requests t policy_id token moment))) y after
@@ -120,7 +120,7 @@ module _ (t : SoFar) (x : Client) (before : Option Traffic) (k : IsTalking t x b
 -- a service whose request is called by itself failed, or the call did
 served_or_broken : (A : Type 0) (request : Request) (brings : A → Reply → Type 0) (s : ClientPlace) (new : Connection) (sent taken : List ℕ) (f : ClientFault)
     → ServesAt {A = A} request brings s new sent taken (Err f)
-    → ((code : StatusCode) × (f ≡ fault.Service code) × Replies request s (channel_of new) sent taken (λ (reply : Reply). reply_failure reply ≡ Some code))
+    → ((code : StatusCode) × (f ≡ fault.Service code) × Replies request s (channel_of_connection new) sent taken (λ (reply : Reply). reply_failure reply ≡ Some code))
     ⊎ BreaksAt (request ∷ []) s new sent taken f
 served_or_broken A request brings s new sent taken (fault.Service code) h = inl (code, refl, h)
 served_or_broken A request brings s new sent taken fault.Read h = inr h
@@ -158,7 +158,7 @@ module _ (t : SoFar) (x : Client) (before : Option Traffic) (k : IsTalking t x b
     (policy_id : Option (List ℕ)) (moment : DateTime) (never_before : ToldBehind) (f : ClientFault)
     (c : BeginsSessionAs policy_id moment (connection_of x) (connection_of y) before after (Err f)) where
   abbrev address : Option (List ℕ)
-  address = url_of (channel_of (connection_of x))
+  address = url_of (channel_of_connection (connection_of x))
 
   abbrev creating : Request
   creating = creating_at address moment k.site
@@ -171,16 +171,16 @@ module _ (t : SoFar) (x : Client) (before : Option Traffic) (k : IsTalking t x b
 
   -- by the answers to requests that are those of a session
   fails_so : (requests : List Request) → AreSession t policy_id moment requests
-      → FailsBehind (HaveMisanswer (state_told t.server (told_in t)) t.server.moment requests) f → FailsSession t policy_id moment f
+      → FailsBehind (HaveMisanswer (state_told t.server (told_so_far t)) t.server.moment requests) f → FailsSession t policy_id moment f
   fails_so requests are h =
       broken_session t policy_id moment f
-      (fails_by (HaveMisanswer (state_told t.server (told_in t)) t.server.moment requests) (MisanswersSession t policy_id moment) f
+      (fails_by (HaveMisanswer (state_told t.server (told_so_far t)) t.server.moment requests) (MisanswersSession t policy_id moment) f
       (λ bad. (requests, are, subst (λ (s : State). HaveMisanswer s t.server.moment requests) k.talks.state_is bad)) h)
 
   -- or by the replies to them
   refused_so : (code : StatusCode) → f ≡ fault.Service code → (requests : List Request) → AreSession t policy_id moment requests
       → (first : List Reply) (last : Reply) → reply_failure last ≡ Some code
-      → map (λ (r : Reply). Some r) (first ++ last ∷ []) ≡ requests_replies (lane_back t.server t.limits t.url (newest_in t)) (state_told t.server (told_in t))
+      → map (λ (r : Reply). Some r) (first ++ last ∷ []) ≡ requests_replies (lane_back_by_token t.server t.limits t.url (newest_in t)) (state_told t.server (told_so_far t))
       t.server.moment requests → FailsSession t policy_id moment f
   refused_so code is requests are first last failed replied =
       subst (FailsSession t policy_id moment) (sym is) (record {
@@ -188,7 +188,7 @@ module _ (t : SoFar) (x : Client) (before : Option Traffic) (k : IsTalking t x b
         are = are;
         before = first;
         last = last;
-        replied = replied ∙ ap (λ (s : State). requests_replies (lane_back t.server t.limits t.url (newest_in t)) s t.server.moment requests) k.talks.state_is;
+        replied = replied ∙ ap (λ (s : State). requests_replies (lane_back_by_token t.server t.limits t.url (newest_in t)) s t.server.moment requests) k.talks.state_is;
         failed = failed;
       })
 
@@ -202,20 +202,20 @@ module _ (t : SoFar) (x : Client) (before : Option Traffic) (k : IsTalking t x b
   first_fails : ServesAt {A = NodeId} creating brings_token k.site z c.sent c.moves.taken (Err f) → FailsSession t policy_id moment f
   first_fails h = by (served_or_broken NodeId creating brings_token k.site z c.sent c.moves.taken f h)
     where
-      by : (((code : StatusCode) × (f ≡ fault.Service code) × Replies creating k.site (channel_of z) c.sent c.moves.taken
+      by : (((code : StatusCode) × (f ≡ fault.Service code) × Replies creating k.site (channel_of_connection z) c.sent c.moves.taken
           (λ (reply : Reply). reply_failure reply ≡ Some code)) ⊎ BreaksAt (creating ∷ []) k.site z c.sent c.moves.taken f)
           → FailsSession t policy_id moment f
       by (inl (code, is, r)) =
-          let one : Rounds (channel_of z) k.site ((creating ∷ []) ∷ []) r.behind (sent_at k.site (creating ∷ [])) c.moves.taken (r.reply ∷ []) =
-          OneRound (creating ∷ []) (channel_of z) NoRound (record { same = record { limits = refl; url = refl }; at = r.at; came = r.replied.came })
+          let one : Rounds (channel_of_connection z) k.site ((creating ∷ []) ∷ []) r.behind (sent_at k.site (creating ∷ [])) c.moves.taken (r.reply ∷ []) =
+          OneRound (creating ∷ []) (channel_of_connection z) NoRound (record { same = record { limits = refl; url = refl }; at = r.at; came = r.replied.came })
           r.replied.answered in
-          let there = asked_behind t.server t.limits t.url t.octets (told_in t) (newest_in t) (id_in t) held k.site (connection_of x) before k.talks.talking z
+          let there = asked_behind t.server t.limits t.url t.octets (told_so_far t) (newest_in t) (id_in t) held k.site (connection_of x) before k.talks.talking z
           after c.sent c.moves c.same law r.behind one
           (omega arith, tt) r.replied.sent_is refl in
           refused_so code is (creating ∷ []) (inl is_creating) [] r.reply r.says there.replies_are
       by (inr breaks) =
           fails_so (creating ∷ []) (inl is_creating)
-          (group_fails t.server t.limits t.url t.octets (told_in t) (newest_in t) (id_in t) held k.site (connection_of x) before k.talks.talking z after c.sent
+          (group_fails t.server t.limits t.url t.octets (told_so_far t) (newest_in t) (id_in t) held k.site (connection_of x) before k.talks.talking z after c.sent
           c.moves c.same law never_before
           [] (creating ∷ []) k.site [] c.sent [] c.moves.taken [] NoRound (omega arith, tt) refl refl NodeId f breaks c.stops)
 
@@ -225,7 +225,7 @@ module _ (t : SoFar) (x : Client) (before : Option Traffic) (k : IsTalking t x b
     abbrev activating : Request
     activating = activating_at policy_id w.token moment w.between
 
-    one : Rounds (channel_of z) k.site ((creating ∷ []) ∷ []) w.between (sent_at k.site (creating ∷ [])) w.taken_before (w.reply ∷ [])
+    one : Rounds (channel_of_connection z) k.site ((creating ∷ []) ∷ []) w.between (sent_at k.site (creating ∷ [])) w.taken_before (w.reply ∷ [])
     one = OneRound (creating ∷ []) w.channel NoRound (record { same = w.same; at = w.at; came = w.created.came }) w.created.answered
 
     parts_sent : c.sent ≡ sent_at k.site (creating ∷ []) ++ w.sent_then
@@ -245,21 +245,21 @@ module _ (t : SoFar) (x : Client) (before : Option Traffic) (k : IsTalking t x b
         ∙ ap (λ (n : ℕ). create_session t.url moment (id_in t) ∷ (activate_session_as policy_id w.token moment n ∷ [])) id_later
 
     second_by :
-        (((code : StatusCode) × (f ≡ fault.Service code) × Replies activating w.between (channel_of z) w.sent_then w.taken_then
+        (((code : StatusCode) × (f ≡ fault.Service code) × Replies activating w.between (channel_of_connection z) w.sent_then w.taken_then
         (λ (reply : Reply). reply_failure reply ≡ Some code)) ⊎ BreaksAt (activating ∷ []) w.between z w.sent_then w.taken_then f)
         → FailsSession t policy_id moment f
     second_by (inl (code, is, r)) =
-        let two : Rounds (channel_of z) k.site ((creating ∷ []) ∷ ((activating ∷ []) ∷ [])) r.behind
+        let two : Rounds (channel_of_connection z) k.site ((creating ∷ []) ∷ ((activating ∷ []) ∷ [])) r.behind
         (sent_at k.site (creating ∷ []) ++ sent_at w.between (activating ∷ [])) (w.taken_before ++ w.taken_then) (w.reply ∷ (r.reply ∷ [])) =
-        OneRound (activating ∷ []) (channel_of z) one (record { same = record { limits = refl; url = refl }; at = r.at; came = r.replied.came })
+        OneRound (activating ∷ []) (channel_of_connection z) one (record { same = record { limits = refl; url = refl }; at = r.at; came = r.replied.came })
         r.replied.answered in
-        let behind = asked_behind t.server t.limits t.url t.octets (told_in t) (newest_in t) (id_in t) held k.site (connection_of x) before k.talks.talking z
+        let behind = asked_behind t.server t.limits t.url t.octets (told_so_far t) (newest_in t) (id_in t) held k.site (connection_of x) before k.talks.talking z
         after c.sent c.moves c.same law r.behind two
         (omega arith, (omega arith, tt)) (parts_sent ∙ ap (λ (o : List ℕ). sent_at k.site (creating ∷ []) ++ o) r.replied.sent_is) w.taken_parts in
         refused_so code is (creating ∷ (activating ∷ [])) (inr (w.token, session_is)) (w.reply ∷ []) r.reply r.says behind.replies_are
     second_by (inr breaks) =
         fails_so (creating ∷ (activating ∷ [])) (inr (w.token, session_is))
-        (group_fails t.server t.limits t.url t.octets (told_in t) (newest_in t) (id_in t) held k.site (connection_of x) before k.talks.talking z after c.sent
+        (group_fails t.server t.limits t.url t.octets (told_so_far t) (newest_in t) (id_in t) held k.site (connection_of x) before k.talks.talking z after c.sent
         c.moves c.same law never_before
         ((creating ∷ []) ∷ []) (activating ∷ []) w.between (sent_at k.site (creating ∷ [])) w.sent_then w.taken_before w.taken_then (w.reply ∷ []) one
         (omega arith, (omega arith, tt)) parts_sent w.taken_parts NodeId f breaks c.stops)
@@ -286,7 +286,7 @@ module _ (t : SoFar) (x : Client) (before : Option Traffic) (k : IsTalking t x b
   begins_on (Ok token) c left = session_on t x before k y after law policy_id moment token c left
 
   pub begins_sent : (result : Result NodeId ClientFault) → BeginsSessionAs policy_id moment (connection_of x) (connection_of y) before after result
-      → IfOk result (λ token. IsSentOver (octets_of t moment (Some (session_requests t policy_id token moment))) before after)
+      → IfOk result (λ token. IsSentOver (octets_of_turn t moment (Some (session_requests t policy_id token moment))) before after)
   begins_sent (Err f) c = tt
   begins_sent (Ok token) c = session_sent t x before k y after law policy_id moment token c
 

@@ -4,7 +4,7 @@ use Rattle.ua_builtin.specs.DateTime.{date_time}
 use Rattle.ua_builtin.specs.declared.date_time.DateTime.{DateTime}
 use Rattle.ua_opening.proofs.BodyLaws.{body_reads_back}
 use Rattle.ua_services.proofs.ResponseLawful.{lawful_response}
-use Rattle.ua_services.specs.Request.{kind_of, request}
+use Rattle.ua_services.specs.Request.{kind_of_request, request}
 use Rattle.ua_services.specs.Response.{response}
 use Rattle.ua_services.specs.declared.request.Request.{Request}
 use Rattle.ua_server.specs.Answer.{answer}
@@ -15,14 +15,14 @@ use Rattle.ua_client.specs.Replies.{IsNoAnswer}
 use Rattle.ua_client.specs.declared.fault.ClientFault.{ClientFault}
 use Rattle.ua_client.specs.declared.fault.ClientFault.TheVariants as fault
 use Rattle.ua_loopback.specs.Faults.{FailsBehind}
-use Rattle.ua_loopback.specs.Replies.{HaveMisanswer, state_behind, turn_state, turns_state}
+use Rattle.ua_loopback.specs.Replies.{HaveMisanswer, state_behind_requests, turn_state, turns_state}
 use Rattle.ua_loopback.specs.Talking.{FailsSession, MisanswersSession, SoFar, state_in}
 use Rattle.ua_loopback.specs.inside.Talking.{HasMisanswer, HaveMisanswers}
 
 -- ---- what is left is sound
 
 sound_behind : (s : State) (moment : DateTime) (ms : List Request) → IsSoundState s → IsTrue (date_time.encodable moment)
-    → IsSoundState (state_behind s moment ms)
+    → IsSoundState (state_behind_requests s moment ms)
 sound_behind s moment [] h dated = h
 sound_behind s moment (m ∷ ms) h dated = sound_behind (answer s moment m).0 moment ms (answer_sound s moment m h dated) dated
 
@@ -39,7 +39,7 @@ sound_turns s moment (t ∷ turns) h dated = sound_turns (turn_state s moment t)
 -- ---- each request has its answer
 
 has_answer : (s : State) (moment : DateTime) (m : Request) → IsSoundState s → IsTrue (date_time.encodable moment) → IsTrue (request.encodable m)
-    → IsNoAnswer (kind_of m) (response.canonical (answer s moment m).1) → ⊥
+    → IsNoAnswer (kind_of_request m) (response.canonical (answer s moment m).1) → ⊥
 has_answer s moment m h dated fits none =
     none (answer s moment m).1 (
       (body_reads_back response lawful_response (answer s moment m).1 (answer_fits s moment m h dated fits)).0,

@@ -36,7 +36,7 @@ use Rattle.ua_client.proofs.Settled.{NonePending}
 use Rattle.ua_loopback.specs.Accepted.{held_behind_calls}
 use Rattle.ua_loopback.specs.Beginning.{Beginning}
 use Rattle.ua_loopback.specs.Replies.{HaveMisanswer}
-use Rattle.ua_loopback.specs.Says.{server_output, times_of_answers}
+use Rattle.ua_loopback.specs.Says.{server_output, answer_times}
 use Rattle.ua_loopback.specs.Together.{AreServing, behind_calls}
 use Rattle.ua_loopback.specs.Turns.{calls_told}
 use Rattle.ua_loopback.proofs.Answering.{AreHeard, answers_told, calls_asked, calls_in_step, hello_stays, issued_stays}
@@ -56,19 +56,19 @@ ToldBehind = (x : ClientChannel) (asks : List Placed) (octets : List ℕ) (told 
 -- ---- what a server says of more
 
 module _ (b : Beginning) (octets : List ℕ) (told : List Told) (s : AtServer) (r : ServerReads b.limits b.channel octets told s) where
-  pub said_there : server_output b octets ≡ output_of b.channel b.first told Going (times_of_answers told b.moment)
+  pub said_there : server_output b octets ≡ output_of b.channel b.first told Going (answer_times told b.moment)
   said_there = said_by_run b octets r.frames [] Going r.run
-      ∙ ap (λ (t : List Told). output_of b.channel b.first t Going (times_of_answers t b.moment)) r.told_is
+      ∙ ap (λ (t : List Told). output_of b.channel b.first t Going (answer_times t b.moment)) r.told_is
 
   -- how far the server is behind these
   abbrev pub behind_told : List Told → Course
-  behind_told more = with_more (state_after b.channel b.first told (times_of_answers told b.moment)) (times_of_answers more b.moment)
+  behind_told more = with_more (state_after b.channel b.first told (answer_times told b.moment)) (answer_times more b.moment)
 
   pub said_more : (later : List ℕ) (more : List Told) (t : AtServer) → ServerReads b.limits b.channel later (told ++ more) t
       → server_output b later ≡ server_output b octets ++ said_of b.channel (behind_told more) more
   said_more later more t q =
       said_by_run b later q.frames [] Going q.run
-      ∙ (ap (λ (k : List Told). output_of b.channel b.first k Going (times_of_answers k b.moment)) q.told_is
+      ∙ (ap (λ (k : List Told). output_of b.channel b.first k Going (answer_times k b.moment)) q.told_is
       ∙ (said_on b told more ∙ ap (λ (o : List ℕ). o ++ said_of b.channel (behind_told more) more) (sym said_there)))
 
 some_bodies : (requests : List Request) → 0 < length requests → 0 < length (bodies_of requests)
@@ -96,10 +96,10 @@ module _ (b : Beginning) (url : Option (List ℕ)) (octets : List ℕ) (told : L
   g = agreement_of b.limits then_at.hello
 
   abbrev before : Course
-  before = state_after b.channel b.first told (times_of_answers told b.moment)
+  before = state_after b.channel b.first told (answer_times told b.moment)
 
   abbrev moments : List DateTime
-  moments = before.moments ++ times_of_answers calls b.moment
+  moments = before.moments ++ answer_times calls b.moment
 
   server_then : ServerReads b.limits b.channel (octets ++ sent_at site requests) (told ++ calls) then_at
   server_then = requests_read b.limits url b.channel octets told s x site c on t.together requests judged
@@ -148,7 +148,7 @@ module _ (b : Beginning) (url : Option (List ℕ)) (octets : List ℕ) (told : L
       ∙ (ap (λ (o : List ℕ). o ++ said_of b.channel (behind_told b octets told s t.together.server_reads calls) calls) (sym t.taken)
       ∙ ap (λ (k : Course). site.octets ++ said_of b.channel k calls) course_is)
 
-  left_then_is : state_after b.channel b.first (told ++ calls) (times_of_answers (told ++ calls) b.moment)
+  left_then_is : state_after b.channel b.first (told ++ calls) (answer_times (told ++ calls) b.moment)
       ≡ course_after b.channel (course before.state before.number moments (Some g)) calls
   left_then_is = left_on b told calls ∙ ap (λ (k : Course). course_after b.channel k calls) course_is
 

@@ -25,8 +25,8 @@ use Rattle.ua_server.specs.declared.step.End.TheVariants as ending
 use Rattle.ua_server.specs.declared.step.Step.{Step}
 use Rattle.ua_server.proofs.SaidInParts.{used_in-append}
 use Rattle.ua_loopback.specs.Beginning.{Beginning}
-use Rattle.ua_loopback.specs.Kept.{Keeps, Serves}
-use Rattle.ua_loopback.specs.Says.{end_by, services_after, server_output, times_of_answers}
+use Rattle.ua_loopback.specs.Kept.{Keeps, HasTakenAll}
+use Rattle.ua_loopback.specs.Says.{end_by, services_after, server_output, answer_times}
 use Rattle.ua_loopback.specs.declared.stage.Stage.{Stage}
 use Rattle.ua_loopback.specs.declared.stage.Stage.TheVariants as stage
 use Rattle.ua_loopback.proofs.Saying.{end_is, left_by_run, rules_by, said_by_run}
@@ -40,12 +40,12 @@ none-used (id ∷ ids) = let rest = none-used ids in omega (arith, rest)
 quiet-used : (told : List Told) (ids : List ℕ) → used_in (told ++ given_up ids) ≡ used_in told
 quiet-used told ids = omega (arith, used_in-append told (given_up ids), none-used ids)
 
-quiet-spent : (told : List Told) (ids : List ℕ) (moment : DateTime) → times_of_answers (told ++ given_up ids) moment ≡ times_of_answers told moment
+quiet-spent : (told : List Told) (ids : List ℕ) (moment : DateTime) → answer_times (told ++ given_up ids) moment ≡ answer_times told moment
 quiet-spent told ids moment = ap (λ (n : ℕ). replicate n moment) (quiet-used told ids)
 
 -- the moments of what was told, and of what is told more
-spent-more : (told : List Told) (quiet : List ℕ) (more : List Told) (moment : DateTime) → times_of_answers told moment ++ times_of_answers more moment
-    ≡ times_of_answers ((told ++ given_up quiet) ++ more) moment
+spent-more : (told : List Told) (quiet : List ℕ) (more : List Told) (moment : DateTime) → answer_times told moment ++ answer_times more moment
+    ≡ answer_times ((told ++ given_up quiet) ++ more) moment
 spent-more told quiet more moment =
     replicate-append-replicate (used_in told) (used_in more) moment
     ∙ ap (λ (n : ℕ). replicate n moment) (ap (λ (n : ℕ). n + used_in more) (sym (quiet-used told quiet)) ∙ sym (used_in-append (told ++ given_up quiet) more))
@@ -64,11 +64,11 @@ module _ (b : Beginning) (x : ServerChannel) (limits_are : limits_of x ≡ b.lim
   told_at : events (rules_by b) fs ≡ told
   told_at = subst (λ (R : Rules Told ℕ). events R fs ≡ told) rules_are is
 
-  said_at : server_output b octets ≡ output_of b.channel b.first told end (times_of_answers told b.moment)
-  said_at = said_by_run b octets fs rest end run_at ∙ ap (λ (t : List Told). output_of b.channel b.first t end (times_of_answers t b.moment)) told_at
+  said_at : server_output b octets ≡ output_of b.channel b.first told end (answer_times told b.moment)
+  said_at = said_by_run b octets fs rest end run_at ∙ ap (λ (t : List Told). output_of b.channel b.first t end (answer_times t b.moment)) told_at
 
-  left_at : services_after b octets ≡ (state_after b.channel b.first told (times_of_answers told b.moment)).state
-  left_at = left_by_run b octets fs rest end run_at ∙ ap (λ (t : List Told). (state_after b.channel b.first t (times_of_answers t b.moment)).state) told_at
+  left_at : services_after b octets ≡ (state_after b.channel b.first told (answer_times told b.moment)).state
+  left_at = left_by_run b octets fs rest end run_at ∙ ap (λ (t : List Told). (state_after b.channel b.first t (answer_times t b.moment)).state) told_at
 
   end_at : end_by b octets ≡ end
   end_at = end_is b octets fs rest end run_at
@@ -87,7 +87,7 @@ module _ (b : Beginning) (old new : Server) (before now : State) (moment : DateT
   abbrev told : List Told
   told = k.serves.told
 
-  said_before : server_output b up ≡ output_of b.channel b.first told Going (times_of_answers told b.moment)
+  said_before : server_output b up ≡ output_of b.channel b.first told Going (answer_times told b.moment)
   said_before =
       said_at b (channel_in old) k.serves.limits_are k.serves.channel_is up k.serves.stands.goes.frames k.serves.stands.goes.rest Going told
       k.serves.stands.goes.stands.run k.serves.stands.goes.told_is
@@ -95,12 +95,12 @@ module _ (b : Beginning) (old new : Server) (before now : State) (moment : DateT
   -- what is kept where all that was told then is this, and this was said of it
   more_said : (all : List Told) (fs : List Frame) (rest : List ℕ) (end : End ℕ) (ms : List DateTime)
       → Run (rules_of (channel_in new)) (up ++ take n piece) fs rest end → events (rules_of (channel_in new)) fs ≡ all
-      → ms ≡ times_of_answers all b.moment → output_of (channel_of (channel_in old)) b.first all end ms ≡ output_of (channel_of (channel_in old)) b.first told
-      Going (times_of_answers told b.moment) ++ out
+      → ms ≡ answer_times all b.moment → output_of (channel_of (channel_in old)) b.first all end ms ≡ output_of (channel_of (channel_in old)) b.first told
+      Going (answer_times told b.moment) ++ out
       → down ++ out ≡ server_output b (up ++ take n piece)
   more_said all fs rest end ms r is moments out_is =
-      let parts : output_of b.channel b.first all end ms ≡ output_of b.channel b.first told Going (times_of_answers told b.moment) ++ out =
-      subst (λ (c : ℕ). output_of c b.first all end ms ≡ output_of c b.first told Going (times_of_answers told b.moment) ++ out) k.serves.channel_is out_is in
+      let parts : output_of b.channel b.first all end ms ≡ output_of b.channel b.first told Going (answer_times told b.moment) ++ out =
+      subst (λ (c : ℕ). output_of c b.first all end ms ≡ output_of c b.first told Going (answer_times told b.moment) ++ out) k.serves.channel_is out_is in
       ap (λ (o : List ℕ). o ++ out) (k.down_is ∙ said_before)
       ∙ (sym parts
       ∙ (ap (λ (m : List DateTime). output_of b.channel b.first all end m) moments
@@ -108,68 +108,68 @@ module _ (b : Beginning) (old new : Server) (before now : State) (moment : DateT
 
   more_left : (all : List Told) (fs : List Frame) (rest : List ℕ) (end : End ℕ) (c : ℕ) (ms : List DateTime)
       → Run (rules_of (channel_in new)) (up ++ take n piece) fs rest end → events (rules_of (channel_in new)) fs ≡ all
-      → ms ≡ times_of_answers all b.moment → c ≡ b.channel → (state_after c b.first all ms).state ≡ now → now ≡ services_after b (up ++ take n piece)
+      → ms ≡ answer_times all b.moment → c ≡ b.channel → (state_after c b.first all ms).state ≡ now → now ≡ services_after b (up ++ take n piece)
   more_left all fs rest end c ms r is moments on state_is =
       sym state_is
       ∙ (ap (λ (m : List DateTime). (state_after c b.first all m).state) moments
-      ∙ (ap (λ (i : ℕ). (state_after i b.first all (times_of_answers all b.moment)).state) on
+      ∙ (ap (λ (i : ℕ). (state_after i b.first all (answer_times all b.moment)).state) on
       ∙ sym (left_at b (channel_in new) limits_are channel_is (up ++ take n piece) fs rest end all r is)))
 
   more_within : read ≤ length (down ++ out)
   more_within = omega (arith, k.within, length-append down out)
 
   -- it goes on
-  goes_keeps : StepGoes (channel_of (channel_in old)) b.moment piece n out (channel_in new) up told b.first (times_of_answers told b.moment) now
+  goes_keeps : StepGoes (channel_of (channel_in old)) b.moment piece n out (channel_in new) up told b.first (answer_times told b.moment) now
       → Keeps b new now moment (up ++ take n piece) (down ++ out) read stage.Going
   goes_keeps g =
       let all : List Told = (told ++ given_up g.quiet) ++ g.more in
-      let moments : times_of_answers told b.moment ++ times_of_answers g.more b.moment ≡ times_of_answers all b.moment =
+      let moments : answer_times told b.moment ++ answer_times g.more b.moment ≡ answer_times all b.moment =
       spent-more told g.quiet g.more b.moment in
-      let stands : ServerStands (channel_in new) (up ++ take n piece) all b.first (times_of_answers all b.moment) now =
+      let stands : ServerStands (channel_in new) (up ++ take n piece) all b.first (answer_times all b.moment) now =
       subst (λ (ms : List DateTime). ServerStands (channel_in new) (up ++ take n piece) all b.first ms now) moments g.stands in
       record {
         moment_is = k.moment_is;
-        down_is = more_said all stands.goes.frames stands.goes.rest Going (times_of_answers told b.moment ++ times_of_answers g.more b.moment)
+        down_is = more_said all stands.goes.frames stands.goes.rest Going (answer_times told b.moment ++ answer_times g.more b.moment)
             stands.goes.stands.run stands.goes.told_is moments g.out_is;
         within = more_within;
         serves = record { told = all; stands = stands; limits_are = limits_are; channel_is = channel_is };
-        leaves = more_left all stands.goes.frames stands.goes.rest Going (channel_of (channel_in new)) (times_of_answers all b.moment) stands.goes.stands.run
+        leaves = more_left all stands.goes.frames stands.goes.rest Going (channel_of (channel_in new)) (answer_times all b.moment) stands.goes.stands.run
             stands.goes.told_is refl channel_is stands.state_is;
         ends = end_at b (channel_in new) limits_are channel_is (up ++ take n piece) stands.goes.frames stands.goes.rest Going all stands.goes.stands.run
             stands.goes.told_is;
       }
 
   -- it closed
-  closes_keeps : StepCloses (channel_of (channel_in old)) piece n out (channel_in new) up told b.first (times_of_answers told b.moment) before now
+  closes_keeps : StepCloses (channel_of (channel_in old)) piece n out (channel_in new) up told b.first (answer_times told b.moment) before now
       → Keeps b new now moment (up ++ take n piece) (down ++ out) read (stage.Ended ending.Closed)
   closes_keeps c =
       let all : List Told = (told ++ given_up c.quiet) ++ Closed ∷ [] in
-      let moments : times_of_answers told b.moment ≡ times_of_answers all b.moment = sym (append-nil (times_of_answers told b.moment))
+      let moments : answer_times told b.moment ≡ answer_times all b.moment = sym (append-nil (answer_times told b.moment))
       ∙ spent-more told c.quiet (Closed ∷ []) b.moment in
       record {
         moment_is = k.moment_is;
-        down_is = more_said all c.closed.frames [] Over (times_of_answers told b.moment) c.closed.run c.closed.told_is moments c.out_is;
+        down_is = more_said all c.closed.frames [] Over (answer_times told b.moment) c.closed.run c.closed.told_is moments c.out_is;
         within = more_within;
         serves = tt;
-        leaves = more_left all c.closed.frames [] Over (channel_of (channel_in old)) (times_of_answers told b.moment) c.closed.run c.closed.told_is moments
+        leaves = more_left all c.closed.frames [] Over (channel_of (channel_in old)) (answer_times told b.moment) c.closed.run c.closed.told_is moments
             k.serves.channel_is c.left_is;
         ends = end_at b (channel_in new) limits_are channel_is (up ++ take n piece) c.closed.frames [] Over all c.closed.run c.closed.told_is;
       }
 
   -- it refused what stands there
   refuses_keeps : (code : StatusCode) → StepRefuses (channel_of (channel_in old)) code.code piece n out (channel_in new) up told b.first
-      (times_of_answers told b.moment) before now
+      (answer_times told b.moment) before now
       → Keeps b new now moment (up ++ take n piece) (down ++ out) read (stage.Ended (ending.Refused code))
   refuses_keeps code c =
       let all : List Told = told ++ given_up c.quiet in
-      let moments : times_of_answers told b.moment ≡ times_of_answers all b.moment = sym (quiet-spent told c.quiet b.moment) in
+      let moments : answer_times told b.moment ≡ answer_times all b.moment = sym (quiet-spent told c.quiet b.moment) in
       record {
         moment_is = k.moment_is;
-        down_is = more_said all c.refused.frames c.refused.rest (Stopped code.code) (times_of_answers told b.moment) c.refused.run c.refused.told_is moments
+        down_is = more_said all c.refused.frames c.refused.rest (Stopped code.code) (answer_times told b.moment) c.refused.run c.refused.told_is moments
             c.out_is;
         within = more_within;
         serves = tt;
-        leaves = more_left all c.refused.frames c.refused.rest (Stopped code.code) (channel_of (channel_in old)) (times_of_answers told b.moment) c.refused.run
+        leaves = more_left all c.refused.frames c.refused.rest (Stopped code.code) (channel_of (channel_in old)) (answer_times told b.moment) c.refused.run
             c.refused.told_is moments k.serves.channel_is c.left_is;
         ends = end_at b (channel_in new) limits_are channel_is (up ++ take n piece) c.refused.frames c.refused.rest (Stopped code.code) all c.refused.run
             c.refused.told_is;
@@ -177,7 +177,7 @@ module _ (b : Beginning) (old new : Server) (before now : State) (moment : DateT
 
   -- it ended
   ends_keeps : (end : Ending) → StepBy (channel_of (channel_in old)) b.moment piece (Some end) n out (channel_in new) up told b.first
-      (times_of_answers told b.moment) before now → Keeps b new now moment (up ++ take n piece) (down ++ out) read (stage.Ended end)
+      (answer_times told b.moment) before now → Keeps b new now moment (up ++ take n piece) (down ++ out) read (stage.Ended end)
   ends_keeps ending.Closed s = closes_keeps s
   ends_keeps (ending.Refused code) s = refuses_keeps code s
   ends_keeps ending.NoClose s = absurd s
@@ -197,7 +197,7 @@ module _ (b : Beginning) (old new : Server) (before now : State) (moment : DateT
       absurd cc
 
   ends_some : (end : Ending) → StepBy (channel_of (channel_in old)) b.moment piece (Some end) n out (channel_in new) up told b.first
-      (times_of_answers told b.moment) before now → n ≡ 0 → ⊥
+      (answer_times told b.moment) before now → n ≡ 0 → ⊥
   ends_some ending.Closed s none = omega (arith, s.some.0, none)
   ends_some (ending.Refused code) s none = not_refused code.code s.refused.frames s.refused.rest none s.refused.run
   ends_some ending.NoClose s none = s
@@ -211,16 +211,16 @@ module _ (b : Beginning) (old new : Server) (before now : State) (moment : DateT
     → StepAnswers (limits_of (channel_in old)) (channel_of (channel_in old)) moment piece (Ok step) (channel_in new) o told first ms before now)
     (same_limits : limits_of (channel_in new) ≡ limits_of (channel_in old)) (same_channel : channel_of (channel_in new) ≡ channel_of (channel_in old)) where
   by : StepBy (channel_of (channel_in old)) b.moment piece step.end step.taken step.out.items (channel_in new) up k.serves.told b.first
-      (times_of_answers k.serves.told b.moment) before now
+      (answer_times k.serves.told b.moment) before now
   by = subst (λ (m : DateTime). StepBy (channel_of (channel_in old)) m piece step.end step.taken step.out.items (channel_in new) up k.serves.told b.first
-      (times_of_answers k.serves.told b.moment) before now) k.moment_is
-      (answers up k.serves.told b.first (times_of_answers k.serves.told b.moment) k.serves.stands)
+      (answer_times k.serves.told b.moment) before now) k.moment_is
+      (answers up k.serves.told b.first (answer_times k.serves.told b.moment) k.serves.stands)
 
   by_end : (end : Option Ending) → step.end ≡ end → StepBy (channel_of (channel_in old)) b.moment piece end step.taken step.out.items
-      (channel_in new) up k.serves.told b.first (times_of_answers k.serves.told b.moment) before now
+      (channel_in new) up k.serves.told b.first (answer_times k.serves.told b.moment) before now
   by_end end is =
       subst (λ (e : Option Ending). StepBy (channel_of (channel_in old)) b.moment piece e step.taken step.out.items (channel_in new) up k.serves.told b.first
-      (times_of_answers k.serves.told b.moment) before now) is by
+      (answer_times k.serves.told b.moment) before now) is by
 
   pub keeps_on : step.end ≡ None → Keeps b new now moment (up ++ take step.taken piece) (down ++ step.out.items) read stage.Going
   keeps_on is = goes_keeps b old new before now moment up down piece read step.taken step.out.items k same_limits same_channel (by_end None is)
@@ -242,7 +242,7 @@ module _ (b : Beginning) (old new : Server) (before now : State) (moment : DateT
   takes_some takes some = taken_by step.end refl takes some
 
 -- what a line keeps whose server took these octets
-pub keeps_where : (b : Beginning) (server : Server) (now : State) (moment : DateTime) (up : List ℕ) → moment ≡ b.moment → Serves b server now up
+pub keeps_where : (b : Beginning) (server : Server) (now : State) (moment : DateTime) (up : List ℕ) → moment ≡ b.moment → HasTakenAll b server now up
     → Keeps b server now moment up (server_output b up) 0 stage.Going
 keeps_where b server now moment up dated s =
     let frames = s.stands.goes.frames in
@@ -254,7 +254,7 @@ keeps_where b server now moment up dated s =
       serves = s;
       leaves =
           sym s.stands.state_is
-          ∙ (ap (λ (c : ℕ). (state_after c b.first s.told (times_of_answers s.told b.moment)).state) s.channel_is
+          ∙ (ap (λ (c : ℕ). (state_after c b.first s.told (answer_times s.told b.moment)).state) s.channel_is
           ∙ sym (left_at b (channel_in server) s.limits_are s.channel_is up frames rest Going s.told s.stands.goes.stands.run s.stands.goes.told_is));
       ends = end_at b (channel_in server) s.limits_are s.channel_is up frames rest Going s.told s.stands.goes.stands.run s.stands.goes.told_is;
     }
@@ -277,11 +277,11 @@ pub said_none : (b : Beginning) → server_output b [] ≡ []
 unfolding received closings
 said_none b =
     said_by_run b [] [] [] Going (run_nil (rules_by b) refl)
-    ∙ (ap (λ (t : List Told). output_of b.channel b.first t Going (times_of_answers t b.moment)) (no_events (rules_by b)) ∙ none_said b.channel b.first)
+    ∙ (ap (λ (t : List Told). output_of b.channel b.first t Going (answer_times t b.moment)) (no_events (rules_by b)) ∙ none_said b.channel b.first)
 
 -- a server that waits for a client took no octet
 pub serves_first : (b : Beginning) (server : Server) → ServerStands (channel_in server) [] [] b.first [] b.first → limits_of (channel_in server) ≡ b.limits
-    → channel_of (channel_in server) ≡ b.channel → Serves b server b.first []
+    → channel_of (channel_in server) ≡ b.channel → HasTakenAll b server b.first []
 serves_first b server stands limits_are channel_is = record { told = []; stands = stands; limits_are = limits_are; channel_is = channel_is }
 
 -- a server that waits for a client
@@ -297,7 +297,7 @@ keeps_first b server limits channel first moment is stands limits_are channel_is
     here : Beginning
     here = record { limits = limits; channel = channel; first = first; moment = moment }
 
-    serves : Serves here server first []
+    serves : HasTakenAll here server first []
     serves = serves_first here server stands limits_are channel_is
 
 -- the same, where what was said more has another name

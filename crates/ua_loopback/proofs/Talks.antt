@@ -18,7 +18,7 @@ use Rattle.ua_services.specs.declared.request.Request.{Request}
 use Rattle.ua_client.specs.Calls.{AnsweredAll, BreaksAt, BrokenAll, Rounds, all_of, refusal_at}
 use Rattle.ua_client.specs.Calls.Rounds.{NoRound, OneRound}
 use Rattle.ua_client.specs.Carried.{Carries}
-use Rattle.ua_client.specs.Hearing.{MovesConnection, channel_of, untaken_of}
+use Rattle.ua_client.specs.Hearing.{MovesConnection, channel_of_connection, untaken_of}
 use Rattle.ua_client.specs.Renewing.{IsRenewed, RenewsAt, refused_by, renewal_at, renewal_refusal}
 use Rattle.ua_client.specs.Sent.{bodies_of, group_reasons}
 use Rattle.ua_client.specs.ClientPlace.{ClientPlace, StandsAt, id_at}
@@ -27,9 +27,9 @@ use Rattle.ua_client.specs.declared.fault.ClientFault.{ClientFault}
 use Rattle.ua_client.specs.declared.fault.ClientFault.TheVariants as fault
 use Rattle.ua_client.specs.declared.reply.Reply.{Reply}
 use Rattle.ua_client.proofs.Settled.{NonePending}
-use Rattle.ua_loopback.specs.Accepted.{IsTurnFault, acknowledged, held_behind_calls, turn_reasons}
+use Rattle.ua_loopback.specs.Accepted.{IsTurnFault, acknowledged, held_behind_calls, turn_reasons_under}
 use Rattle.ua_loopback.specs.Beginning.{Beginning}
-use Rattle.ua_loopback.specs.Replies.{lane_back, turn_replies, turn_state}
+use Rattle.ua_loopback.specs.Replies.{lane_back_by_token, turn_replies, turn_state}
 use Rattle.ua_loopback.specs.Says.{server_output, state_told}
 use Rattle.ua_loopback.specs.Sends.{turn_octets}
 use Rattle.ua_loopback.specs.Turns.{calls_told}
@@ -87,7 +87,7 @@ talking_as b limits url octets others told more token k id n held h site x now p
 
 -- a group that is refused for such a fault was not asked
 pub breaks_refused : (group : List Request) (s : ClientPlace) (new : Connection) (sent taken : List ℕ) (f : ClientFault) → IsTurnFault f
-    → BreaksAt group s new sent taken f → (sent ≡ []) × (taken ≡ []) × StandsAt (channel_of new) s × (refusal_at s group ≡ Some f)
+    → BreaksAt group s new sent taken f → (sent ≡ []) × (taken ≡ []) × StandsAt (channel_of_connection new) s × (refusal_at s group ≡ Some f)
 breaks_refused group s new sent taken fault.NotWritable h k = k
 breaks_refused group s new sent taken fault.Exhausted h k = k
 breaks_refused group s new sent taken fault.TooLarge h k = k
@@ -124,11 +124,11 @@ renewal_refused s moment new sent taken fault.Closed h k e = absurd h
 module _ (b : Beginning) (limits : Limits) (url : Option (List ℕ)) (octets : List ℕ) (told : List Told) (token id held : ℕ) (site : ClientPlace)
     (x : Connection) (before : Option Traffic) (t : AreTalking b limits url octets told token id held site x before)
     (y : Connection) (after : Option Traffic) (sent : List ℕ) (moves : MovesConnection x y sent before after)
-    (same : SameClient (channel_of x) (channel_of y)) where
+    (same : SameClient (channel_of_connection x) (channel_of_connection y)) where
   abbrev a : Ack
   a = acknowledged b.limits limits url
 
-  limits_then : client_limits (channel_of y) ≡ limits
+  limits_then : client_limits (channel_of_connection y) ≡ limits
   limits_then = sym same.limits ∙ t.served.limits_are
 
   -- at a site where it took what it then took
@@ -143,7 +143,7 @@ module _ (b : Beginning) (limits : Limits) (url : Option (List ℕ)) (octets : L
     front_then : Extends behind.octets (server_output b (octets ++ sent))
     front_then = fronts b after (octets ++ sent) (t.got ++ moves.got) behind.octets (untaken_of y) line_then got_then
 
-    talking_then : (more : List Told) (k n h : ℕ) → IsServed b limits url (octets ++ sent) (told ++ more) k n h behind (channel_of y)
+    talking_then : (more : List Told) (k n h : ℕ) → IsServed b limits url (octets ++ sent) (told ++ more) k n h behind (channel_of_connection y)
         → AreTalking b limits url (octets ++ sent) (told ++ more) k n h behind y after
     talking_then more k n h served = record { got = t.got ++ moves.got; line = line_then; got_is = got_then; served = served }
 
@@ -152,7 +152,7 @@ module _ (b : Beginning) (limits : Limits) (url : Option (List ℕ)) (octets : L
 
   -- groups of requests are answered, behind which nothing more is sent or taken
   pub asked_behind : NonePending → {groups : List (List Request)} {sent_there taken_there : List ℕ} {replies : List Reply} (behind : ClientPlace)
-      → Rounds (channel_of y) site groups behind sent_there taken_there replies → AreSome groups
+      → Rounds (channel_of_connection y) site groups behind sent_there taken_there replies → AreSome groups
       → sent ≡ sent_there → moves.taken ≡ taken_there → Behind b limits url octets told token id held site.number sent replies (all_of groups) behind
   asked_behind law {groups = groups} {sent_there = sent_there} {replies = replies} behind rounds some sent_is taken_is =
       let front : Extends behind.octets (server_output b (octets ++ sent)) =
@@ -160,10 +160,10 @@ module _ (b : Beginning) (limits : Limits) (url : Option (List ℕ)) (octets : L
       let said : Extends (server_output b (octets ++ sent_there)) (server_output b (octets ++ sent)) =
       subst (λ (o : List ℕ). Extends (server_output b (octets ++ o)) (server_output b (octets ++ sent))) sent_is (whole (server_output b (octets ++ sent))) in
       subst (λ (o : List ℕ). Behind b limits url octets told token id held site.number o replies (all_of groups) behind) (sym sent_is)
-      (rounds_served b limits url octets told token id held law (channel_of x) t.served limits_then rounds some (server_output b (octets ++ sent)) front said)
+      (rounds_served b limits url octets told token id held law (channel_of_connection x) t.served limits_then rounds some (server_output b (octets ++ sent)) front said)
 
   -- where requests are answered
-  pub answered_behind : NonePending → (requests : List Request) (replies : List Reply) (q : AnsweredAll requests site (channel_of y) sent moves.taken replies)
+  pub answered_behind : NonePending → (requests : List Request) (replies : List Reply) (q : AnsweredAll requests site (channel_of_connection y) sent moves.taken replies)
       → Behind b limits url octets told token id held site.number sent replies requests q.behind
   answered_behind law requests replies q =
       subst (λ (ms : List Request). Behind b limits url octets told token id held site.number sent replies ms q.behind) (sym q.parts)
@@ -171,13 +171,13 @@ module _ (b : Beginning) (limits : Limits) (url : Option (List ℕ)) (octets : L
 
   -- or the first of them, behind which the next is refused
   module _ (law : NonePending) (requests : List Request) (f : ClientFault) (is : IsTurnFault f) (q : BrokenAll requests site y sent moves.taken f) where
-    none : (q.sent_then ≡ []) × (q.taken_then ≡ []) × StandsAt (channel_of y) q.behind × (refusal_at q.behind q.group ≡ Some f)
+    none : (q.sent_then ≡ []) × (q.taken_then ≡ []) × StandsAt (channel_of_connection y) q.behind × (refusal_at q.behind q.group ≡ Some f)
     none = breaks_refused q.group q.behind y q.sent_then q.taken_then f is q.breaks
 
     taken_is : moves.taken ≡ q.taken_before
     taken_is = q.taken_parts ∙ (ap (λ (o : List ℕ). q.taken_before ++ o) none.1 ∙ append-nil q.taken_before)
 
-    pub refused_at : StandsAt (channel_of y) q.behind
+    pub refused_at : StandsAt (channel_of_connection y) q.behind
     refused_at = none.2
 
     pub refused_octets : q.behind.octets ≡ site.octets ++ moves.taken
@@ -189,7 +189,7 @@ module _ (b : Beginning) (limits : Limits) (url : Option (List ℕ)) (octets : L
         (q.sent_parts ∙ (ap (λ (o : List ℕ). q.sent_before ++ o) none.0 ∙ append-nil q.sent_before)) taken_is
 
     -- for the first reason against them
-    pub asked_refused : first_reason (turn_reasons a held id (Some requests)) ≡ Some f
+    pub asked_refused : first_reason (turn_reasons_under a held id (Some requests)) ≡ Some f
     asked_refused =
         let there = first_behind in
         let all : List Request = all_of q.groups in
@@ -200,7 +200,7 @@ module _ (b : Beginning) (limits : Limits) (url : Option (List ℕ)) (octets : L
         (held_behind_calls held (length all)) q.behind there.channel there.served q.group) ∙ none.3))
 
   -- behind requests that are answered
-  module _ (requests : List Request) (replies : List Reply) (behind : ClientPlace) (at : StandsAt (channel_of y) behind)
+  module _ (requests : List Request) (replies : List Reply) (behind : ClientPlace) (at : StandsAt (channel_of_connection y) behind)
       (octets_are : behind.octets ≡ site.octets ++ moves.taken)
       (there : Behind b limits url octets told token id held site.number sent replies requests behind) where
     pub talks_asked : AreTalking b limits url (octets ++ sent) (told ++ calls_told token id (bodies_of requests)) token (id + length requests)
@@ -208,10 +208,10 @@ module _ (b : Beginning) (limits : Limits) (url : Option (List ℕ)) (octets : L
     talks_asked =
         talking_then behind octets_are (calls_told token id (bodies_of requests)) token (id + length requests) (held_behind_calls held (length requests))
         (served_by b limits url (octets ++ sent) (told ++ calls_told token id (bodies_of requests)) token (id + length requests)
-        (held_behind_calls held (length requests)) behind there.channel (channel_of y) at limits_then there.served)
+        (held_behind_calls held (length requests)) behind there.channel (channel_of_connection y) at limits_then there.served)
 
     -- the replies
-    pub asked_replied : map (λ (r : Reply). Some r) replies ≡ turn_replies (lane_back b limits url token) (state_told b told) b.moment (Some requests)
+    pub asked_replied : map (λ (r : Reply). Some r) replies ≡ turn_replies (lane_back_by_token b limits url token) (state_told b told) b.moment (Some requests)
     asked_replied = there.replies_are
 
     -- and the state that they leave
@@ -220,32 +220,32 @@ module _ (b : Beginning) (limits : Limits) (url : Option (List ℕ)) (octets : L
 
   -- the token is renewed
   module _ (moment : DateTime) where
-    judged_here : renewal_refusal site ≡ first_reason (turn_reasons a held id None)
-    judged_here = renewal_refused_there b limits url octets told token id held site (channel_of x) t.served
+    judged_here : renewal_refusal site ≡ first_reason (turn_reasons_under a held id None)
+    judged_here = renewal_refused_there b limits url octets told token id held site (channel_of_connection x) t.served
 
     pub talks_renewed : IsTrue (date_time.encodable moment) → IsTrue (date_time.encodable b.moment) → renewal_refusal site ≡ None
-        → sent ≡ renewal_at site moment → (behind : ClientPlace) → IsRenewed (channel_of y) site behind moves.taken
+        → sent ≡ renewal_at site moment → (behind : ClientPlace) → IsRenewed (channel_of_connection y) site behind moves.taken
         → AreTalking b limits url (octets ++ sent) (told ++ Opened id 0 (token + 1) 3600000 ∷ []) (token + 1) (id + 1) (held + 1) behind y after
     talks_renewed dated answered judged sent_is behind r =
         let front : Extends behind.octets (server_output b (octets ++ renewal_at site moment)) =
         subst (λ (o : List ℕ). Extends behind.octets (server_output b (octets ++ o))) sent_is (front_then behind r.octets) in
         talking_then behind r.octets (Opened id 0 (token + 1) 3600000 ∷ []) (token + 1) (id + 1) (held + 1)
         (subst (λ (o : List ℕ). IsServed b limits url (octets ++ o) (told ++ Opened id 0 (token + 1) 3600000 ∷ []) (token + 1) (id + 1) (held + 1) behind
-        (channel_of y)) (sym sent_is)
-        (renewal_served b limits url octets told token id held site (channel_of x) t.served (channel_of y) behind moves.taken limits_then
+        (channel_of_connection y)) (sym sent_is)
+        (renewal_served b limits url octets told token id held site (channel_of_connection x) t.served (channel_of_connection y) behind moves.taken limits_then
         (server_output b (octets ++ renewal_at site moment)) front moment dated answered judged r
         (whole (server_output b (octets ++ renewal_at site moment)))))
 
     -- what is sent of that
     pub renewal_sent : renewal_at site moment ≡ turn_octets (call_lane a b.channel token) site.number id moment None
     renewal_sent =
-        ap (λ (l : Option Lane). renewal_by l site.number (id_at site) moment) (lane_there b limits url octets told token id held site (channel_of x) t.served)
+        ap (λ (l : Option Lane). renewal_by l site.number (id_at site) moment) (lane_there b limits url octets told token id held site (channel_of_connection x) t.served)
         ∙ (ap (λ (n : ℕ). renewal_by (Some (call_lane a b.channel token)) site.number n moment) t.served.id_is
         ∙ sym (append-nil (renewal_by (Some (call_lane a b.channel token)) site.number id moment)))
 
-    pub renewed_judged : renewal_refusal site ≡ None → first_reason (turn_reasons a held id None) ≡ None
+    pub renewed_judged : renewal_refusal site ≡ None → first_reason (turn_reasons_under a held id None) ≡ None
     renewed_judged judged = sym judged_here ∙ judged
 
-    pub renewing_refused : (f : ClientFault) → IsTurnFault f → RenewsAt {A = Unit {0}} site moment (channel_of y) sent moves.taken (Err f)
-        → refused_by {A = Unit {0}} (Err f) ≡ renewal_refusal site → first_reason (turn_reasons a held id None) ≡ Some f
-    renewing_refused f is k e = sym judged_here ∙ renewal_refused site moment (channel_of y) sent moves.taken f is k e
+    pub renewing_refused : (f : ClientFault) → IsTurnFault f → RenewsAt {A = Unit {0}} site moment (channel_of_connection y) sent moves.taken (Err f)
+        → refused_by {A = Unit {0}} (Err f) ≡ renewal_refusal site → first_reason (turn_reasons_under a held id None) ≡ Some f
+    renewing_refused f is k e = sym judged_here ∙ renewal_refused site moment (channel_of_connection y) sent moves.taken f is k e

@@ -43,32 +43,32 @@ tokens_held held (t ∷ turns) = tokens_held (held_behind held t) turns
 -- this is the next RequestId, in the order in which it is judged. Of requests: what is against the
 -- first of them, then what is against the next. Of a renewal: 16 tokens are held; all RequestIds
 -- were used
-abbrev pub turn_reasons : Ack → ℕ → ℕ → Option (List Request) → List (ClientFault × Bool)
-turn_reasons a held id (Some requests) = group_reasons (Some a) id requests
-turn_reasons a held id None = map (renamed_reason by_channel) (reasons_of_token held id)
+abbrev pub turn_reasons_under : Ack → ℕ → ℕ → Option (List Request) → List (ClientFault × Bool)
+turn_reasons_under a held id (Some requests) = group_reasons (Some a) id requests
+turn_reasons_under a held id None = map (renamed_reason by_channel) (reasons_of_token held id)
 
 -- the first of these reasons against an operation after others, if there is one; the token and the
 -- RequestId of the opening were used before
-abbrev pub turn_refusal : Ack → List (Option (List Request)) → Option (List Request) → Option ClientFault
-turn_refusal a before turn = first_reason (turn_reasons a (tokens_held 1 before) (ids_behind 2 before) turn)
+abbrev pub turn_refusal_under : Ack → List (Option (List Request)) → Option (List Request) → Option ClientFault
+turn_refusal_under a before turn = first_reason (turn_reasons_under a (tokens_held 1 before) (ids_behind 2 before) turn)
 
 -- an operation after these is accepted
-abbrev pub IsAccepted : Ack → List (Option (List Request)) → Option (List Request) → Type 0
-IsAccepted a before turn = turn_refusal a before turn ≡ None
+abbrev pub IsAcceptedUnder : Ack → List (Option (List Request)) → Option (List Request) → Type 0
+IsAcceptedUnder a before turn = turn_refusal_under a before turn ≡ None
 
 -- each of the operations is accepted, after those before it
-abbrev pub AreAccepted : Ack → List (Option (List Request)) → Type 0
-AreAccepted a turns = AllAfter (IsAccepted a) turns
+abbrev pub AreAcceptedUnder : Ack → List (Option (List Request)) → Type 0
+AreAcceptedUnder a turns = AllAfter (IsAcceptedUnder a) turns
 
 -- the first of the operations that is not accepted has this place, and this is why
-pub record FirstRefused (a : Ack) (turns : List (Option (List Request))) (place : ℕ) (reason : ClientFault) : Type 0 where
+pub record FirstRefusedUnder (a : Ack) (turns : List (Option (List Request))) (place : ℕ) (reason : ClientFault) : Type 0 where
   pub before : List (Option (List Request))
   pub turn : Option (List Request)
   pub behind : List (Option (List Request))
   pub parts : turns ≡ before ++ turn ∷ behind
   pub place_is : length before ≡ place
-  pub accepted : AreAccepted a before
-  pub refused : turn_refusal a before turn ≡ Some reason
+  pub accepted : AreAcceptedUnder a before
+  pub refused : turn_refusal_under a before turn ≡ Some reason
 
 -- a fault that is a reason against an operation
 abbrev pub IsTurnFault : ClientFault → Type 0

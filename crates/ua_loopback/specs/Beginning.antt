@@ -14,8 +14,8 @@ pub record Beginning : Type 0 where
   pub moment : DateTime
 
 -- the least limits
-abbrev pub least : Limits
-least = record {
+abbrev pub least_server_limits : Limits
+least_server_limits = record {
   receive_buffer_size = 8192;
   send_buffer_size = 8192;
   max_message_size = 1;
@@ -30,7 +30,7 @@ least = record {
 -- a server with nothing to serve, which is at the end of no transport
 abbrev pub no_server : Beginning
 no_server = record {
-  limits = least;
+  limits = least_server_limits;
   channel = 0;
   first = fresh [] (record { url = None; application_uri = None; name = None; message_limit = 0 });
   moment = record { ticks = pos 0 };

@@ -12,7 +12,7 @@ use Rattle.ua_client.specs.declared.reply.Reply.{Reply}
 use Rattle.ua_loopback.specs.Accepted.{acknowledged}
 use Rattle.ua_loopback.specs.Beginning.{Beginning}
 use Rattle.ua_loopback.specs.Course.{opening_octets}
-use Rattle.ua_loopback.specs.Replies.{turns_replies, turns_state}
+use Rattle.ua_loopback.specs.Replies.{replies_to_turns, turns_state}
 use Rattle.ua_loopback.specs.Says.{end_by, services_after, server_output}
 use Rattle.ua_loopback.specs.Sends.{turns_octets}
 use Rattle.ua_loopback.specs.declared.stage.Stage.{Stage}
@@ -85,5 +85,5 @@ pub record BehindRefused (b : Beginning) (limits : Limits) (url : Option (List �
   pub done : List (Option (List Request))
   pub done_is : DoneBefore turns place done
   pub sent : up ≡ opening_octets limits url moment ++ turns_octets (acknowledged b.limits limits url) b.channel moment 1 2 2 done
-  pub replied : map (λ (r : Reply). Some r) replies ≡ turns_replies b limits url b.first 1 done
+  pub replied : map (λ (r : Reply). Some r) replies ≡ replies_to_turns b limits url b.first 1 done
   pub state : services_after b up ≡ turns_state b.first b.moment done

@@ -11,7 +11,7 @@ use Rattle.ua_server.specs.Stepping.{ServerStands}
 use Rattle.ua_server.specs.declared.server.Server.{Server}
 use Rattle.ua_server.specs.declared.step.End.TheVariants as ending
 use Rattle.ua_loopback.specs.Beginning.{Beginning}
-use Rattle.ua_loopback.specs.Says.{end_by, services_after, server_output, times_of_answers}
+use Rattle.ua_loopback.specs.Says.{end_by, services_after, server_output, answer_times}
 use Rattle.ua_loopback.specs.declared.stage.Stage.{Stage}
 use Rattle.ua_loopback.specs.declared.stage.Stage.TheVariants.{Going, Ended, Broken}
 
@@ -38,21 +38,21 @@ IsOver Broken = Unit {0}
 
 -- the progress of the connection before a write that fails, and after it: it was over, and stays
 -- unchanged; or it is broken from then on
-abbrev pub StopsWriting : Stage → Stage → Type 0
-StopsWriting Going new = new ≡ Broken
-StopsWriting (Ended end) new = new ≡ Ended end
-StopsWriting Broken new = new ≡ Broken
+abbrev pub BreaksAtWrite : Stage → Stage → Type 0
+BreaksAtWrite Going new = new ≡ Broken
+BreaksAtWrite (Ended end) new = new ≡ Ended end
+BreaksAtWrite Broken new = new ≡ Broken
 
 -- the server took all that was written
-pub record Serves (b : Beginning) (server : Server) (now : State) (up : List ℕ) : Type 0 where
+pub record HasTakenAll (b : Beginning) (server : Server) (now : State) (up : List ℕ) : Type 0 where
   pub told : List Told
-  pub stands : ServerStands (channel_in server) up told b.first (times_of_answers told b.moment) now
+  pub stands : ServerStands (channel_in server) up told b.first (answer_times told b.moment) now
   pub limits_are : limits_of (channel_in server) ≡ b.limits
   pub channel_is : channel_of (channel_in server) ≡ b.channel
 
 -- the state of the server: that after all that was written while the connection goes on
 abbrev pub ServesAt : Stage → Beginning → Server → State → List ℕ → Type 0
-ServesAt Going b server now up = Serves b server now up
+ServesAt Going b server now up = HasTakenAll b server now up
 ServesAt (Ended end) b server now up = Unit {0}
 ServesAt Broken b server now up = Unit {0}
 

@@ -9,7 +9,7 @@ use Rattle.ua_chunk.specs.declared.fault.CutFault.{CutFault}
 use Rattle.ua_chunk.specs.declared.lane.Lane.{Lane}
 use Rattle.ua_channel.specs.Agreement.{agreement_of, lane_of}
 use Rattle.ua_channel.specs.ClientSends.{hello_to}
-use Rattle.ua_services.specs.Request.{kind_of, request}
+use Rattle.ua_services.specs.Request.{kind_of_request, request}
 use Rattle.ua_services.specs.Response.{response, response_read}
 use Rattle.ua_services.specs.declared.fault.ResponseFault.{ResponseFault}
 use Rattle.ua_services.specs.declared.request.Request.{Request}
@@ -20,7 +20,7 @@ use Rattle.ua_client.specs.Replies.{IsNoAnswer}
 use Rattle.ua_client.specs.declared.reply.Reply.{Reply}
 use Rattle.ua_client.specs.declared.reply.Reply.TheVariants as reply
 use Rattle.ua_loopback.specs.Beginning.{Beginning}
-use Rattle.ua_loopback.specs.Turns.{token_behind}
+use Rattle.ua_loopback.specs.Turns.{token_behind_turn}
 
 -- the reply that bytes are decoded as, if they are a response
 abbrev pub reply_read : Result Response ResponseFault → Option Reply
@@ -34,15 +34,15 @@ reply_unless None body = reply_read (response_read body)
 reply_unless (Some fault) body = Some (reply.Aborted (of_code 0x80B9_0000))
 
 -- the state that requests leave
-abbrev pub state_behind : State → DateTime → List Request → State
-state_behind s moment [] = s
-state_behind s moment (m ∷ ms) = state_behind (answer s moment m).0 moment ms
+abbrev pub state_behind_requests : State → DateTime → List Request → State
+state_behind_requests s moment [] = s
+state_behind_requests s moment (m ∷ ms) = state_behind_requests (answer s moment m).0 moment ms
 
 -- the answer to one of these requests, each in the state that those before it left, is no response
 -- that answers it, though it can be encoded
 abbrev pub HaveMisanswer : State → DateTime → List Request → Type 0
 HaveMisanswer s moment [] = ⊥
-HaveMisanswer s moment (m ∷ ms) = (IsTrue (request.encodable m) × IsNoAnswer (kind_of m) (response.canonical (answer s moment m).1))
+HaveMisanswer s moment (m ∷ ms) = (IsTrue (request.encodable m) × IsNoAnswer (kind_of_request m) (response.canonical (answer s moment m).1))
     ⊎ HaveMisanswer (answer s moment m).0 moment ms
 
 -- the replies to requests, that go back in this lane
@@ -59,21 +59,21 @@ turn_replies back s moment None = []
 
 -- the state that it leaves
 abbrev pub turn_state : State → DateTime → Option (List Request) → State
-turn_state s moment (Some requests) = state_behind s moment requests
+turn_state s moment (Some requests) = state_behind_requests s moment requests
 turn_state s moment None = s
 
 -- the lane of the replies of a server that began in this way, to a client with these limits for
 -- this URL: under the token of their requests
-abbrev pub lane_back : Beginning → Limits → Option (List ℕ) → ℕ → Lane
-lane_back b client url token = lane_of b.channel token (agreement_of b.limits (hello_to client url))
+abbrev pub lane_back_by_token : Beginning → Limits → Option (List ℕ) → ℕ → Lane
+lane_back_by_token b client url token = lane_of b.channel token (agreement_of b.limits (hello_to client url))
 
 -- of operations in order, at a server that began in this way, if this is the newest token: each
 -- reply is sent under the token of its request
-abbrev pub turns_replies : Beginning → Limits → Option (List ℕ) → State → ℕ → List (Option (List Request)) → List (Option Reply)
-turns_replies b client url s token [] = []
-turns_replies b client url s token (t ∷ turns) =
-    turn_replies (lane_back b client url token) s b.moment t
-    ++ turns_replies b client url (turn_state s b.moment t) (token_behind token t) turns
+abbrev pub replies_to_turns : Beginning → Limits → Option (List ℕ) → State → ℕ → List (Option (List Request)) → List (Option Reply)
+replies_to_turns b client url s token [] = []
+replies_to_turns b client url s token (t ∷ turns) =
+    turn_replies (lane_back_by_token b client url token) s b.moment t
+    ++ replies_to_turns b client url (turn_state s b.moment t) (token_behind_turn token t) turns
 
 -- the state that they leave
 abbrev pub turns_state : State → DateTime → List (Option (List Request)) → State

@@ -24,17 +24,17 @@ abbrev pub end_by : Beginning → List ℕ → End ℕ
 end_by b octets = (reading_at_server b octets).end
 
 -- its one time, for each answer to what is told
-abbrev pub times_of_answers : List Told → DateTime → List DateTime
-times_of_answers told moment = replicate (used_in told) moment
+abbrev pub answer_times : List Told → DateTime → List DateTime
+answer_times told moment = replicate (used_in told) moment
 
 -- all that it sends for bytes
 unfoldable pub server_output : Beginning → List ℕ → List ℕ
-server_output b octets = output_of b.channel b.first (events_at_server b octets) (end_by b octets) (times_of_answers (events_at_server b octets) b.moment)
+server_output b octets = output_of b.channel b.first (events_at_server b octets) (end_by b octets) (answer_times (events_at_server b octets) b.moment)
 
 -- the state in which bytes leave its services
 unfoldable pub services_after : Beginning → List ℕ → State
-services_after b octets = (state_after b.channel b.first (events_at_server b octets) (times_of_answers (events_at_server b octets) b.moment)).state
+services_after b octets = (state_after b.channel b.first (events_at_server b octets) (answer_times (events_at_server b octets) b.moment)).state
 
 -- the state in which what is told leaves its services
 abbrev pub state_told : Beginning → List Told → State
-state_told b told = (state_after b.channel b.first told (times_of_answers told b.moment)).state
+state_told b told = (state_after b.channel b.first told (answer_times told b.moment)).state

@@ -13,7 +13,7 @@ use Rattle.ua_client.specs.Client.{closing_by}
 use Rattle.ua_client.specs.Sent.{bodies_of, numbers_behind}
 use Rattle.ua_loopback.specs.Accepted.{acknowledged}
 use Rattle.ua_loopback.specs.Course.{opening_octets}
-use Rattle.ua_loopback.specs.Turns.{id_behind, ids_behind, token_behind, tokens_behind}
+use Rattle.ua_loopback.specs.Turns.{id_behind_turn, ids_behind, token_behind_turn, tokens_behind}
 
 -- ---- one operation, where calls go in this lane, with this SequenceNumber and this RequestId next
 
@@ -37,12 +37,12 @@ abbrev pub turns_octets : Ack → ℕ → DateTime → ℕ → ℕ → ℕ → L
 turns_octets a channel moment token number id [] = []
 turns_octets a channel moment token number id (t ∷ turns) =
     turn_octets (call_lane a channel token) number id moment t
-    ++ turns_octets a channel moment (token_behind token t) (turn_number (call_lane a channel token) number t) (id_behind id t) turns
+    ++ turns_octets a channel moment (token_behind_turn token t) (turn_number (call_lane a channel token) number t) (id_behind_turn id t) turns
 
 -- the SequenceNumber after them
 abbrev pub turns_number : Ack → ℕ → ℕ → ℕ → List (Option (List Request)) → ℕ
 turns_number a channel token number [] = number
-turns_number a channel token number (t ∷ turns) = turns_number a channel (token_behind token t) (turn_number (call_lane a channel token) number t) turns
+turns_number a channel token number (t ∷ turns) = turns_number a channel (token_behind_turn token t) (turn_number (call_lane a channel token) number t) turns
 
 -- ---- all of it
 

@@ -18,7 +18,7 @@ use Rattle.ua_services.specs.declared.request.Request.{Request}
 use Rattle.ua_services.specs.SessionRequests.{activate_session_as, create_session}
 use Rattle.ua_server.specs.State.{State}
 use Rattle.ua_client.specs.Client.{IsReady, connection_of}
-use Rattle.ua_client.specs.Hearing.{channel_of, untaken_of}
+use Rattle.ua_client.specs.Hearing.{channel_of_connection, untaken_of}
 use Rattle.ua_client.specs.Renewing.{IsSettled}
 use Rattle.ua_client.specs.Session.{reply_failure}
 use Rattle.ua_client.specs.ClientPlace.{ClientPlace, id_at}
@@ -27,11 +27,11 @@ use Rattle.ua_client.specs.declared.connection.Connection.{Connection}
 use Rattle.ua_client.specs.declared.fault.ClientFault.{ClientFault}
 use Rattle.ua_client.specs.declared.fault.ClientFault.TheVariants as fault
 use Rattle.ua_client.specs.declared.reply.Reply.{Reply}
-use Rattle.ua_loopback.specs.Accepted.{AreAccepted, acknowledged, tokens_held}
+use Rattle.ua_loopback.specs.Accepted.{AreAcceptedUnder, acknowledged, tokens_held}
 use Rattle.ua_loopback.specs.Beginning.{Beginning}
 use Rattle.ua_loopback.specs.Course.{opening_octets}
 use Rattle.ua_loopback.specs.Faults.{FailsBehind, StopsAfter}
-use Rattle.ua_loopback.specs.Replies.{HaveMisanswer, lane_back, requests_replies, turns_state}
+use Rattle.ua_loopback.specs.Replies.{HaveMisanswer, lane_back_by_token, requests_replies, turns_state}
 use Rattle.ua_loopback.specs.Says.{server_output, state_told}
 use Rattle.ua_loopback.specs.Sends.{closing_behind, turn_octets, turns_number}
 use Rattle.ua_loopback.specs.Together.{AreServing}
@@ -87,8 +87,8 @@ abbrev pub acked_in : SoFar → Ack
 acked_in t = acknowledged t.server.limits t.limits t.url
 
 -- what the server was told of the opening and of the operations
-abbrev pub told_in : SoFar → List Told
-told_in t = opening_told t.server.limits t.limits t.url ++ turns_told 1 2 t.turns
+abbrev pub told_so_far : SoFar → List Told
+told_so_far t = opening_told t.server.limits t.limits t.url ++ turns_told 1 2 t.turns
 
 -- the newest token, and the next RequestId
 abbrev pub newest_in : SoFar → ℕ
@@ -103,14 +103,14 @@ state_in t = turns_state t.server.first t.server.moment t.turns
 
 -- the bytes of one more operation, made at this time: its requests under the newest token and the
 -- next RequestIds, or the OPN of a renewal
-abbrev pub octets_of : SoFar → DateTime → Option (List Request) → List ℕ
-octets_of t moment turn = turn_octets (call_lane (acked_in t) t.server.channel (newest_in t)) (turns_number (acked_in t) t.server.channel 1 2 t.turns)
+abbrev pub octets_of_turn : SoFar → DateTime → Option (List Request) → List ℕ
+octets_of_turn t moment turn = turn_octets (call_lane (acked_in t) t.server.channel (newest_in t)) (turns_number (acked_in t) t.server.channel 1 2 t.turns)
     (id_in t) moment turn
 
 -- with one more operation, made at this time
 abbrev pub with_turn : SoFar → DateTime → Option (List Request) → SoFar
 with_turn t moment turn =
-    record { server = t.server; limits = t.limits; url = t.url; turns = t.turns ++ turn ∷ []; octets = t.octets ++ octets_of t moment turn }
+    record { server = t.server; limits = t.limits; url = t.url; turns = t.turns ++ turn ∷ []; octets = t.octets ++ octets_of_turn t moment turn }
 
 -- the requests that begin a session to which the server gave this token, sent at this time by the
 -- token policy with this PolicyId: the RequestHandle of each is its RequestId (OPC 10000-4, 5.7.2
@@ -129,7 +129,7 @@ pub record RefusesSession (t : SoFar) (policy_id : Option (List ℕ)) (moment : 
   pub are : AreSession t policy_id moment requests
   pub before : List Reply
   pub last : Reply
-  pub replied : map (λ (r : Reply). Some r) (before ++ last ∷ []) ≡ requests_replies (lane_back t.server t.limits t.url (newest_in t))
+  pub replied : map (λ (r : Reply). Some r) (before ++ last ∷ []) ≡ requests_replies (lane_back_by_token t.server t.limits t.url (newest_in t))
       (state_in t) t.server.moment requests
   pub failed : reply_failure last ≡ Some code
 
@@ -171,16 +171,16 @@ pub record AreTalking (b : Beginning) (limits : Limits) (url : Option (List ℕ)
   pub got : List ℕ
   pub line : IsLineTo b octets got now
   pub got_is : got ≡ site.octets ++ untaken_of x
-  pub served : IsServed b limits url octets told token id held site (channel_of x)
+  pub served : IsServed b limits url octets told token id held site (channel_of_connection x)
 
 -- the same after the operations of a talk, each of which was accepted
 pub record TalksAt (t : SoFar) (site : ClientPlace) (x : Connection) (now : Option Traffic) : Type 0 where
-  pub url_is : url_of (channel_of x) ≡ t.url
+  pub url_is : url_of (channel_of_connection x) ≡ t.url
   pub dated : IsTrue (date_time.encodable t.server.moment)
-  pub accepted : AreAccepted (acked_in t) t.turns
+  pub accepted : AreAcceptedUnder (acked_in t) t.turns
   pub number_is : site.number ≡ turns_number (acked_in t) t.server.channel 1 2 t.turns
-  pub state_is : state_told t.server (told_in t) ≡ state_in t
-  pub talking : AreTalking t.server t.limits t.url t.octets (told_in t) (newest_in t) (id_in t) (tokens_held 1 t.turns) site x now
+  pub state_is : state_told t.server (told_so_far t) ≡ state_in t
+  pub talking : AreTalking t.server t.limits t.url t.octets (told_so_far t) (newest_in t) (id_in t) (tokens_held 1 t.turns) site x now
 
 -- a client over a transport to a server is after this talk, and may be called: the server decoded
 -- all that it sent and was told exactly its operations, the client took all that the server sends

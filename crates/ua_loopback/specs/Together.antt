@@ -20,7 +20,7 @@ use Rattle.ua_channel.specs.declared.client.channel.ClientChannel.{ClientChannel
 use Rattle.ua_client.specs.ClientPlace.{ClientPlace, StandsAt, id_at}
 use Rattle.ua_server.specs.Said.{state_after}
 use Rattle.ua_loopback.specs.Beginning.{Beginning}
-use Rattle.ua_loopback.specs.Says.{server_output, times_of_answers}
+use Rattle.ua_loopback.specs.Says.{server_output, answer_times}
 
 -- a server with these limits on this channel decoded these bytes, which told it this, and has this
 -- state; a client has the state after what the server sent; both are in step, and the client's next
@@ -40,8 +40,8 @@ pub record AreServing (b : Beginning) (url : Option (List ℕ)) (octets : List �
     (c : AtClient) : Type 0 where
   pub together : AreTogether b.limits url b.channel octets told s x site c
   pub taken : site.octets ≡ server_output b octets
-  pub agreed : (state_after b.channel b.first told (times_of_answers told b.moment)).agreement ≡ Some (agreement_of b.limits s.hello)
-  pub says_next : (state_after b.channel b.first told (times_of_answers told b.moment)).number ≡ c.next
+  pub agreed : (state_after b.channel b.first told (answer_times told b.moment)).agreement ≡ Some (agreement_of b.limits s.hello)
+  pub says_next : (state_after b.channel b.first told (answer_times told b.moment)).number ≡ c.next
   -- the server issued each token that the client holds, and it issued fewer than RequestIds were
   -- used
   pub issued : AllByRecursion (λ (token : ℕ). token ≤ s.issued) c.tokens

@@ -23,31 +23,31 @@ turn_told token id (Some requests) = calls_told token id (bodies_of requests)
 turn_told token id None = Opened id 0 (token + 1) 3600000 ∷ []
 
 -- the newest token after it
-abbrev pub token_behind : ℕ → Option (List Request) → ℕ
-token_behind token (Some requests) = token
-token_behind token None = token + 1
+abbrev pub token_behind_turn : ℕ → Option (List Request) → ℕ
+token_behind_turn token (Some requests) = token
+token_behind_turn token None = token + 1
 
 -- the next RequestId after it: each request and each renewal has one
-abbrev pub id_behind : ℕ → Option (List Request) → ℕ
-id_behind id (Some requests) = id + length requests
-id_behind id None = id + 1
+abbrev pub id_behind_turn : ℕ → Option (List Request) → ℕ
+id_behind_turn id (Some requests) = id + length requests
+id_behind_turn id None = id + 1
 
 -- ---- all operations
 
 -- operations in order, if this is the newest token and the next RequestId
 abbrev pub turns_told : ℕ → ℕ → List (Option (List Request)) → List Told
 turns_told token id [] = []
-turns_told token id (t ∷ turns) = turn_told token id t ++ turns_told (token_behind token t) (id_behind id t) turns
+turns_told token id (t ∷ turns) = turn_told token id t ++ turns_told (token_behind_turn token t) (id_behind_turn id t) turns
 
 -- the newest token after them
 abbrev pub tokens_behind : ℕ → List (Option (List Request)) → ℕ
 tokens_behind token [] = token
-tokens_behind token (t ∷ turns) = tokens_behind (token_behind token t) turns
+tokens_behind token (t ∷ turns) = tokens_behind (token_behind_turn token t) turns
 
 -- the next RequestId after them
 abbrev pub ids_behind : ℕ → List (Option (List Request)) → ℕ
 ids_behind id [] = id
-ids_behind id (t ∷ turns) = ids_behind (id_behind id t) turns
+ids_behind id (t ∷ turns) = ids_behind (id_behind_turn id t) turns
 
 -- ---- a whole conversation
 

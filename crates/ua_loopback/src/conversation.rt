@@ -10,21 +10,21 @@ ghost use Rattle.ua_channel_laws.specs.ServerReads.{ServerCloses};
 ghost use Rattle.ua_client.specs.Client.{IsReady, connection_of};
 ghost use Rattle.ua_client.specs.Hearing.{failures_behind, most_reads};
 ghost use Rattle.ua_client.specs.ClientPlace.{ClientPlace};
-ghost use Rattle.ua_loopback.specs.Accepted.{AreAccepted, FirstRefused, IsTurnFault, acknowledged, turn_refusal};
+ghost use Rattle.ua_loopback.specs.Accepted.{AreAcceptedUnder, FirstRefusedUnder, IsTurnFault, acknowledged, turn_refusal_under};
 ghost use Rattle.ua_loopback.specs.Beginning.{Beginning};
 ghost use Rattle.ua_loopback.specs.Course.{Converses};
 ghost use Rattle.ua_server.specs.declared.step.End.TheVariants.{Closed};
 ghost use Rattle.ua_loopback.specs.Kept.{EndsAt, LeavesAt};
 ghost use Rattle.ua_loopback.specs.Says.{services_after, server_output};
 ghost use Rattle.ua_loopback.specs.Faults.{BehindRefused, FailsAt, FailsBehind, IsOutside};
-ghost use Rattle.ua_loopback.specs.Replies.{turns_replies, turns_state};
+ghost use Rattle.ua_loopback.specs.Replies.{replies_to_turns, turns_state};
 ghost use Rattle.ua_loopback.specs.Sends.{conversation_octets};
 ghost use Rattle.ua_loopback.specs.Turns.{conversation_told};
 ghost use Rattle.ua_loopback.specs.declared.stage.Stage.TheVariants.{Ended};
 ghost use Rattle.ua_services.specs.declared.request.Request.{Request};
 ghost use Rattle.ua_loopback.specs.Talking.{IsLineTo, StopsOver};
-ghost use Rattle.ua_loopback.specs.inside.Talking.{CanOpen, HasMisanswer, HaveMisanswers, StaysBefore, StaysBehind};
-ghost use Rattle.ua_loopback.specs.inside.Talking.{StaysTalking, Talked, Went, WentBefore, fault_at, outcome_at};
+ghost use Rattle.ua_loopback.specs.inside.Talking.{CanOpenTo, HasMisanswer, HaveMisanswers, StaysBefore, StaysBehindTurn};
+ghost use Rattle.ua_loopback.specs.inside.Talking.{StaysTalking, Talked, HasOpenedTo, WentBefore, fault_at_stage, outcome_at};
 
 use crate::operation::AsOperation;
 use crate::served_line::{Began, ServedLine};
@@ -67,14 +67,14 @@ fn begin<L: Line>(
     moment: DateTime,
 ) -> Result<Client, ClientFault>
     requires { IsTrue (text.encodable url) }
-    ensures went { IfOk result (λ client. (b : Beginning) → CanOpen b limits url moment
-        → IsLineTo b [] [] (L.traffic line.old) → Went b limits url moment (connection_of client) (L.traffic line.old)
+    ensures went { IfOk result (λ client. (b : Beginning) → CanOpenTo b limits url moment
+        → IsLineTo b [] [] (L.traffic line.old) → HasOpenedTo b limits url moment (connection_of client) (L.traffic line.old)
         (L.traffic line.new)) }
     ensures ready { IfOk result (λ client. IsReady client) }
     ensures faults { IfErr result (λ fault. IsTurnFault fault → ⊥) }
-    ensures fails { IfErr result (λ fault. (b : Beginning) → CanOpen b limits url moment
+    ensures fails { IfErr result (λ fault. (b : Beginning) → CanOpenTo b limits url moment
         → IsLineTo b [] [] (L.traffic line.old) → url_length url ≤ 4095 → IsOutside fault) }
-    ensures stops { IfErr result (λ fault. (b : Beginning) → CanOpen b limits url moment
+    ensures stops { IfErr result (λ fault. (b : Beginning) → CanOpenTo b limits url moment
         → IsLineTo b [] [] (L.traffic line.old) → url_length url ≤ 4095
         → StopsOver fault b [] (L.traffic line.old) (L.traffic line.new)) }
     ensures failed { L.failures line.new ≡ failures_behind (L.failures line.old) result }
@@ -106,7 +106,7 @@ fn take_turn<T: AsOperation, L: Line>(
         (turns : List (Option (List Request))) (first : Option Traffic)
         → StaysTalking b limits url moment opened turns (connection_of client.old) first (L.traffic line.old)
         replies.old.items
-        → turn_refusal (acknowledged b.limits limits url) turns (T.turn turn.now) ≡ Some fault) }
+        → turn_refusal_under (acknowledged b.limits limits url) turns (T.turn turn.now) ≡ Some fault) }
     ensures fails { IfErr result
         (λ fault. (b : Beginning) (limits : Limits) (url : Option (List ℕ)) (opened : ClientPlace)
         (turns : List (Option (List Request))) (first : Option Traffic)
@@ -125,7 +125,7 @@ fn take_turn<T: AsOperation, L: Line>(
         (turns : List (Option (List Request))) (first : Option Traffic)
         → StaysTalking b limits url moment opened turns (connection_of client.old) first (L.traffic line.old)
         replies.old.items
-        → StaysBehind b limits url moment opened turns (T.turn turn.now) (connection_of client.new) first
+        → StaysBehindTurn b limits url moment opened turns (T.turn turn.now) (connection_of client.new) first
         (L.traffic line.new) replies.new.items) }
     ensures ready { OnOk result (IsReady client.new) }
 {
@@ -164,7 +164,7 @@ fn take_turns<T: AsOperation, L: Line>(
         → (b : Beginning) (limits : Limits) (url : Option (List ℕ)) (opened : ClientPlace) (first : Option Traffic)
         → StaysTalking b limits url moment opened [] (connection_of client.old) first (L.traffic line.old)
         replies.old.items
-        → FirstRefused (acknowledged b.limits limits url) (map T.turn turns.now) taken.new fault) }
+        → FirstRefusedUnder (acknowledged b.limits limits url) (map T.turn turns.now) taken.new fault) }
     ensures fails { IfErr result
         (λ fault. (b : Beginning) (limits : Limits) (url : Option (List ℕ)) (opened : ClientPlace)
         (first : Option Traffic) → StaysTalking b limits url moment opened [] (connection_of client.old) first
@@ -208,21 +208,21 @@ fn talk<T: AsOperation, L: Line>(
     requires url { IsTrue (text.encodable url) }
     requires none { replies.old.items ≡ [] }
     requires first { taken.old ≡ 0 }
-    ensures talked { OnOk result ((b : Beginning) → CanOpen b limits url moment → IsLineTo b [] [] (L.traffic line.old)
+    ensures talked { OnOk result ((b : Beginning) → CanOpenTo b limits url moment → IsLineTo b [] [] (L.traffic line.old)
         → Talked b limits url moment (map T.turn turns.now) (L.traffic line.old) (L.traffic line.new)
         replies.new.items) }
     ensures taken { OnOk result (taken.new ≡ length turns.now) }
-    ensures refused { IfErr result (λ fault. IsTurnFault fault → (b : Beginning) → CanOpen b limits url moment
+    ensures refused { IfErr result (λ fault. IsTurnFault fault → (b : Beginning) → CanOpenTo b limits url moment
         → IsLineTo b [] [] (L.traffic line.old)
-        → FirstRefused (acknowledged b.limits limits url) (map T.turn turns.now) taken.new fault) }
-    ensures fails { IfErr result (λ fault. (b : Beginning) → CanOpen b limits url moment
+        → FirstRefusedUnder (acknowledged b.limits limits url) (map T.turn turns.now) taken.new fault) }
+    ensures fails { IfErr result (λ fault. (b : Beginning) → CanOpenTo b limits url moment
         → IsLineTo b [] [] (L.traffic line.old) → url_length url ≤ 4095
         → FailsBehind (HaveMisanswers b.first b.moment (map T.turn turns.now)) fault) }
-    ensures stops { IfErr result (λ fault. (b : Beginning) → CanOpen b limits url moment
+    ensures stops { IfErr result (λ fault. (b : Beginning) → CanOpenTo b limits url moment
         → IsLineTo b [] [] (L.traffic line.old) → url_length url ≤ 4095
         → StopsOver fault b [] (L.traffic line.old) (L.traffic line.new)) }
     ensures failed { L.failures line.new ≡ failures_behind (L.failures line.old) result }
-    ensures before { IfErr result (λ fault. IsTurnFault fault → (b : Beginning) → CanOpen b limits url moment
+    ensures before { IfErr result (λ fault. IsTurnFault fault → (b : Beginning) → CanOpenTo b limits url moment
         → IsLineTo b [] [] (L.traffic line.old) → WentBefore b limits url moment (map T.turn turns.now) taken.new
         (L.traffic line.old) (L.traffic line.new) replies.new.items) }
 {
@@ -250,7 +250,7 @@ fn fewer_than_reads(octets: &[u8])
 /// The fault that is reported over a transport whose connection is at this stage: where the
 /// transport is broken, an error of the client's operation becomes a failed allocation.
 fn fault_at(stage: Stage, fault: ClientFault) -> ClientFault
-    ensures { result ≡ fault_at stage fault }
+    ensures { result ≡ fault_at_stage stage fault }
 {
     match stage {
         Stage::Going | Stage::Ended(_) => fault,
@@ -301,13 +301,13 @@ fn converse_with<T: AsOperation, W: Began>(
         (map T.turn turns.now)) }
     ensures replied { OnOk result.outcome
         (map Some result.replies.items
-        ≡ turns_replies (record { limits = limits; channel = channel_id; first = services; moment = moment }) limits url
+        ≡ replies_to_turns (record { limits = limits; channel = channel_id; first = services; moment = moment }) limits url
         services 1 (map T.turn turns.now)) }
     ensures state { OnOk result.outcome (result.services ≡ turns_state services moment (map T.turn turns.now)) }
-    ensures accepted { OnOk result.outcome (AreAccepted (acknowledged limits limits url) (map T.turn turns.now)) }
+    ensures accepted { OnOk result.outcome (AreAcceptedUnder (acknowledged limits limits url) (map T.turn turns.now)) }
     ensures taken { OnOk result.outcome (result.taken ≡ length turns.now) }
     ensures refused { IfErr result.outcome (λ fault. IsTurnFault fault
-        → FirstRefused (acknowledged limits limits url) (map T.turn turns.now) result.taken fault) }
+        → FirstRefusedUnder (acknowledged limits limits url) (map T.turn turns.now) result.taken fault) }
     ensures fails { IfErr result.outcome (λ fault. url_length url ≤ 4095 → FailsAt result.stage fault) }
     ensures before { IfErr result.outcome (λ fault. IsTurnFault fault
         → BehindRefused (record { limits = limits; channel = channel_id; first = services; moment = moment }) limits url
@@ -398,16 +398,16 @@ pub fn converse<T: AsOperation>(
         (map T.turn turns.now)) }
     ensures replied { OnOk result.outcome
         (map Some result.replies.items
-        ≡ turns_replies (record { limits = limits; channel = channel_id; first = services; moment = moment }) limits url
+        ≡ replies_to_turns (record { limits = limits; channel = channel_id; first = services; moment = moment }) limits url
         services 1 (map T.turn turns.now)) }
     ensures state { OnOk result.outcome (result.services ≡ turns_state services moment (map T.turn turns.now)) }
 
     // Each operation was accepted; or the client stopped before the first that is not, and its
     // fault is the first error against it.
-    ensures accepted { OnOk result.outcome (AreAccepted (acknowledged limits limits url) (map T.turn turns.now)) }
+    ensures accepted { OnOk result.outcome (AreAcceptedUnder (acknowledged limits limits url) (map T.turn turns.now)) }
     ensures taken { OnOk result.outcome (result.taken ≡ length turns.now) }
     ensures refused { IfErr result.outcome (λ fault. IsTurnFault fault
-        → FirstRefused (acknowledged limits limits url) (map T.turn turns.now) result.taken fault) }
+        → FirstRefusedUnder (acknowledged limits limits url) (map T.turn turns.now) result.taken fault) }
     // Then the bytes sent, the replies and the state are those of the requests and renewals before
     // it, and of no more.
     ensures before { IfErr result.outcome (λ fault. IsTurnFault fault

@@ -28,7 +28,7 @@ ghost use Rattle.ua_client.specs.Replies.{AreReplies};
 ghost use Rattle.ua_client.specs.Sent.{bodies_of};
 ghost use Rattle.ua_client.specs.ClientPlace.{ClientPlace, StandsAt, id_at};
 ghost use Rattle.ua_client.specs.declared.reply.Reply.{Reply};
-ghost use Rattle.ua_loopback.specs.Accepted.{AreAccepted, acknowledged};
+ghost use Rattle.ua_loopback.specs.Accepted.{AreAcceptedUnder, acknowledged};
 ghost use Rattle.ua_loopback.specs.Beginning.{Beginning};
 ghost use Rattle.ua_loopback.specs.Course.{opening_octets};
 ghost use Rattle.ua_loopback.specs.Says.{server_output};
@@ -55,7 +55,7 @@ pub fn conversations_reach_the_server()
     ensures { (limits client : Limits) (url : Option (List ℕ)) (channel : ℕ) (moment : DateTime)
         (turns : List (Option (List Request))) →
         IsTrue (hello.encodable (hello_to client url)) → url_length url ≤ 4095 → channel < 2 ^ 32
-        → IsTrue (date_time.encodable moment) → AreAccepted (acknowledged limits client url) turns →
+        → IsTrue (date_time.encodable moment) → AreAcceptedUnder (acknowledged limits client url) turns →
         ServerCloses limits channel (conversation_octets limits client url channel moment turns)
         (conversation_told limits client url turns) }
 {}

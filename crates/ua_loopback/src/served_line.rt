@@ -3,7 +3,7 @@
 ghost use Rattle.std.specs.Prelude.{◌≡◌, ◌++◌, ◌<◌, ◌≤◌, [], None, Some, IfOk, IfSome, OnErr, length, take};
 ghost use Rattle.ua_channel.specs.Line.{HandsOut, WriteTakes, failures_after};
 ghost use Rattle.ua_loopback.specs.Beginning.{Beginning, no_server};
-ghost use Rattle.ua_loopback.specs.Kept.{EndsAt, IsOver, Keeps, LeavesAt, Served, StopsWriting, traffic_of};
+ghost use Rattle.ua_loopback.specs.Kept.{EndsAt, IsOver, Keeps, LeavesAt, Served, BreaksAtWrite, traffic_of};
 ghost use Rattle.ua_loopback.specs.Says.{server_output};
 ghost use Rattle.ua_loopback.specs.declared.stage.Stage.TheVariants.{Going};
 
@@ -173,7 +173,7 @@ impl<W: Began> ServedLine<W> {
         ensures some { 0 < length piece.now → IfSome result (λ n. 0 < n) }
         ensures up { IfSome result (λ n. self.new.up ≡ self.old.up ++ take n piece.now) }
         ensures same { result ≡ None → self.new.up ≡ self.old.up }
-        ensures stops { result ≡ None → StopsWriting self.old.stage self.new.stage }
+        ensures stops { result ≡ None → BreaksAtWrite self.old.stage self.new.stage }
         ensures read { self.new.read ≡ self.old.read }
         ensures failures { self.new.failures ≡ self.old.failures }
     {
@@ -228,7 +228,7 @@ impl<W: Began> Line for ServedLine<W> {
         ensures failed { self.new.failures ≡ failures_after self.old.failures result }
         ensures octets { WriteTakes result octets.now (traffic_of W.beginning self.old)
             (traffic_of W.beginning self.new) }
-        ensures stops { OnErr result (StopsWriting self.old.stage self.new.stage) }
+        ensures stops { OnErr result (BreaksAtWrite self.old.stage self.new.stage) }
     {
         if octets.is_empty() {
             return Ok(0);

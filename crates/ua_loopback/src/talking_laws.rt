@@ -31,15 +31,15 @@ ghost use Rattle.ua_client.specs.declared.fault.ClientFault.{ClientFault};
 ghost use Rattle.ua_client.specs.declared.fault.ClientFault.TheVariants.{UnknownResponse};
 ghost use Rattle.ua_client.specs.declared.reply.Reply.{Reply};
 ghost use Rattle.ua_server.specs.Sound.{IsSoundState};
-ghost use Rattle.ua_loopback.specs.Accepted.{IsTurnFault, turn_refusal};
+ghost use Rattle.ua_loopback.specs.Accepted.{IsTurnFault, turn_refusal_under};
 ghost use Rattle.ua_loopback.specs.Beginning.{Beginning};
 ghost use Rattle.ua_loopback.specs.Faults.{FailsBehind, IsOutside};
-ghost use Rattle.ua_loopback.specs.Replies.{HaveMisanswer, lane_back, requests_replies, turn_state};
+ghost use Rattle.ua_loopback.specs.Replies.{HaveMisanswer, lane_back_by_token, requests_replies, turn_state};
 ghost use Rattle.ua_loopback.specs.Says.{services_after, server_output};
 ghost use Rattle.ua_loopback.specs.Sends.{closing_behind};
 ghost use Rattle.ua_loopback.specs.Talking.{CanBegin, FailsSession, IsBehindFirst, IsLineTo, IsSentOver, IsTalking};
 ghost use Rattle.ua_loopback.specs.Talking.{Reads, SoFar, StopsOver, acked_in, closed_octets, id_in, newest_in};
-ghost use Rattle.ua_loopback.specs.Talking.{octets_of, opening, session_requests, state_in, told_in, with_turn};
+ghost use Rattle.ua_loopback.specs.Talking.{octets_of_turn, opening, session_requests, state_in, told_so_far, with_turn};
 ghost use Rattle.ua_loopback.specs.Turns.{turn_told};
 
 use ua_builtin::DateTime;
@@ -77,7 +77,7 @@ pub fn talks_reach_the_server()
     // the OPN of a renewal, for which it issues the next token, for an hour (OPC 10000-4, 5.6.2).
     ensures reaches { (t : SoFar) (moment : DateTime) (turn : Option (List Request)) (x : Client)
         (now : Option Traffic) → IsTalking (with_turn t moment turn) x now →
-        Reads t.server (with_turn t moment turn).octets (told_in t ++ turn_told (newest_in t) (id_in t) turn) }
+        Reads t.server (with_turn t moment turn).octets (told_so_far t ++ turn_told (newest_in t) (id_in t) turn) }
     // Its services are as these requests leave them, one after the other; a renewal leaves them as
     // they were.
     ensures state { (t : SoFar) (moment : DateTime) (turn : Option (List Request)) (x : Client)
@@ -96,19 +96,19 @@ pub fn calls_go_on<A>()
     ensures sends { (replies : A → List Reply) (t : SoFar) (requests : List Request) (moment : DateTime)
         (x y : Client) (before after : Option Traffic) (result : Result A ClientFault) → IsTalking t x before →
         CallsAll replies requests (connection_of x) (connection_of y) before after result →
-        OnOk result (IsSentOver (octets_of t moment (Some requests)) before after) }
+        OnOk result (IsSentOver (octets_of_turn t moment (Some requests)) before after) }
     // Each reply is that of its own request in the state that those before it left.
     ensures replied { (replies : A → List Reply) (t : SoFar) (requests : List Request)
         (x y : Client) (before after : Option Traffic) (result : Result A ClientFault) → IsTalking t x before →
         CallsAll replies requests (connection_of x) (connection_of y) before after result →
         IfOk result (λ found. map Some (replies found) ≡
-        requests_replies (lane_back t.server t.limits t.url (newest_in t)) (state_in t) t.server.moment requests) }
+        requests_replies (lane_back_by_token t.server t.limits t.url (newest_in t)) (state_in t) t.server.moment requests) }
     // A fault that is an error of a request is the first error among them, and the talk goes on
     // with the first of these requests, which were asked.
     ensures refused { (replies : A → List Reply) (t : SoFar) (requests : List Request)
         (x y : Client) (before after : Option Traffic) (result : Result A ClientFault) → IsTalking t x before →
         CallsAll replies requests (connection_of x) (connection_of y) before after result →
-        IfErr result (λ fault. IsTurnFault fault → turn_refusal (acked_in t) t.turns (Some requests) ≡ Some fault) }
+        IfErr result (λ fault. IsTurnFault fault → turn_refusal_under (acked_in t) t.turns (Some requests) ≡ Some fault) }
     ensures before { (replies : A → List Reply) (t : SoFar) (requests : List Request) (moment : DateTime)
         (x y : Client) (before after : Option Traffic) (result : Result A ClientFault) → IsTalking t x before →
         CallsAll replies requests (connection_of x) (connection_of y) before after result → IsLeft result y →
@@ -157,7 +157,7 @@ pub fn sessions_go_on()
         (before after : Option Traffic) (result : Result NodeId ClientFault) → IsTalking t x before →
         BeginsSessionAs policy_id moment (connection_of x) (connection_of y) before after result →
         IfOk result (λ token.
-        IsSentOver (octets_of t moment (Some (session_requests t policy_id token moment))) before after) }
+        IsSentOver (octets_of_turn t moment (Some (session_requests t policy_id token moment))) before after) }
     // The server's output makes it fail in one way only: with Service, where the reply to one of
     // the two is that the service failed, with this code.
     ensures fails { (t : SoFar) (policy_id : Option (List ℕ)) (moment : DateTime) (x y : Client)
@@ -184,12 +184,12 @@ pub fn renewals_go_on(moment: DateTime)
     ensures sends { (t : SoFar) (x y : Client) (before after : Option Traffic)
         (result : Result (Unit {0}) ClientFault) → IsTalking t x before →
         Renews moment (connection_of x) (connection_of y) before after result →
-        OnOk result (IsSentOver (octets_of t moment None) before after) }
+        OnOk result (IsSentOver (octets_of_turn t moment None) before after) }
     // A fault that is an error of a renewal is the first error against it.
     ensures refused { (t : SoFar) (x y : Client) (before after : Option Traffic)
         (result : Result (Unit {0}) ClientFault) → IsTalking t x before →
         Renews moment (connection_of x) (connection_of y) before after result →
-        IfErr result (λ fault. IsTurnFault fault → turn_refusal (acked_in t) t.turns None ≡ Some fault) }
+        IfErr result (λ fault. IsTurnFault fault → turn_refusal_under (acked_in t) t.turns None ≡ Some fault) }
     // The server's output does not make it fail.
     ensures fails { (t : SoFar) (x y : Client) (before after : Option Traffic)
         (result : Result (Unit {0}) ClientFault) → IsTalking t x before →
@@ -211,7 +211,7 @@ pub fn closings_end_talks()
         OnOk result (IsSentOver (closing_behind (acked_in t) t.server.channel moment t.turns) before after) }
     // The server reads just this CLO more, which closes its channel.
     ensures reaches { (t : SoFar) (moment : DateTime) (x : Client) (before : Option Traffic) → IsTalking t x before →
-        ServerCloses t.server.limits t.server.channel (closed_octets t moment) (told_in t ++ Closed ∷ []) }
+        ServerCloses t.server.limits t.server.channel (closed_octets t moment) (told_so_far t ++ Closed ∷ []) }
     // The server answers nothing to that, so that the client took all of its output; and its
     // services are as the talk left them.
     ensures silent { (t : SoFar) (moment : DateTime) (x : Client) (before : Option Traffic) → IsTalking t x before →

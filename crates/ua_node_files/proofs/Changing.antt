@@ -15,7 +15,7 @@ use Rattle.std.proofs.lemmas.List.Elements.{filter-append}
 use Rattle.std.proofs.lemmas.Option.{slice_get-get_or}
 use Rattle.std.proofs.lemmas.Map.Text.{is_eq-slice_cmp}
 use Rattle.ua_nodes.specs.NodeFile.{WriteNodes, is_read, lines_of, node_lines}
-use Rattle.ua_nodes.specs.Sound.{IsSound, IsSoundNode}
+use Rattle.ua_nodes.specs.Sound.{AreNodesSound, IsSoundNode}
 use Rattle.ua_builtin.specs.declared.node_id.NodeId.{NodeId}
 use Rattle.ua_nodes.specs.Table.{Nodes}
 use Rattle.ua_nodes.specs.declared.node.Variable.{Variable}
@@ -96,12 +96,12 @@ none_new : (f : List ℕ → Bool) (lines : List (List ℕ)) → nodes_of_new f 
 none_new f [] = refl
 none_new f (line ∷ lines) = refl
 
-one_sound : (t : Bool) (node : NodeId × Variable) (rest : Nodes) → IsSoundNode node.0 node.1 → IsSound rest → IsSound (one_new t (Some node) ++ rest)
+one_sound : (t : Bool) (node : NodeId × Variable) (rest : Nodes) → IsSoundNode node.0 node.1 → AreNodesSound rest → AreNodesSound (one_new t (Some node) ++ rest)
 one_sound true node rest s r = r
 one_sound false node rest s r = (s, r)
 
 -- the nodes of new lines are sound where all are
-pub new_sound : (f : List ℕ → Bool) (lines : List (List ℕ)) (nodes : Nodes) → IsSound nodes → IsSound (nodes_of_new f lines nodes)
+pub new_sound : (f : List ℕ → Bool) (lines : List (List ℕ)) (nodes : Nodes) → AreNodesSound nodes → AreNodesSound (nodes_of_new f lines nodes)
 new_sound f [] nodes s = tt
 new_sound f (line ∷ lines) [] s = tt
 new_sound f (line ∷ lines) (node ∷ nodes) s = one_sound (f line) node (nodes_of_new f lines nodes) s.0 (new_sound f lines nodes s.1)
@@ -165,5 +165,5 @@ pub changes_so : (last text : List ℕ) (changed nodes : Nodes) → WriteNodes (
     → Changes last text changed
 changes_so last text changed nodes w e = record { nodes = nodes; written = w; are = e }
 
-pub sound_so : (last text : List ℕ) (changed nodes : Nodes) → IsSound nodes → changed ≡ changed_of last text nodes → IsSound changed
-sound_so last text changed nodes s e = subst (λ (t : Nodes). IsSound t) (sym e) (new_sound (is_among (written_lines last)) (written_lines text) nodes s)
+pub sound_so : (last text : List ℕ) (changed nodes : Nodes) → AreNodesSound nodes → changed ≡ changed_of last text nodes → AreNodesSound changed
+sound_so last text changed nodes s e = subst (λ (t : Nodes). AreNodesSound t) (sym e) (new_sound (is_among (written_lines last)) (written_lines text) nodes s)

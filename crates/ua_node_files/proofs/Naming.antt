@@ -5,19 +5,19 @@ use Rattle.std.specs.Str.Lines.{strip_carriage_return}
 use Rattle.std.proofs.Math.Seq.{take-length}
 use Rattle.std.proofs.lemmas.List.{length-map}
 use Rattle.std.proofs.lemmas.List.Elements.{filter-append}
-use Rattle.ua_nodes.specs.NodeFile.{FileLine, lines_of, numbered}
+use Rattle.ua_nodes.specs.NodeFile.{FileLine, lines_of, numbered_lines}
 use Rattle.ua_nodes.proofs.Files.{IsPiece, lines_at, lines_more, length_first, numbered_append, one_line}
 use Rattle.ua_nodes.proofs.Pieces.{pieces}
 use Rattle.ua_node_files.specs.Namespaces.{AreNamed, AreNamedFrom, IsFirstUnnamed, NamesUri, first_index, is_namespace_line, namespace_lines}
 
 -- the lines that name namespaces, from a number on
 abbrev pub named_from : ℕ → List (List ℕ) → List FileLine
-named_from n lines = filter (λ line. is_namespace_line line.text) (numbered n lines)
+named_from n lines = filter (λ line. is_namespace_line line.text) (numbered_lines n lines)
 
 named_append : (n : ℕ) (xs ys : List (List ℕ)) → named_from n (xs ++ ys) ≡ named_from n xs ++ named_from (n + length xs) ys
 named_append n xs ys =
     ap (filter (λ line. is_namespace_line line.text)) (numbered_append n xs ys)
-    ∙ filter-append (λ line. is_namespace_line line.text) (numbered n xs) (numbered (n + length xs) ys)
+    ∙ filter-append (λ line. is_namespace_line line.text) (numbered_lines n xs) (numbered_lines (n + length xs) ys)
 
 -- a line that names one stands in front of those behind it, and one that names none is left out
 named_cons : (n : ℕ) (x : List ℕ) (xs : List (List ℕ)) → is_namespace_line x ≡ true → named_from n (x ∷ xs) ≡ one_line n x ∷ named_from (suc n) xs

@@ -57,13 +57,13 @@ abbrev pub entry_of : Node → NodeId × Variable
 entry_of node = (node.id, variable_of node)
 
 -- its value, at a time and without a status
-abbrev pub reading_of : DateTime → Node → Reading
-reading_of moment node = record { value = node.value; status = None; source_time = moment; source_picoseconds = None }
+abbrev pub reading_of_node : DateTime → Node → Reading
+reading_of_node moment node = record { value = node.value; status = None; source_time = moment; source_picoseconds = None }
 
 -- nodes with one that changed: the node of its NodeId has the value, unless that is refused; if there
 -- is none, it is the last one
 abbrev pub with_changed : DateTime → Node → Nodes → Nodes
-with_changed moment node nodes = cond (is_none (node_at nodes node.id)) (nodes ++ entry_of node ∷ []) (after_set node.id (reading_of moment node) nodes)
+with_changed moment node nodes = cond (is_none (node_at nodes node.id)) (nodes ++ entry_of node ∷ []) (after_set node.id (reading_of_node moment node) nodes)
 
 -- nodes with those that changed, in order
 abbrev pub with_all_changed : DateTime → List Node → Nodes → Nodes

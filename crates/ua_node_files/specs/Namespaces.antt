@@ -2,7 +2,7 @@
 use Rattle.std.specs.Prelude.{◌≡◌, ℕ, ◌+◌, suc, Bool, true, not, ◌&&◌, nat_eq, nat_lt, ⊤, List, [], ◌∷◌, ◌++◌, filter, length, codes}
 use Rattle.std.specs.Fmt.{decimal}
 use Rattle.std.specs.List.{list_all, starts_with}
-use Rattle.ua_nodes.specs.NodeFile.{FileLine, lines_of, numbered}
+use Rattle.ua_nodes.specs.NodeFile.{FileLine, lines_of, numbered_lines}
 use Rattle.ua_node_files.specs.declared.namespace.NamespaceFault.{NamespaceFault}
 use Rattle.ua_node_files.specs.declared.namespace.NamespaceFault.TheVariants.{Line, OutOfMemory}
 
@@ -14,7 +14,7 @@ is_namespace_line line = starts_with nat_eq line (codes "# namespace")
 
 -- the lines of a text that name namespaces, or were meant to, with their numbers
 abbrev pub namespace_lines : List ℕ → List FileLine
-namespace_lines text = filter (λ line. is_namespace_line line.text) (numbered 1 (lines_of text))
+namespace_lines text = filter (λ line. is_namespace_line line.text) (numbered_lines 1 (lines_of text))
 
 -- a byte of a URI as a file names it: no space and no control character, and no comma, which
 -- separates the elements of an array's text
@@ -26,8 +26,8 @@ abbrev pub is_uri : List ℕ → Bool
 is_uri uri = nat_lt 0 (length uri) && list_all is_of_uri uri
 
 -- what precedes the URI of an index, as `# namespace 2 `
-abbrev pub front_of : ℕ → List ℕ
-front_of index = codes "# namespace " ++ decimal index ++ codes " "
+abbrev pub namespace_line_start : ℕ → List ℕ
+namespace_line_start index = codes "# namespace " ++ decimal index ++ codes " "
 
 -- a line names a URI after a prefix
 pub record NamesBehind (front line uri : List ℕ) : Type 0 where
@@ -36,7 +36,7 @@ pub record NamesBehind (front line uri : List ℕ) : Type 0 where
 
 -- a line names the namespace of an index, as `# namespace 2 urn:plant`
 abbrev pub NamesUri : ℕ → List ℕ → List ℕ → Type 0
-NamesUri index line uri = NamesBehind (front_of index) line uri
+NamesUri index line uri = NamesBehind (namespace_line_start index) line uri
 
 -- ---- all lines
 

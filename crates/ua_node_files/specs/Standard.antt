@@ -11,8 +11,8 @@ pub record StandardLine : Type 0 where
   pub number : ℕ
   pub text : List ℕ
 
-abbrev pub line_of : ℕ → List ℕ → StandardLine
-line_of number text = record { number = number; text = text }
+abbrev pub standard_line_of : ℕ → List ℕ → StandardLine
+standard_line_of number text = record { number = number; text = text }
 
 -- the URIs of the server's NamespaceArray after the first two, as an array's text goes on: each
 -- after a comma
@@ -21,34 +21,34 @@ more_uris uris = flat_map (λ uri. codes "," ++ uri) uris
 
 -- the URIs of the servers: this one
 abbrev pub server_array : StandardLine
-server_array = line_of 2254 (codes "i=2254\tr\tServerArray\tString[]\turn:ua:server")
+server_array = standard_line_of 2254 (codes "i=2254\tr\tServerArray\tString[]\turn:ua:server")
 
 -- the URIs of the namespaces: the standard's for index 0, the server's for 1, and then these
 abbrev pub namespace_array : List (List ℕ) → StandardLine
-namespace_array uris = line_of 2255 (codes "i=2255\tr\tNamespaceArray\tString[]\thttp://opcfoundation.org/UA/,urn:ua:server" ++ more_uris uris)
+namespace_array uris = standard_line_of 2255 (codes "i=2255\tr\tNamespaceArray\tString[]\thttp://opcfoundation.org/UA/,urn:ua:server" ++ more_uris uris)
 
 -- the server's time, which is set before each answer
-abbrev pub current_time : StandardLine
-current_time = line_of 2258 (codes "i=2258\tr\tCurrentTime\tDateTime\t0")
+abbrev pub current_time_line : StandardLine
+current_time_line = standard_line_of 2258 (codes "i=2258\tr\tCurrentTime\tDateTime\t0")
 
 -- its state: 0, running
 abbrev pub state : StandardLine
-state = line_of 2259 (codes "i=2259\tr\tState\tInt32\t0")
+state = standard_line_of 2259 (codes "i=2259\tr\tState\tInt32\t0")
 
 -- how well it serves: 255, wholly
 abbrev pub service_level : StandardLine
-service_level = line_of 2267 (codes "i=2267\tr\tServiceLevel\tByte\t255")
+service_level = standard_line_of 2267 (codes "i=2267\tr\tServiceLevel\tByte\t255")
 
 -- the most nodes of a Read, and of a Write
 abbrev pub max_nodes_per_read : StandardLine
-max_nodes_per_read = line_of 11705 (codes "i=11705\tr\tMaxNodesPerRead\tUInt32\t1000")
+max_nodes_per_read = standard_line_of 11705 (codes "i=11705\tr\tMaxNodesPerRead\tUInt32\t1000")
 
 abbrev pub max_nodes_per_write : StandardLine
-max_nodes_per_write = line_of 11707 (codes "i=11707\tr\tMaxNodesPerWrite\tUInt32\t1000")
+max_nodes_per_write = standard_line_of 11707 (codes "i=11707\tr\tMaxNodesPerWrite\tUInt32\t1000")
 
 -- what the server is and how it is, and what it takes at once
 abbrev pub server_lines : List (List ℕ) → List StandardLine
-server_lines uris = server_array ∷ namespace_array uris ∷ current_time ∷ state ∷ service_level ∷ []
+server_lines uris = server_array ∷ namespace_array uris ∷ current_time_line ∷ state ∷ service_level ∷ []
 
 abbrev pub limit_lines : List StandardLine
 limit_lines = max_nodes_per_read ∷ max_nodes_per_write ∷ []

@@ -6,8 +6,8 @@ ghost use Rattle.std.specs.Cmp.Lexicographic.{slice_cmp};
 ghost use Rattle.std.specs.Map.Iter.{deref_pair};
 ghost use Rattle.std.specs.Option.{option_copied, option_map};
 ghost use Rattle.std.specs.Ordering.{nat_cmp};
-ghost use Rattle.ua_nodes.specs.NodeFile.{Refuses, is_read as is_read_line, node_lines};
-ghost use Rattle.ua_nodes.specs.Sound.{IsSound};
+ghost use Rattle.ua_nodes.specs.NodeFile.{RefusesNodeFile, is_read as is_read_line, node_lines};
+ghost use Rattle.ua_nodes.specs.Sound.{AreNodesSound};
 ghost use Rattle.ua_node_files.specs.Changed.{Changes, changed_of, entry_of, is_among};
 ghost use Rattle.ua_node_files.specs.Changed.{is_known_at, nodes_of_new, one_new, written_lines};
 
@@ -22,8 +22,8 @@ use ua_nodes::{LoadFault, Node, NodeTable, Variable, is_read, without_return};
 #[tactic(auto, using(crate::proofs::Changing::changes_so))]
 pub fn changed_nodes(alloc: Global, last: &str, text: &str) -> Result<Vec<Node>, LoadFault>
     ensures changes { IfOk result (λ changed. Changes last.now text.now (map entry_of changed.items)) }
-    ensures sound { IfOk result (λ changed. IsSound (map entry_of changed.items)) }
-    ensures fault { IfErr result (λ fault. Refuses (node_lines text.now) fault) }
+    ensures sound { IfOk result (λ changed. AreNodesSound (map entry_of changed.items)) }
+    ensures fault { IfErr result (λ fault. RefusesNodeFile (node_lines text.now) fault) }
 {
     let nodes = match NodeTable::load(alloc, text) {
         Ok(nodes) => nodes,
@@ -42,9 +42,9 @@ fn pick_changed<'t>(
     text: &'t str,
     nodes: &NodeTable,
 ) -> Result<Vec<Node>, AllocError>
-    requires { IsSound nodes.now }
+    requires { AreNodesSound nodes.now }
     ensures picked { IfOk result (λ changed. map entry_of changed.items ≡ changed_of last.now text.now nodes.now) }
-    ensures sound { IfOk result (λ changed. IsSound (map entry_of changed.items)) }
+    ensures sound { IfOk result (λ changed. AreNodesSound (map entry_of changed.items)) }
 {
     let before = lines_written(alloc, last)?;
     let known = set_of(alloc, &before)?;

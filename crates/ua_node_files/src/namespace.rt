@@ -3,7 +3,7 @@
 ghost use Rattle.std.specs.Prelude.{◌≡◌, ℕ, List, MatchOption, IfOk, IfErr, map, string_bytes};
 ghost use Rattle.std.specs.List.{list_all};
 ghost use Rattle.ua_node_files.specs.Namespaces.{AreNamed, NamesBehind, NamesUri, RefusesNamespaces};
-ghost use Rattle.ua_node_files.specs.Namespaces.{front_of, is_namespace_line as is_line, is_of_uri};
+ghost use Rattle.ua_node_files.specs.Namespaces.{namespace_line_start, is_namespace_line as is_line, is_of_uri};
 ghost use Rattle.ua_node_files.specs.Namespaces.{is_uri as is_uri_text, namespace_lines};
 
 use std::alloc::{AllocError, AllocFailed, Global};

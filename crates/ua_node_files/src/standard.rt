@@ -2,7 +2,7 @@
 
 ghost use Rattle.std.specs.Prelude.{◌≡◌, ◌++◌, IfOk, OnOk, codes, map, string_bytes};
 ghost use Rattle.std.specs.List.{flat_map};
-ghost use Rattle.ua_node_files.specs.Standard.{added_line, lacks as lacks_node, limit_lines, line_of};
+ghost use Rattle.ua_node_files.specs.Standard.{added_line, lacks as lacks_node, limit_lines, standard_line_of};
 ghost use Rattle.ua_node_files.specs.Standard.{more_uris, namespace_array, server_lines, standard_text};
 
 use std::alloc::{AllocError, Global};
@@ -70,7 +70,7 @@ fn push_limits(out: &mut String, nodes: &NodeTable) -> Result<(), AllocError>
 /// Appends the line of a node of namespace 0, where the nodes have none of this number.
 fn push_line(out: &mut String, nodes: &NodeTable, number: u32, line: &str) -> Result<(), AllocError>
     ensures { OnOk result (string_bytes out.new ≡ string_bytes out.old ++ added_line nodes.now
-        (line_of number line.now)) }
+        (standard_line_of number line.now)) }
 {
     if !lacks(nodes, number) {
         return Ok(());

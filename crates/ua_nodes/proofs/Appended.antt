@@ -11,7 +11,7 @@ use Rattle.ua_variant.specs.Data.{valued}
 use Rattle.ua_nodes.specs.Attribute.{attribute_of, attribute_value}
 use Rattle.ua_nodes.specs.Range.{asked_range}
 use Rattle.ua_nodes.specs.Read.{judged, read_item_reasons, stamps_of, value_read, with_stamps, read_by}
-use Rattle.ua_nodes.specs.Within.{IsWithin, NonePassBefore, Passes, with_first}
+use Rattle.ua_nodes.specs.Within.{IsWithin, NonePassBefore, Passes, with_octets_of_first}
 use Rattle.ua_nodes.specs.declared.attribute.Attribute.{Attribute}
 use Rattle.ua_nodes.specs.declared.node.Variable.{Variable}
 use Rattle.ua_nodes.specs.declared.range.IndexRange.{IndexRange}
@@ -46,7 +46,7 @@ fewer f (suc n) (item ∷ items) =
 
 -- where it stands after so many: the limit was not passed before
 pub record SoFar (most : Option ℕ) (f : ReadValueId → List ℕ) (items : List ReadValueId) (old : List ℕ) (n : ℕ) (out : List ℕ) : Type 0 where
-  pub are : out ≡ with_first f items old n
+  pub are : out ≡ with_octets_of_first f items old n
   pub first : NonePassBefore most f items old n
 
 -- all that is to be added was, or the limit is passed, by no more than the whole

@@ -18,15 +18,15 @@ use Rattle.ua_builtin.specs.declared.node_id.NodeId.{NodeId}
 use Rattle.ua_nodes.specs.declared.fault.LineReason.{LineReason}
 use Rattle.ua_nodes.specs.declared.node.Variable.{Variable}
 use Rattle.ua_nodes.specs.LineFault.{load_fault}
-use Rattle.ua_nodes.specs.NodeFile.{FileLine, lines_of, node_lines, numbered, is_read, WritesNode}
-use Rattle.ua_nodes.specs.NodeFile.{IsFirstReason, WriteNodes, IsFirstBad, Refuses, Adds, RefusesLine}
+use Rattle.ua_nodes.specs.NodeFile.{FileLine, lines_of, node_lines, numbered_lines, is_read, WritesNode}
+use Rattle.ua_nodes.specs.NodeFile.{IsFirstReason, WriteNodes, IsFirstBad, RefusesNodeFile, AddsNodeOfLine, RefusesLine}
 use Rattle.ua_nodes.specs.declared.fault.LineFault.{LineFault}
 use Rattle.ua_nodes.specs.declared.fault.LineFault.TheVariants.{Bad, NoMemory}
 use Rattle.ua_nodes.specs.Table.{Nodes}
 
 -- the lines that are read, from a number on
 abbrev pub read_from : ℕ → List (List ℕ) → List FileLine
-read_from n lines = filter (λ line. is_read line.text) (numbered n lines)
+read_from n lines = filter (λ line. is_read line.text) (numbered_lines n lines)
 
 abbrev pub Writes : FileLine → NodeId × Variable → Type 0
 Writes line node = WritesNode line.text node
@@ -34,14 +34,14 @@ Writes line node = WritesNode line.text node
 abbrev pub one_line : ℕ → List ℕ → FileLine
 one_line n text = record { number = n; text = text }
 
-pub numbered_append : (n : ℕ) (xs ys : List (List ℕ)) → numbered n (xs ++ ys) ≡ numbered n xs ++ numbered (n + length xs) ys
-numbered_append n [] ys = ap (λ (k : ℕ). numbered k ys) (omega arith)
+pub numbered_append : (n : ℕ) (xs ys : List (List ℕ)) → numbered_lines n (xs ++ ys) ≡ numbered_lines n xs ++ numbered_lines (n + length xs) ys
+numbered_append n [] ys = ap (λ (k : ℕ). numbered_lines k ys) (omega arith)
 numbered_append n (x ∷ xs) ys =
-    ap (λ (t : List FileLine). one_line n x ∷ t) (numbered_append (suc n) xs ys ∙ ap (λ (k : ℕ). numbered (suc n) xs ++ numbered k ys) (omega arith))
+    ap (λ (t : List FileLine). one_line n x ∷ t) (numbered_append (suc n) xs ys ∙ ap (λ (k : ℕ). numbered_lines (suc n) xs ++ numbered_lines k ys) (omega arith))
 
 pub read_append : (n : ℕ) (xs ys : List (List ℕ)) → read_from n (xs ++ ys) ≡ read_from n xs ++ read_from (n + length xs) ys
 read_append n xs ys = ap (filter (λ line. is_read line.text)) (numbered_append n xs ys)
-    ∙ filter-append (λ line. is_read line.text) (numbered n xs) (numbered (n + length xs) ys)
+    ∙ filter-append (λ line. is_read line.text) (numbered_lines n xs) (numbered_lines (n + length xs) ys)
 
 -- a line that is read stands in front of those behind it
 pub read_cons : (n : ℕ) (x : List ℕ) (xs : List (List ℕ)) → is_read x ≡ true → read_from n (x ∷ xs) ≡ one_line n x ∷ read_from (suc n) xs
@@ -51,7 +51,7 @@ pub skip_cons : (n : ℕ) (x : List ℕ) (xs : List (List ℕ)) → is_read x �
 skip_cons n x xs e = ap (λ (t : Bool). cond t (one_line n x ∷ read_from (suc n) xs) (read_from (suc n) xs)) e
 
 -- what the first lines write, and the next one
-pub write_more : (xs : List (List ℕ)) (x : List ℕ) (nodes after : Nodes) → WriteNodes (read_from 1 xs) nodes → Adds x nodes after
+pub write_more : (xs : List (List ℕ)) (x : List ℕ) (nodes after : Nodes) → WriteNodes (read_from 1 xs) nodes → AddsNodeOfLine x nodes after
     → WriteNodes (read_from 1 (xs ++ x ∷ [])) after
 write_more xs x nodes after w a = by (is_read x) refl
   where
@@ -89,7 +89,7 @@ bad_line xs x ys nodes reason w e bad = record {
 -- a fault at a line, as a fault of the file
 pub refuses_at : (xs : List (List ℕ)) (x : List ℕ) (ys : List (List ℕ)) (nodes : Nodes) (fault : LineFault) → WriteNodes (read_from 1 xs) nodes
     → RefusesLine x nodes fault
-    → Refuses (read_from 1 (xs ++ x ∷ ys)) (load_fault (1 + length xs) fault)
+    → RefusesNodeFile (read_from 1 (xs ++ x ∷ ys)) (load_fault (1 + length xs) fault)
 refuses_at xs x ys nodes (Bad reason) w r = bad_line xs x ys nodes reason w r.0 r.1
 refuses_at xs x ys nodes NoMemory w r = tt
 
@@ -132,7 +132,7 @@ at_count : (text : List ℕ) (n k : ℕ) (x : List ℕ) → n ≡ k → IsPiece 
 at_count text n k x e h = subst (λ (m : ℕ). IsPiece text m x) (sym e) h
 
 pub turn_more : (text : List ℕ) (n k : ℕ) (x : List ℕ) (nodes after : Nodes) → n ≡ k → IsPiece text k x
-    → WriteNodes (read_from 1 (take n (lines_of text))) nodes → Adds (strip_carriage_return x) nodes after
+    → WriteNodes (read_from 1 (take n (lines_of text))) nodes → AddsNodeOfLine (strip_carriage_return x) nodes after
     → WriteNodes (read_from 1 (take (n + 1) (lines_of text))) after
 turn_more text n k x nodes after e h w a =
     let here = at_count text n k x e h in
@@ -141,15 +141,15 @@ turn_more text n k x nodes after e h w a =
 
 pub turn_fault : (text : List ℕ) (n k : ℕ) (x : List ℕ) (nodes : Nodes) (fault : LineFault) → n ≡ k → IsPiece text k x
     → WriteNodes (read_from 1 (take n (lines_of text))) nodes → RefusesLine (strip_carriage_return x) nodes fault
-    → Refuses (node_lines text) (load_fault (n + 1) fault)
+    → RefusesNodeFile (node_lines text) (load_fault (n + 1) fault)
 turn_fault text n k x nodes fault e h w r =
     let here = at_count text n k x e h in
     let front = take n (lines_of text) in
     let number : 1 + length front ≡ n + 1 = omega (arith, length_first (pieces 10 text) n (omega arith)) in
-    let at : Refuses (read_from 1 (front ++ strip_carriage_return x ∷ drop (suc n) (lines_of text))) (load_fault (1 + length front) fault) =
+    let at : RefusesNodeFile (read_from 1 (front ++ strip_carriage_return x ∷ drop (suc n) (lines_of text))) (load_fault (1 + length front) fault) =
     refuses_at front (strip_carriage_return x) (drop (suc n) (lines_of text)) nodes fault w r in
-    subst (λ (m : ℕ). Refuses (node_lines text) (load_fault m fault)) number
-    (subst (λ (t : List (List ℕ)). Refuses (read_from 1 t) (load_fault (1 + length front) fault)) (sym (lines_at (pieces 10 text) n x here.0 here.1)) at)
+    subst (λ (m : ℕ). RefusesNodeFile (node_lines text) (load_fault m fault)) number
+    (subst (λ (t : List (List ℕ)). RefusesNodeFile (read_from 1 t) (load_fault (1 + length front) fault)) (sym (lines_at (pieces 10 text) n x here.0 here.1)) at)
 
 pub turns_end : (text : List ℕ) (n k : ℕ) (nodes : Nodes) → n ≡ k → k ≡ length (pieces 10 text) → WriteNodes (read_from 1 (take n (lines_of text))) nodes
     → WriteNodes (node_lines text) nodes

@@ -17,7 +17,7 @@ use Rattle.base64.specs.Rfc4648.{encode_symbols, encode_group, padding_len}
 use Rattle.std.proofs.lemmas.List.{length-take}
 use Rattle.uuid.specs.Text.{parsed, parsed_hyphenated, parsed_simple, parsed_braced, parsed_urn, digits_of, has_hyphens, is_hex_digit, byte_of_digits, by_index}
 use Rattle.uuid.proofs.TextLemmas.{by_index_length}
-use Rattle.ua_builtin.specs.Signed.{signed, in_range, octets_of}
+use Rattle.ua_builtin.specs.Signed.{signed, in_range, width_octets}
 use Rattle.ua_builtin.specs.Counted.{text, counted}
 use Rattle.ua_wire.proofs.Readers.{both_true}
 use Rattle.ua_nodes.specs.ValueText.{is_numeral, number_below, signed_denoted, negative}
@@ -41,11 +41,11 @@ below radix bound text n e = by (is_numeral radix text && nat_lt (digits_value r
 pub wider : (n a b : ℕ) → a ≤ b → nat_lt n a ≡ true → nat_lt n b ≡ true
 wider n a b le h = lt-ltb n b (let less = ltb-true n a h in omega arith)
 
-pub signed_fits : (w : Width) (z : ℤ) → 2 ^ hbits w ≤ 256 ^ octets_of w → 2 ^ bits w ≤ 256 ^ octets_of w → 0 < 2 ^ bits w → in_range w z ≡ true
+pub signed_fits : (w : Width) (z : ℤ) → 2 ^ hbits w ≤ 256 ^ width_octets w → 2 ^ bits w ≤ 256 ^ width_octets w → 0 < 2 ^ bits w → in_range w z ≡ true
     → (signed w).encodable z ≡ true
-signed_fits w (pos n) half full some h = both_are (nat_lt n (2 ^ hbits w)) (nat_lt n (256 ^ octets_of w)) h (wider n (2 ^ hbits w) (256 ^ octets_of w) half h)
+signed_fits w (pos n) half full some h = both_are (nat_lt n (2 ^ hbits w)) (nat_lt n (256 ^ width_octets w)) h (wider n (2 ^ hbits w) (256 ^ width_octets w) half h)
 signed_fits w (negsuc n) half full some h =
-    both_are (nat_lt n (2 ^ hbits w)) (nat_lt (2 ^ bits w - suc n) (256 ^ octets_of w)) h (lt-ltb (2 ^ bits w - suc n) (256 ^ octets_of w) (omega arith))
+    both_are (nat_lt n (2 ^ hbits w)) (nat_lt (2 ^ bits w - suc n) (256 ^ width_octets w)) h (lt-ltb (2 ^ bits w - suc n) (256 ^ width_octets w) (omega arith))
 
 negative_range : (w : Width) (m : ℕ) → 0 < 2 ^ hbits w → nat_lt m (2 ^ hbits w + 1) ≡ true → in_range w (negative m) ≡ true
 negative_range w zero some h = lt-ltb 0 (2 ^ hbits w) some

@@ -11,10 +11,10 @@ use Rattle.ua_builtin.specs.declared.node_id.NodeId.{NodeId}
 use Rattle.ua_variant.specs.Data.{VariantData, null}
 use Rattle.ua_structures.specs.declared.attribute.WriteValue.{WriteValue}
 use Rattle.ua_nodes.specs.declared.node.Variable.{Variable}
-use Rattle.ua_nodes.specs.Limit.{after_limited, given_memory, growth, items_within, nodes_memory, outgrows, room_after, room_of}
+use Rattle.ua_nodes.specs.Limit.{after_limited, given_memory, growth, items_within, nodes_memory, outgrows, room_after, room_left}
 use Rattle.ua_nodes.specs.Memory.{value_memory}
 use Rattle.ua_nodes.specs.Table.{Nodes, node_at, same_id}
-use Rattle.ua_nodes.specs.Write.{after_write, is_good_for, last_good, later, or_else, write_item_reasons, written_by}
+use Rattle.ua_nodes.specs.Write.{after_write, is_good_for, last_good, later, content_or, write_item_reasons, written_by}
 use Rattle.ua_nodes.proofs.Writes.{after_nothing, past_head}
 
 -- ---- one node
@@ -23,7 +23,7 @@ use Rattle.ua_nodes.proofs.Writes.{after_nothing, past_head}
 abbrev more_of : Variable → WriteValue → ℕ
 more_of v item = given_memory item.value.value - value_memory v.value
 
-held_is : (o : Option VariantData) → value_memory (or_else o null) ≡ given_memory o
+held_is : (o : Option VariantData) → value_memory (content_or o null) ≡ given_memory o
 held_is None = refl
 held_is (Some v) = refl
 
@@ -98,4 +98,4 @@ within room nodes (item ∷ items) = by (growth (node_at nodes item.node_id) ite
 pub kept_within : (most : ℕ) (items : List WriteValue) (moment : DateTime) (nodes : Nodes) → IsDistinct same_id (keys_of nodes)
     → nodes_memory (after_limited (Some most) items moment nodes) ≤ max most (nodes_memory nodes)
 kept_within most items moment nodes d =
-    omega (arith, all_items (items_within (room_of most nodes) nodes items) moment nodes d, within (room_of most nodes) nodes items)
+    omega (arith, all_items (items_within (room_left most nodes) nodes items) moment nodes d, within (room_left most nodes) nodes items)

@@ -8,7 +8,7 @@ use Rattle.ua_builtin.specs.declared.node_id.NodeId.{NodeId}
 use Rattle.ua_nodes.specs.declared.fault.LineReason.{LineReason}
 use Rattle.ua_nodes.specs.declared.fault.LineReason.TheVariants.{Fields, Node, Access, Name, Kind, Value, Duplicate}
 use Rattle.ua_nodes.specs.declared.node.Variable.{Variable}
-use Rattle.ua_nodes.specs.NodeFile.{FileLine, field, WritesNode, Holds, place, IsFirstReason, WriteNodes, IsFirstBad}
+use Rattle.ua_nodes.specs.NodeFile.{FileLine, field, WritesNode, HoldsAgainstLine, place, IsFirstReason, WriteNodes, IsFirstBad}
 use Rattle.ua_nodes.specs.TypeName.{type_denoted}
 use Rattle.ua_nodes.specs.ValueText.{value_denoted}
 use Rattle.ua_nodes.specs.Table.{Nodes, node_at, same_id}
@@ -96,7 +96,7 @@ none_before (x ∷ xs) node after d = by (same_id node.0 x.0) refl (none_before 
     by false e more = more
 
 no_duplicate : (line : List ℕ) (node : NodeId × Variable) (before : Nodes) → WritesNode line node → node_at before node.0 ≡ None
-    → ¬ (Holds Duplicate before line)
+    → ¬ (HoldsAgainstLine Duplicate before line)
 no_duplicate line node before w none h =
     let same : h.0 ≡ node.0 = one_node h.0 node.0 (field 0 line) h.1.1 w.id.1 in
     let there : IsSome (node_at before node.0) = subst (λ (k : NodeId). IsSome (node_at before k)) same h.2 in
@@ -104,7 +104,7 @@ no_duplicate line node before w none h =
     cc
 
 no_reason : (line : List ℕ) (node : NodeId × Variable) (before : Nodes) (reason : LineReason) → WritesNode line node → node_at before node.0 ≡ None
-    → ¬ (Holds reason before line)
+    → ¬ (HoldsAgainstLine reason before line)
 no_reason line node before Fields w none = pass_written line node before w Fields (omega arith)
 no_reason line node before Node w none = pass_written line node before w Node (omega arith)
 no_reason line node before Access w none = pass_written line node before w Access (omega arith)

@@ -6,8 +6,8 @@ use Rattle.std.specs.Map.{keys_of, values_of, set_value}
 use Rattle.indexmap.specs.Layout.{set_value_at}
 use Rattle.ua_builtin.specs.declared.node_id.NodeId.{NodeId}
 use Rattle.ua_nodes.specs.Set.{after_set_at, set_node, set_refusal, set_refusal_at}
-use Rattle.ua_nodes.specs.Sound.{IsSound}
-use Rattle.ua_nodes.specs.Table.{Nodes, id_at, node_at, same_id}
+use Rattle.ua_nodes.specs.Sound.{AreNodesSound}
+use Rattle.ua_nodes.specs.Table.{Nodes, node_id_at, node_at, same_id}
 use Rattle.ua_nodes.specs.declared.fault.SetFault.{SetFault}
 use Rattle.ua_nodes.specs.declared.node.Variable.{Variable}
 use Rattle.ua_nodes.specs.declared.set.Reading.{Reading}
@@ -17,7 +17,7 @@ use Rattle.ua_nodes.proofs.Writes.{same_id_is}
 -- the node at this place is this one: its NodeId names it, and it is set by its place as by its NodeId
 pub record IsPlaced (nodes : Nodes) (index : ℕ) (v : Variable) : Type 0 where
   pub id : NodeId
-  pub id_is : id_at nodes index ≡ Some id
+  pub id_is : node_id_at nodes index ≡ Some id
   pub named : node_at nodes id ≡ Some v
   pub sets : (w : Variable) → set_value_at nodes index w ≡ set_value (same_id id) nodes w
 
@@ -39,7 +39,7 @@ at_front node nodes =
 
 -- what is apart from all keys is apart from that at a place
 apart_at : (k : NodeId) (nodes : Nodes) (index : ℕ) (id : NodeId) → AllByRecursion (λ (y : NodeId). same_id k y ≡ false) (keys_of nodes)
-    → id_at nodes index ≡ Some id → same_id k id ≡ false
+    → node_id_at nodes index ≡ Some id → same_id k id ≡ false
 apart_at k [] index id all e = absurd cc
 apart_at k (node ∷ nodes) zero id all e = subst (λ (y : NodeId). same_id k y ≡ false) (same e) all.0
   where
@@ -74,24 +74,24 @@ placed (node ∷ nodes) zero v d e = subst (IsPlaced (node ∷ nodes) 0) (some_s
 placed (node ∷ nodes) (suc i) v d e = behind node nodes i v d.0 (placed nodes i v d.1 e)
 
 -- past the end there is no NodeId
-pub none_at : (nodes : Nodes) (index : ℕ) → slice_get (values_of nodes) index ≡ None → id_at nodes index ≡ None
+pub none_at : (nodes : Nodes) (index : ℕ) → slice_get (values_of nodes) index ≡ None → node_id_at nodes index ≡ None
 none_at [] index e = refl
 none_at (node ∷ nodes) zero e = absurd cc
 none_at (node ∷ nodes) (suc i) e = none_at nodes i e
 
 -- what setting the node at a place leaves
 pub set_placed : (nodes : Nodes) (index : ℕ) (v : Variable) (r : Reading) → IsPlaced nodes index v
-    → set_value_at nodes index (set_node v r) ≡ after_set_at (id_at nodes index) r nodes
+    → set_value_at nodes index (set_node v r) ≡ after_set_at (node_id_at nodes index) r nodes
 set_placed nodes index v r p =
     p.sets (set_node v r) ∙ sym (set_some p.id r nodes v p.named) ∙ sym (ap (λ (o : Option NodeId). after_set_at o r nodes) p.id_is)
 
 -- why it is refused
 pub refusal_placed : (nodes : Nodes) (index : ℕ) (v : Variable) (r : Reading) → IsPlaced nodes index v
-    → set_refusal_at (id_at nodes index) r nodes ≡ set_refusal (Some v) r
+    → set_refusal_at (node_id_at nodes index) r nodes ≡ set_refusal (Some v) r
 refusal_placed nodes index v r p = ap (λ (o : Option NodeId). set_refusal_at o r nodes) p.id_is ∙ ap (λ (o : Option Variable). set_refusal o r) p.named
 
 -- a sound table stays sound
-pub set_at_sound : (o : Option NodeId) (r : Reading) (nodes : Nodes) → IsSound nodes → IsSound (after_set_at o r nodes)
+pub set_at_sound : (o : Option NodeId) (r : Reading) (nodes : Nodes) → AreNodesSound nodes → AreNodesSound (after_set_at o r nodes)
 set_at_sound None r nodes s = s
 set_at_sound (Some id) r nodes s = set_sound id r nodes s
 

@@ -10,7 +10,7 @@ use Rattle.ua_builtin.specs.Exact.{◌>>=◌}
 use Rattle.ua_nodes.specs.declared.range.IndexRange.{IndexRange}
 use Rattle.ua_variant.specs.Data.{ScalarData, many}
 use Rattle.ua_variant.specs.View.{row, row_list, many_of}
-use Rattle.ua_nodes.specs.Range.{places, single, between, range, range_between, ranged_from, ranged, list_in, elements_of, part_of}
+use Rattle.ua_nodes.specs.Range.{places, single_index, between, range, range_between, ranged_from, ranged, list_in, elements_of_array, range_part_of}
 use Rattle.ua_nodes.specs.ValueText.{all_digits, is_numeral, unsigned_denoted}
 use Rattle.ua_nodes.proofs.Pieces.{pieces, pieces_none, at_least_one}
 use Rattle.ua_wire.proofs.Readers.{both_true}
@@ -54,7 +54,7 @@ range_cut text front back e = by (pieces 58 back) refl ∙ sym (ap range_between
         ∙ sym (nothing_then (unsigned_denoted 32 front))
 
 -- a text without a colon
-pub range_whole : (text : List ℕ) → pieces 58 text ≡ text ∷ [] → single text ≡ range text
+pub range_whole : (text : List ℕ) → pieces 58 text ≡ text ∷ [] → single_index text ≡ range text
 range_whole text e = sym (ap range_between e)
 
 -- ---- elements
@@ -106,13 +106,13 @@ row_back [] = refl
 row_back (s ∷ ss) = ap (λ (t : List ScalarData). s ∷ t) (row_back ss)
 
 -- the elements of an array of the code
-pub elements_many : (kind : ℕ) (items : Option (List ScalarData)) (ds : List ℤ) → elements_of (many_of kind items ds) ≡ list_in items
+pub elements_many : (kind : ℕ) (items : Option (List ScalarData)) (ds : List ℤ) → elements_of_array (many_of kind items ds) ≡ list_in items
 elements_many kind None ds = refl
 elements_many kind (Some ss) ds = row_back ss
 
 -- the part of an array of the code
 pub part_many : (r : IndexRange) (kind : ℕ) (items : Option (List ScalarData)) (ds : List ℤ)
-    → part_of r (many_of kind items ds) ≡ many kind (row (ranged r (list_in items))) []
+    → range_part_of r (many_of kind items ds) ≡ many kind (row (ranged r (list_in items))) []
 part_many r kind None ds = refl
 part_many r kind (Some ss) ds = ap (λ (t : List ScalarData). many kind (row (ranged r t)) []) (row_back ss)
 

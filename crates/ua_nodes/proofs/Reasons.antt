@@ -8,14 +8,14 @@ use Rattle.ua_nodes.specs.declared.fault.LineReason.TheVariants.{Fields, Node, A
 use Rattle.ua_nodes.specs.declared.node.Access.{Access as Rights}
 use Rattle.ua_nodes.specs.declared.node.Variable.{Variable}
 use Rattle.ua_variant.specs.Data.{VariantData}
-use Rattle.ua_nodes.specs.NodeFile.{fields, field, NamesId, access_denoted, name_denoted, WritesNode, Holds, place, IsFirstReason}
+use Rattle.ua_nodes.specs.NodeFile.{fields, field, NamesId, access_denoted, name_denoted, WritesNode, HoldsAgainstLine, place, IsFirstReason}
 use Rattle.ua_nodes.specs.Table.{Nodes, node_at}
 use Rattle.ua_nodes.specs.TypeName.{type_denoted}
 use Rattle.ua_nodes.specs.ValueText.{value_denoted}
 
 -- no reason in front of a place holds
 abbrev pub Passes : ℕ → Nodes → List ℕ → Type 0
-Passes n before line = (other : LineReason) → place other < n → ¬ (Holds other before line)
+Passes n before line = (other : LineReason) → place other < n → ¬ (HoldsAgainstLine other before line)
 
 reason_at : ℕ → LineReason
 reason_at zero = Fields
@@ -43,11 +43,11 @@ pub pass_none : (before : Nodes) (line : List ℕ) → Passes 0 before line
 pass_none before line other less = absurd (omega arith)
 
 -- one reason more that does not hold
-pub pass : (r : LineReason) (before : Nodes) (line : List ℕ) → Passes (place r) before line → ¬ (Holds r before line) → Passes (suc (place r)) before line
+pub pass : (r : LineReason) (before : Nodes) (line : List ℕ) → Passes (place r) before line → ¬ (HoldsAgainstLine r before line) → Passes (suc (place r)) before line
 pass r before line p h other less held = absurd (p other (omega (arith, apart)) held)
   where
     apart : place other ≢ place r
-    apart e = h (subst (λ (q : LineReason). Holds q before line) (same_place other r e) held)
+    apart e = h (subst (λ (q : LineReason). HoldsAgainstLine q before line) (same_place other r e) held)
 
 none_some : {A : Type 0} (o : Option A) (x : A) → o ≡ Some x → ¬ (o ≡ None)
 none_some o x e n = absurd cc

@@ -7,8 +7,8 @@ use Rattle.ua_builtin.specs.Reasons.{first_reason}
 use Rattle.ua_builtin.specs.declared.node_id.NodeId.{NodeId}
 use Rattle.ua_variant.specs.Encodable.{data_value_encodable}
 use Rattle.ua_variant.specs.View.{data_value_of}
-use Rattle.ua_nodes.specs.Set.{after_set, given_by, set_node, set_reasons, set_refusal, with_reading}
-use Rattle.ua_nodes.specs.Sound.{IsSound, IsSoundNode}
+use Rattle.ua_nodes.specs.Set.{after_set, value_of_reading, set_node, set_reasons, set_refusal, with_reading}
+use Rattle.ua_nodes.specs.Sound.{AreNodesSound, IsSoundNode}
 use Rattle.ua_nodes.specs.Table.{Nodes, node_at, same_id}
 use Rattle.ua_nodes.specs.Write.{holds_type, stored}
 use Rattle.ua_nodes.specs.declared.fault.SetFault.{SetFault}
@@ -49,40 +49,40 @@ unfolding after_set
 kept_by id r nodes fault h = by (node_at nodes id) refl h
   where
     same : (v : Variable) (o : Option SetFault) → node_at nodes id ≡ Some v → o ≡ Some fault
-        → set_value (same_id id) nodes (cond (is_none o) (stored v (given_by r) r.source_time) v) ≡ nodes
+        → set_value (same_id id) nodes (cond (is_none o) (stored v (value_of_reading r) r.source_time) v) ≡ nodes
     same v None e f = absurd cc
     same v (Some g) e f = same_value id nodes v e
 
     by : (o : Option Variable) → node_at nodes id ≡ o → set_refusal o r ≡ Some fault → with_reading o id r nodes ≡ nodes
     by None e f = refl
-    by (Some v) e f = same v (first_reason (set_reasons v (given_by r))) e f
+    by (Some v) e f = same v (first_reason (set_reasons v (value_of_reading r))) e f
 
 -- ---- a sound table stays sound
 
 node_sound : (id : NodeId) (v : Variable) (r : Reading) → IsSoundNode id v → IsSoundNode id (set_node v r)
-node_sound id v r w = by (holds_type v.kind v.array (given_by r).value) (data_value_encodable (data_value_of (given_by r))) refl refl
+node_sound id v r w = by (holds_type v.kind v.array (value_of_reading r).value) (data_value_encodable (data_value_of (value_of_reading r))) refl refl
   where
-    by : (a b : Bool) → holds_type v.kind v.array (given_by r).value ≡ a → data_value_encodable (data_value_of (given_by r)) ≡ b
-        → IsSoundNode id (cond (is_none (first_reason ((Mismatch, not a) ∷ (NotWritable, not b) ∷ []))) (stored v (given_by r) r.source_time) v)
+    by : (a b : Bool) → holds_type v.kind v.array (value_of_reading r).value ≡ a → data_value_encodable (data_value_of (value_of_reading r)) ≡ b
+        → IsSoundNode id (cond (is_none (first_reason ((Mismatch, not a) ∷ (NotWritable, not b) ∷ []))) (stored v (value_of_reading r) r.source_time) v)
     by true true e f = record { id_fits = w.id_fits; name_fits = w.name_fits; of_type = e; value_fits = f }
     by true false e f = w
     by false b e f = w
 
-value_sound : (id : NodeId) (nodes : Nodes) (v : Variable) (r : Reading) → node_at nodes id ≡ Some v → IsSound nodes
-    → IsSound (set_value (same_id id) nodes (set_node v r))
+value_sound : (id : NodeId) (nodes : Nodes) (v : Variable) (r : Reading) → node_at nodes id ≡ Some v → AreNodesSound nodes
+    → AreNodesSound (set_value (same_id id) nodes (set_node v r))
 value_sound id [] v r h s = tt
 value_sound id (node ∷ nodes) v r h s = by (same_id id node.0) h (λ e. value_sound id nodes v r e s.1)
   where
-    by : (t : Bool) → cond t (Some node.1) (node_at nodes id) ≡ Some v → (node_at nodes id ≡ Some v → IsSound (set_value (same_id id) nodes (set_node v r)))
-        → IsSound (cond t ((node.0, set_node v r) ∷ nodes) (node ∷ set_value (same_id id) nodes (set_node v r)))
+    by : (t : Bool) → cond t (Some node.1) (node_at nodes id) ≡ Some v → (node_at nodes id ≡ Some v → AreNodesSound (set_value (same_id id) nodes (set_node v r)))
+        → AreNodesSound (cond t ((node.0, set_node v r) ∷ nodes) (node ∷ set_value (same_id id) nodes (set_node v r)))
     by true k more = (subst (λ (x : Variable). IsSoundNode node.0 (set_node x r)) (some_same k) (node_sound node.0 node.1 r s.0), s.1)
     by false k more = (s.0, more k)
 
-pub set_sound : (id : NodeId) (r : Reading) (nodes : Nodes) → IsSound nodes → IsSound (after_set id r nodes)
+pub set_sound : (id : NodeId) (r : Reading) (nodes : Nodes) → AreNodesSound nodes → AreNodesSound (after_set id r nodes)
 unfolding after_set
 set_sound id r nodes s = by (node_at nodes id) refl
   where
-    by : (o : Option Variable) → node_at nodes id ≡ o → IsSound (with_reading o id r nodes)
+    by : (o : Option Variable) → node_at nodes id ≡ o → AreNodesSound (with_reading o id r nodes)
     by None e = s
     by (Some v) e = value_sound id nodes v r e s
 
@@ -127,5 +127,5 @@ pub set_own : (id : NodeId) (r : Reading) (nodes : Nodes) (v : Variable) → nod
 set_own id r nodes v h = ap (λ (n : Nodes). node_at n id) (set_some id r nodes v h) ∙ value_own id v (set_node v r) nodes h
 
 -- a reading that is not refused is what the node holds then
-pub set_holds : (v : Variable) (r : Reading) → set_refusal (Some v) r ≡ None → set_node v r ≡ stored v (given_by r) r.source_time
-set_holds v r e = ap (λ (o : Option SetFault). cond (is_none o) (stored v (given_by r) r.source_time) v) e
+pub set_holds : (v : Variable) (r : Reading) → set_refusal (Some v) r ≡ None → set_node v r ≡ stored v (value_of_reading r) r.source_time
+set_holds v r e = ap (λ (o : Option SetFault). cond (is_none o) (stored v (value_of_reading r) r.source_time) v) e

@@ -18,7 +18,7 @@ use Rattle.ua_variant.specs.Data.{DataFields, LeafData, boolean, sbyte, byte, in
 use Rattle.ua_variant.specs.Data.{string, date_time as date_time_leaf, guid, byte_string, xml_element, node_id, expanded_node_id}
 use Rattle.ua_variant.specs.Data.{status_code, qualified_name, localized_text, extension_object, reserved, ScalarData, leaf, data_value}
 use Rattle.ua_variant.specs.Data.{variant, diagnostic, ScalarsData, no_scalars, scalar, VariantData, null, one, absent, many}
-use Rattle.ua_variant.specs.Encodable.{kind_of, is_kind, dims_encodable, row_length, scalar_fits, scalars_fit}
+use Rattle.ua_variant.specs.Encodable.{kind_of_scalar, is_kind, dims_encodable, row_length, scalar_fits, scalars_fit}
 use Rattle.ua_variant.specs.Encodable.{variant_fits, data_fields_encodable, data_value_encodable}
 use Rattle.ua_variant.specs.Leaf.{leaf_kind, leaf_encodable}
 use Rattle.ua_variant.specs.Measure.{scalars_depth, variant_depth}
@@ -28,10 +28,10 @@ use Rattle.ua_nodes.specs.declared.attribute.Attribute.TheVariants as attribute
 use Rattle.ua_nodes.specs.declared.node.Variable.{Variable}
 use Rattle.ua_nodes.specs.declared.range.IndexRange.{IndexRange}
 use Rattle.ua_nodes.specs.declared.stamps.Stamps.{Stamps}
-use Rattle.ua_nodes.specs.Attribute.{level, access_level, single, type_node, attribute_of, attribute_value}
-use Rattle.ua_nodes.specs.Range.{asked_range, is_within, ranged_from, ranged, part_of}
-use Rattle.ua_nodes.specs.Read.{read_item_reasons, gives_source, gives_server, refused, where_so, stamps_of, value_read, with_stamps, read_by, read_answer}
-use Rattle.ua_nodes.specs.Sound.{held_fields, IsSoundNode, IsSound}
+use Rattle.ua_nodes.specs.Attribute.{level, access_level, scalar_variant, type_node, attribute_of, attribute_value}
+use Rattle.ua_nodes.specs.Range.{asked_range, is_within, ranged_from, ranged, range_part_of}
+use Rattle.ua_nodes.specs.Read.{read_item_reasons, gives_source, gives_server, status_alone, where_so, stamps_of, value_read, with_stamps, read_by, read_answer}
+use Rattle.ua_nodes.specs.Sound.{held_fields, IsSoundNode, AreNodesSound}
 use Rattle.ua_builtin.specs.Reasons.{first_reason}
 use Rattle.ua_nodes.specs.Status.{bad_node_id_unknown, bad_attribute_id_invalid, bad_index_range_invalid}
 use Rattle.ua_nodes.specs.Status.{bad_index_range_no_data, bad_data_encoding_invalid, bad_not_readable}
@@ -45,7 +45,7 @@ use Rattle.ua_nodes.proofs.Writes.{same_id_is}
 
 -- ---- refusals
 
-pub code_fits : (code : StatusCode) → nat_lt code.code 4294967296 ≡ true → data_value_encodable (refused code) ≡ true
+pub code_fits : (code : StatusCode) → nat_lt code.code 4294967296 ≡ true → data_value_encodable (status_alone code) ≡ true
 unfolding status_code_format data_fields_encodable
 code_fits code h = rw h refl
 
@@ -76,7 +76,7 @@ record Fits (x : VariantData) : Type 0 where
   depth : variant_depth x ≤ 99
   fits : variant_fits x ≡ true
 
-single_fits : (l : LeafData) → leaf_encodable l ≡ true → Fits (single l)
+single_fits : (l : LeafData) → leaf_encodable l ≡ true → Fits (scalar_variant l)
 single_fits l h = record { depth = omega arith; fits = h }
 
 namespace_fits : (ns : ℕ) (i : Identifier) → node_id_format.encodable (node ns i) ≡ true → nat_lt ns 65536 ≡ true
@@ -133,7 +133,7 @@ leaf_small (localized_text x) h = lit< tt
 leaf_small (extension_object x) h = lit< tt
 leaf_small (reserved k x) h = absurd cc
 
-scalar_small : (s : ScalarData) → variant_fits (one s) ≡ true → kind_of s < 4294967296
+scalar_small : (s : ScalarData) → variant_fits (one s) ≡ true → kind_of_scalar s < 4294967296
 scalar_small (leaf l) h = leaf_small l h
 scalar_small (data_value d) h = lit< tt
 scalar_small (variant v) h = lit< tt
@@ -151,7 +151,7 @@ ap_less e h = omega arith
 -- the type id of a value that can be written
 kind_fits : (kind : ℕ) (array : Bool) (x : VariantData) → is_of_type kind array x ≡ true → variant_fits x ≡ true → kind < 4294967296
 kind_fits kind array null h f = absurd cc
-kind_fits kind array (one s) h f = ap_less (eqb-true (kind_of s) kind (both_true (not array) (nat_eq (kind_of s) kind) h).1) (scalar_small s f)
+kind_fits kind array (one s) h f = ap_less (eqb-true (kind_of_scalar s) kind (both_true (not array) (nat_eq (kind_of_scalar s) kind) h).1) (scalar_small s f)
 kind_fits kind array (absent k []) h f = ap_less (same_kind kind k array true h) (kind_small k f)
 kind_fits kind array (absent k (d ∷ ds)) h f = absurd cc
 kind_fits kind array (many k ss ds) h f =
@@ -179,10 +179,10 @@ attribute_fits id v attribute.UserAccessLevel w value = single_fits (byte (acces
 part_fits : (r : IndexRange) (p kind : ℕ) (ss : ScalarsData) → scalars_fit kind ss ≡ true → scalars_fit kind (row (ranged_from r p (row_list ss))) ≡ true
 part_fits r p kind no_scalars h = refl
 part_fits r p kind (scalar s ss) h =
-    let first = both_true (nat_eq (kind_of s) kind && scalar_fits s) (scalars_fit kind ss) h in
+    let first = both_true (nat_eq (kind_of_scalar s) kind && scalar_fits s) (scalars_fit kind ss) h in
     by (is_within r p) first.0 (part_fits r (suc p) kind ss first.1)
   where
-    by : (t : Bool) → (nat_eq (kind_of s) kind && scalar_fits s) ≡ true → scalars_fit kind (row (ranged_from r (suc p) (row_list ss))) ≡ true
+    by : (t : Bool) → (nat_eq (kind_of_scalar s) kind && scalar_fits s) ≡ true → scalars_fit kind (row (ranged_from r (suc p) (row_list ss))) ≡ true
         → scalars_fit kind (row (cond t (s ∷ ranged_from r (suc p) (row_list ss)) (ranged_from r (suc p) (row_list ss)))) ≡ true
     by true here more = both_are _ _ here more
     by false here more = more
@@ -205,7 +205,7 @@ part_length r p (scalar s ss) = by (is_within r p) (part_length r (suc p) ss)
     by true more = omega arith
     by false more = omega arith
 
-part_of_fits : (r : IndexRange) (x : VariantData) → Fits x → Fits (part_of r x)
+part_of_fits : (r : IndexRange) (x : VariantData) → Fits x → Fits (range_part_of r x)
 part_of_fits r null h = record { depth = omega arith; fits = refl }
 part_of_fits r (one s) h = record { depth = omega arith; fits = refl }
 part_of_fits r (absent kind []) h = let known = h.fits in record { depth = omega arith; fits = rw known refl }
@@ -271,7 +271,7 @@ by_reason None v item stamps moment m w c =
     (stamps_of v (nat_eq item.attribute_id 13) stamps moment)
     (λ a. value_read_fits item.node_id v a (asked_range item.index_range) w value) (stamps_fit v (nat_eq item.attribute_id 13) stamps moment m parts.0)
 
-pub sound_at : (nodes : Nodes) (id : NodeId) (v : Variable) → IsSound nodes → node_at nodes id ≡ Some v → IsSoundNode id v
+pub sound_at : (nodes : Nodes) (id : NodeId) (v : Variable) → AreNodesSound nodes → node_at nodes id ≡ Some v → IsSoundNode id v
 sound_at [] id v h e = absurd cc
 sound_at (x ∷ nodes) id v h e = by (same_id id x.0) refl e (λ f. sound_at nodes id v h.1 f)
   where
@@ -282,7 +282,7 @@ sound_at (x ∷ nodes) id v h e = by (same_id id x.0) refl e (λ f. sound_at nod
         subst (IsSoundNode id) v_is (subst (λ (k : NodeId). IsSoundNode k x.1) (sym id_is) h.0)
     by false same f more = more f
 
-pub read_sound : (nodes : Nodes) (item : ReadValueId) (stamps : Stamps) (moment : DateTime) → date_time.encodable moment ≡ true → IsSound nodes
+pub read_sound : (nodes : Nodes) (item : ReadValueId) (stamps : Stamps) (moment : DateTime) → date_time.encodable moment ≡ true → AreNodesSound nodes
     → data_value_encodable (read_answer (node_at nodes item.node_id) item stamps moment) ≡ true
 read_sound nodes item stamps moment m h = by (node_at nodes item.node_id) refl
   where

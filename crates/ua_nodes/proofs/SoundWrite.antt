@@ -14,12 +14,12 @@ use Rattle.ua_variant.specs.Measure.{variant_depth}
 use Rattle.ua_variant.specs.View.{value_within, data_fields_of, data_value_of}
 use Rattle.ua_nodes.specs.declared.node.Variable.{Variable}
 use Rattle.ua_nodes.specs.Attribute.{is_attribute}
-use Rattle.ua_nodes.specs.Read.{is_filled}
-use Rattle.ua_nodes.specs.Sound.{held_fields, held, IsSoundNode, IsSound}
+use Rattle.ua_nodes.specs.Read.{is_filled_text}
+use Rattle.ua_nodes.specs.Sound.{held_fields, held_value, IsSoundNode, AreNodesSound}
 use Rattle.ua_builtin.specs.Reasons.{first_reason}
 use Rattle.ua_nodes.specs.Status.{bad_attribute_id_invalid, bad_not_writable, bad_write_not_supported, bad_type_mismatch}
 use Rattle.ua_nodes.specs.Table.{Nodes}
-use Rattle.ua_nodes.specs.Write.{is_of_type, holds_type, write_item_reasons, or_else, time_of, picoseconds_of}
+use Rattle.ua_nodes.specs.Write.{is_of_type, holds_type, write_item_reasons, content_or, time_of, picoseconds_of}
 use Rattle.ua_nodes.specs.Write.{stored, written_by, is_good_for, later, last_good, after_write}
 use Rattle.ua_wire.proofs.Readers.{both_true}
 use Rattle.ua_nodes.proofs.Fits.{both_are}
@@ -27,7 +27,7 @@ use Rattle.ua_nodes.proofs.FieldsFit.{field_fits, parts_of, fields_from}
 
 -- ---- one node more
 
-pub sound_with : (nodes : Nodes) (id : NodeId) (v : Variable) → IsSound nodes → IsSoundNode id v → IsSound (nodes ++ (id, v) ∷ [])
+pub sound_with : (nodes : Nodes) (id : NodeId) (v : Variable) → AreNodesSound nodes → IsSoundNode id v → AreNodesSound (nodes ++ (id, v) ∷ [])
 sound_with [] id v h w = (w, tt)
 sound_with (node ∷ nodes) id v h w = (h.0, sound_with nodes id v h.1 w)
 
@@ -54,7 +54,7 @@ gives : (v : Variable) (item : WriteValue) → is_none (first_reason (write_item
 gives v item h =
     let fits = holds_type v.kind v.array item.value.value && data_value_encodable (data_value_of item.value) in
     let last = last_fails (not (is_attribute item.attribute_id)) (not (nat_eq item.attribute_id 13 && v.access.writable))
-    (is_filled item.index_range || is_none item.value.value) (not fits)
+    (is_filled_text item.index_range || is_none item.value.value) (not fits)
     bad_attribute_id_invalid bad_not_writable bad_write_not_supported bad_type_mismatch h in
     let both = both_true (holds_type v.kind v.array item.value.value) (data_value_encodable (data_value_of item.value)) (not_refused fits last) in
     record { of_type = both.0; fits = both.1 }
@@ -86,11 +86,11 @@ fields_fit v given moment m h =
 -- a value with its status and source time, or without one the moment
 stored_fits : (v : Variable) (given : DataValue) (moment : DateTime) → date_time.encodable moment ≡ true → holds_type v.kind v.array given.value ≡ true
     → data_value_encodable (data_value_of given) ≡ true
-    → (is_of_type v.kind v.array (stored v given moment).value ≡ true) × (data_value_encodable (held (stored v given moment)) ≡ true)
+    → (is_of_type v.kind v.array (stored v given moment).value ≡ true) × (data_value_encodable (held_value (stored v given moment)) ≡ true)
 stored_fits v given moment m of fits = by given.value of fits
   where
     by : (o : Option VariantData) → holds_type v.kind v.array o ≡ true → data_value_encodable (value_within o (data_fields_of given)) ≡ true
-        → (is_of_type v.kind v.array (or_else o null) ≡ true) × (data_value_encodable (valued (or_else o null) (held_fields (stored v given moment))) ≡ true)
+        → (is_of_type v.kind v.array (content_or o null) ≡ true) × (data_value_encodable (valued (content_or o null) (held_fields (stored v given moment))) ≡ true)
     by None h f = absurd cc
     by (Some x) h f =
         let a = both_true (leb (1 + variant_depth x) 100) (data_fields_encodable (data_fields_of given) && variant_fits x) f in
@@ -131,8 +131,8 @@ written_sound node items moment m w = by (last_good node items) refl
     by None e = w
     by (Some item) e = good_sound node.0 node.1 item moment m w (gives node.1 item (last_is_good node items item e))
 
-pub write_sound : (items : List WriteValue) (moment : DateTime) (nodes : Nodes) → date_time.encodable moment ≡ true → IsSound nodes
-    → IsSound (after_write items moment nodes)
+pub write_sound : (items : List WriteValue) (moment : DateTime) (nodes : Nodes) → date_time.encodable moment ≡ true → AreNodesSound nodes
+    → AreNodesSound (after_write items moment nodes)
 unfolding after_write
 write_sound items moment [] m h = tt
 write_sound items moment (node ∷ nodes) m h = (written_sound node items moment m h.0, write_sound items moment nodes m h.1)

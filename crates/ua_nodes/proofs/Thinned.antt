@@ -16,7 +16,7 @@ use Rattle.ua_structures.specs.declared.attribute.WriteValue.{WriteValue}
 use Rattle.ua_structures.specs.declared.thin.ValueType.{ValueType}
 use Rattle.ua_nodes.specs.declared.node.Variable.{Variable}
 use Rattle.ua_nodes.specs.Attribute.{is_attribute}
-use Rattle.ua_nodes.specs.Read.{is_filled}
+use Rattle.ua_nodes.specs.Read.{is_filled_text}
 use Rattle.ua_nodes.specs.Status.{bad_attribute_id_invalid, bad_not_writable, bad_write_not_supported, bad_type_mismatch}
 use Rattle.ua_nodes.specs.Table.{Nodes, node_at, same_id}
 use Rattle.ua_nodes.specs.Write.{after_write, good_or, has_none, holds_type, is_good_for, is_of_type, last_good, later}
@@ -44,7 +44,7 @@ abbrev reasons : Variable → ℕ → Option (List ℕ) → Bool → Bool → Li
 reasons v attribute range none fits =
     (bad_attribute_id_invalid, not (is_attribute attribute))
     ∷ (bad_not_writable, not (nat_eq attribute 13 && v.access.writable))
-    ∷ (bad_write_not_supported, is_filled range || none)
+    ∷ (bad_write_not_supported, is_filled_text range || none)
     ∷ (bad_type_mismatch, not fits)
     ∷ []
 
@@ -99,7 +99,7 @@ good_by : (v : Variable) (attribute : ℕ) (range : Option (List ℕ)) (d : Data
     → is_none (first_reason (reasons_of v attribute range d)) ≡ true → cond test d null_value ≡ d
 good_by v attribute range d value true held is good = refl
 good_by v attribute range d value false held is good =
-    absurd (one_holds (not (is_attribute attribute)) (not (nat_eq attribute 13 && v.access.writable)) (is_filled range || false)
+    absurd (one_holds (not (is_attribute attribute)) (not (nat_eq attribute 13 && v.access.writable)) (is_filled_text range || false)
     (ap (λ (rs : List (StatusCode × Bool)). is_none (first_reason rs)) (kept_by v attribute range d value false held is) ∙ good))
 
 good_kept : (v : Variable) (attribute : ℕ) (range : Option (List ℕ)) (d : DataValue) (held : Option VariantData) → d.value ≡ held

@@ -11,7 +11,7 @@ use Rattle.ua_structures.specs.Thin.{thinned}
 use Rattle.ua_structures.specs.declared.attribute.WriteValue.{WriteValue}
 use Rattle.ua_structures.specs.declared.thin.ValueType.{ValueType}
 use Rattle.ua_nodes.specs.declared.node.Variable.{Variable}
-use Rattle.ua_nodes.specs.Limit.{after_limited, answers_within, given_memory, growth, items_within, limited_answers, outgrows, room_after, room_of}
+use Rattle.ua_nodes.specs.Limit.{after_limited, answers_within, given_memory, growth, items_within, limited_answers, outgrows, room_after, room_left}
 use Rattle.ua_nodes.specs.Memory.{value_memory}
 use Rattle.ua_nodes.specs.Status.{bad_out_of_memory}
 use Rattle.ua_nodes.specs.Table.{Nodes, node_at, same_id}
@@ -68,11 +68,11 @@ module _ (nodes : Nodes) where
   pub limited_answers-thinned : (most : Option ℕ) (items : List WriteValue) → limited_answers most nodes (map (thinned (nodes_take nodes)) items)
       ≡ limited_answers most nodes items
   limited_answers-thinned None items = write_answers-thinned nodes items
-  limited_answers-thinned (Some most) items = answers_within-thinned (room_of most nodes) items
+  limited_answers-thinned (Some most) items = answers_within-thinned (room_left most nodes) items
 
   pub after_limited-thinned : IsDistinct same_id (keys_of nodes) → (most : Option ℕ) (items : List WriteValue) (moment : DateTime)
       → after_limited most (map (thinned (nodes_take nodes)) items) moment nodes ≡ after_limited most items moment nodes
   after_limited-thinned distinct None items moment = after_write-thinned nodes distinct items moment
   after_limited-thinned distinct (Some most) items moment =
-      ap (λ (is : List WriteValue). after_write is moment nodes) (items_within-thinned (room_of most nodes) items)
-      ∙ after_write-thinned nodes distinct (items_within (room_of most nodes) nodes items) moment
+      ap (λ (is : List WriteValue). after_write is moment nodes) (items_within-thinned (room_left most nodes) items)
+      ∙ after_write-thinned nodes distinct (items_within (room_left most nodes) nodes items) moment

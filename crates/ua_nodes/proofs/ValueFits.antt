@@ -21,7 +21,7 @@ use Rattle.ua_variant.specs.Measure.{scalars_depth, variant_depth}
 use Rattle.ua_variant.specs.View.{row}
 use Rattle.ua_nodes.specs.Write.{is_of_type}
 use Rattle.ua_nodes.specs.ValueText.{number_below, unsigned_denoted, signed_denoted, pattern_denoted, boolean_denoted, octets_denoted, guid_denoted}
-use Rattle.ua_nodes.specs.ValueText.{leaf_denoted, elements, leaves_denoted, has_text_form, most_octets, scalar_denoted, array_denoted, value_denoted}
+use Rattle.ua_nodes.specs.ValueText.{leaf_denoted, elements, leaves_denoted, has_text_form, most_value_octets, scalar_denoted, array_denoted, value_denoted}
 use Rattle.uuid.specs.Text.{parsed}
 use Rattle.ua_wire.proofs.Readers.{both_true}
 use Rattle.ua_nodes.proofs.Fits.{both_are, below, signed_fits, signed_range, text_fits, counted_fits, decoded_length, parsed_length, mapped_some}
@@ -82,7 +82,7 @@ guid_leaf_fits text u e = by (nat_eq (length text) 36) refl e
     by true h f = guid_fits (record { uuid = u }) (parsed_length text u (eqb-true (length text) 36 h) f)
     by false h f = absurd cc
 
-octets_fit : (text b : List ℕ) → length text ≤ most_octets → octets_denoted text ≡ Some b → leaf_encodable (byte_string (Some b)) ≡ true
+octets_fit : (text b : List ℕ) → length text ≤ most_value_octets → octets_denoted text ≡ Some b → leaf_encodable (byte_string (Some b)) ≡ true
 unfolding octets_denoted
 octets_fit text b short e =
     let few = decoded_length text b e in
@@ -91,7 +91,7 @@ octets_fit text b short e =
 no_leaf : (kind : ℕ) → LeafFits kind None
 no_leaf kind l e = absurd cc
 
-pub leaf_fits : (kind : ℕ) (text : List ℕ) → IsUtf8 text → length text ≤ most_octets → LeafFits kind (leaf_denoted kind text)
+pub leaf_fits : (kind : ℕ) (text : List ℕ) → IsUtf8 text → length text ≤ most_value_octets → LeafFits kind (leaf_denoted kind text)
 leaf_fits kind text u short =
     where_kind kind 1 _ _ (mapped_fits 1 boolean (boolean_denoted text) (λ x. refl) (λ x e. boolean_fits x)) (
     where_kind kind 2 _ _
@@ -177,7 +177,7 @@ record RowFits (kind n : ℕ) (ss : List ScalarData) : Type 0 where
   depth : scalars_depth (row ss) ≡ 0
   few : row_length (row ss) ≡ n
 
-leaves_fit : (kind : ℕ) (texts : List (List ℕ)) (vs : List ScalarData) → AllByRecursion (IsShort most_octets) texts → leaves_denoted kind texts ≡ Some vs
+leaves_fit : (kind : ℕ) (texts : List (List ℕ)) (vs : List ScalarData) → AllByRecursion (IsShort most_value_octets) texts → leaves_denoted kind texts ≡ Some vs
     → RowFits kind (length texts) vs
 leaves_fit kind [] vs h e = let is : [] ≡ vs = cc in subst (RowFits kind 0) is (record { fits = refl; depth = refl; few = refl })
 leaves_fit kind (text ∷ texts) vs h e = by (leaf_denoted kind text) (leaves_denoted kind texts) refl refl e (λ ws f. leaves_fit kind texts ws h.1 f)
@@ -218,18 +218,18 @@ pub record ValueFits (kind : ℕ) (array : Bool) (v : VariantData) : Type 0 wher
   pub fits : variant_fits v ≡ true
   pub depth : variant_depth v ≡ 1
 
-one_fits : (kind : ℕ) (text : List ℕ) (v : VariantData) → IsUtf8 text → length text ≤ most_octets → scalar_denoted kind text ≡ Some v → ValueFits kind false v
+one_fits : (kind : ℕ) (text : List ℕ) (v : VariantData) → IsUtf8 text → length text ≤ most_value_octets → scalar_denoted kind text ≡ Some v → ValueFits kind false v
 one_fits kind text v u short e =
     let o = mapped_some one (option_map leaf (leaf_denoted kind text)) v e in
     let l = mapped_some leaf (leaf_denoted kind text) o.0 o.1 in
     let w = leaf_fits kind text u short l.0 l.1 in
     subst (ValueFits kind false) (ap one l.2 ∙ o.2) (record { of_type = eq-eqb (leaf_kind l.0) kind w.0; fits = w.1; depth = refl })
 
-many_fit : (kind : ℕ) (text : List ℕ) (v : VariantData) → IsUtf8 text → length text ≤ most_octets → is_kind kind ≡ true → array_denoted kind text ≡ Some v
+many_fit : (kind : ℕ) (text : List ℕ) (v : VariantData) → IsUtf8 text → length text ≤ most_value_octets → is_kind kind ≡ true → array_denoted kind text ≡ Some v
     → ValueFits kind true v
 many_fit kind text v u short known e =
     let o = mapped_some (λ vs. many kind (row vs) []) (leaves_denoted kind (elements text)) v e in
-    let w = leaves_fit kind (elements text) o.0 (elements_short text most_octets u short) o.1 in
+    let w = leaves_fit kind (elements text) o.0 (elements_short text most_value_octets u short) o.1 in
     let ss = row o.0 in
     let same = eq-eqb kind kind refl in
     let few = w.few in
@@ -239,19 +239,19 @@ many_fit kind text v u short known e =
     let fits = w.fits in
     subst (ValueFits kind true) o.2 (record { of_type = rw same refl; fits = rw (known, counted, fits) refl; depth = omega arith })
 
-denoted_fits : (kind : ℕ) (array : Bool) (text : List ℕ) (v : VariantData) → IsUtf8 text → length text ≤ most_octets → is_kind kind ≡ true
+denoted_fits : (kind : ℕ) (array : Bool) (text : List ℕ) (v : VariantData) → IsUtf8 text → length text ≤ most_value_octets → is_kind kind ≡ true
     → cond array (array_denoted kind text) (scalar_denoted kind text) ≡ Some v → ValueFits kind array v
 denoted_fits kind true text v u short known e = many_fit kind text v u short known e
 denoted_fits kind false text v u short known e = one_fits kind text v u short e
 
 pub value_fits : (kind : ℕ) (array : Bool) (text : List ℕ) (v : VariantData) → IsUtf8 text → value_denoted kind array text ≡ Some v → ValueFits kind array v
 unfolding value_denoted
-value_fits kind array text v u e = by (has_text_form kind && nat_lt (length text) (most_octets + 1)) refl e
+value_fits kind array text v u e = by (has_text_form kind && nat_lt (length text) (most_value_octets + 1)) refl e
   where
-    by : (t : Bool) → (has_text_form kind && nat_lt (length text) (most_octets + 1)) ≡ t
+    by : (t : Bool) → (has_text_form kind && nat_lt (length text) (most_value_octets + 1)) ≡ t
         → cond t (cond array (array_denoted kind text) (scalar_denoted kind text)) None ≡ Some v → ValueFits kind array v
     by false h f = absurd cc
     by true h f =
-        let p = both_true (has_text_form kind) (nat_lt (length text) (most_octets + 1)) h in
-        let less = ltb-true (length text) (most_octets + 1) p.1 in
+        let p = both_true (has_text_form kind) (nat_lt (length text) (most_value_octets + 1)) h in
+        let less = ltb-true (length text) (most_value_octets + 1) p.1 in
         denoted_fits kind array text v u (omega arith) (kind_written kind p.0) f

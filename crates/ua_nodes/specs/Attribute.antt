@@ -47,8 +47,8 @@ abbrev pub access_level : Access → ℕ
 access_level a = level a.readable a.writable
 
 -- the Variant of one scalar
-abbrev pub single : LeafData → VariantData
-single l = one (leaf l)
+abbrev pub scalar_variant : LeafData → VariantData
+scalar_variant l = one (leaf l)
 
 -- the NodeId of a built-in type
 abbrev pub type_node : ℕ → NodeId
@@ -56,11 +56,11 @@ type_node kind = record { namespace = 0; identifier = Numeric kind }
 
 -- the value of an attribute of the node with this NodeId
 abbrev pub attribute_value : NodeId → Variable → Attribute → VariantData
-attribute_value id v attribute.NodeId = single (node_id id)
-attribute_value id v attribute.NodeClass = single (int32 (pos 2))
-attribute_value id v attribute.BrowseName = single (qualified_name (record { namespace = id.namespace; name = v.name }))
-attribute_value id v attribute.DisplayName = single (localized_text (record { locale = None; text = v.name }))
+attribute_value id v attribute.NodeId = scalar_variant (node_id id)
+attribute_value id v attribute.NodeClass = scalar_variant (int32 (pos 2))
+attribute_value id v attribute.BrowseName = scalar_variant (qualified_name (record { namespace = id.namespace; name = v.name }))
+attribute_value id v attribute.DisplayName = scalar_variant (localized_text (record { locale = None; text = v.name }))
 attribute_value id v attribute.Value = v.value
-attribute_value id v attribute.DataType = single (node_id (type_node v.kind))
-attribute_value id v attribute.AccessLevel = single (byte (access_level v.access))
-attribute_value id v attribute.UserAccessLevel = single (byte (access_level v.access))
+attribute_value id v attribute.DataType = scalar_variant (node_id (type_node v.kind))
+attribute_value id v attribute.AccessLevel = scalar_variant (byte (access_level v.access))
+attribute_value id v attribute.UserAccessLevel = scalar_variant (byte (access_level v.access))

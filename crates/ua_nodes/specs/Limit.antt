@@ -56,20 +56,20 @@ items_within room nodes (item ∷ items) =
     cond (outgrows room v item) rest (item ∷ rest)
 
 -- the room that the values of the nodes leave of a limit
-abbrev pub room_of : ℕ → Nodes → ℕ
-room_of most nodes = most - nodes_memory nodes
+abbrev pub room_left : ℕ → Nodes → ℕ
+room_left most nodes = most - nodes_memory nodes
 
 -- ---- with a limit or without one
 
 -- the results of the items
 abbrev pub limited_answers : Option ℕ → Nodes → List WriteValue → List StatusCode
 limited_answers None nodes items = write_answers nodes items
-limited_answers (Some most) nodes items = answers_within (room_of most nodes) nodes items
+limited_answers (Some most) nodes items = answers_within (room_left most nodes) nodes items
 
 -- the items that have room
 abbrev pub roomy_items : Option ℕ → Nodes → List WriteValue → List WriteValue
 roomy_items None nodes items = items
-roomy_items (Some most) nodes items = items_within (room_of most nodes) nodes items
+roomy_items (Some most) nodes items = items_within (room_left most nodes) nodes items
 
 -- the nodes after the items: as after those that have room
 abbrev pub after_limited : Option ℕ → List WriteValue → DateTime → Nodes → Nodes
@@ -87,11 +87,11 @@ begins_refused [] = false
 begins_refused (code ∷ codes) = is_out_of_memory code
 
 -- the codes after the first
-abbrev pub behind_first : List StatusCode → List StatusCode
-behind_first [] = []
-behind_first (code ∷ codes) = codes
+abbrev pub codes_behind_first : List StatusCode → List StatusCode
+codes_behind_first [] = []
+codes_behind_first (code ∷ codes) = codes
 
 -- the items whose results are not BadOutOfMemory
 abbrev pub items_left : List WriteValue → List StatusCode → List WriteValue
 items_left [] codes = []
-items_left (item ∷ items) codes = cond (begins_refused codes) (items_left items (behind_first codes)) (item ∷ items_left items (behind_first codes))
+items_left (item ∷ items) codes = cond (begins_refused codes) (items_left items (codes_behind_first codes)) (item ∷ items_left items (codes_behind_first codes))

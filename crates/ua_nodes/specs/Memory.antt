@@ -12,7 +12,7 @@ use Rattle.ua_variant.specs.Data.{localized_text, extension_object, reserved, Va
 use Rattle.ua_variant.specs.Data.{data_value, variant, diagnostic, ScalarsData, no_scalars, scalar, DataValueData, bare, valued}
 use Rattle.ua_variant.specs.Encodable.{row_length}
 use Rattle.ua_nodes.specs.Attribute.{behind_number}
-use Rattle.ua_nodes.specs.Write.{or_else}
+use Rattle.ua_nodes.specs.Write.{content_or}
 
 -- ---- places
 
@@ -37,7 +37,7 @@ packed_places =
 
 -- the bytes of an element of this type id in its array
 abbrev pub element_place : ℕ → ℕ
-element_place kind = or_else (behind_number kind packed_places) 56
+element_place kind = content_or (behind_number kind packed_places) 56
 
 -- ---- what lies on the heap
 

@@ -19,7 +19,7 @@ use Rattle.ua_nodes.specs.declared.node.Node.{Node as Record}
 use Rattle.ua_nodes.specs.declared.node.Variable.{Variable}
 use Rattle.ua_nodes.specs.Table.{Nodes, node_at, same_id, variable_of}
 use Rattle.ua_nodes.specs.TypeName.{type_denoted}
-use Rattle.ua_nodes.specs.ValueText.{value_denoted, most_octets}
+use Rattle.ua_nodes.specs.ValueText.{value_denoted, most_value_octets}
 
 -- ---- the lines of a file
 
@@ -34,9 +34,9 @@ abbrev pub lines_of : List ℕ → List (List ℕ)
 lines_of text = map strip_carriage_return (slice_split (λ b. nat_eq b 10) text)
 
 -- lines with their numbers, from the one given on
-abbrev pub numbered : ℕ → List (List ℕ) → List FileLine
-numbered n [] = []
-numbered n (line ∷ lines) = record { number = n; text = line } ∷ numbered (suc n) lines
+abbrev pub numbered_lines : ℕ → List (List ℕ) → List FileLine
+numbered_lines n [] = []
+numbered_lines n (line ∷ lines) = record { number = n; text = line } ∷ numbered_lines (suc n) lines
 
 -- a line is read unless it is empty or begins with `#`
 abbrev pub is_read : List ℕ → Bool
@@ -45,7 +45,7 @@ is_read (c ∷ cs) = not (nat_eq c 35)
 
 -- the lines that are read; those that are skipped are counted too
 abbrev pub node_lines : List ℕ → List FileLine
-node_lines text = filter (λ line. is_read line.text) (numbered 1 (lines_of text))
+node_lines text = filter (λ line. is_read line.text) (numbered_lines 1 (lines_of text))
 
 -- ---- the fields of a line
 
@@ -58,12 +58,12 @@ abbrev pub field : ℕ → List ℕ → List ℕ
 field i line = slice_index_or (fields line) i []
 
 -- no field has more bytes than a value
-abbrev pub is_short : List ℕ → Bool
-is_short text = nat_lt (length text) (suc most_octets)
+abbrev pub has_short_fields : List ℕ → Bool
+has_short_fields text = nat_lt (length text) (suc most_value_octets)
 
 -- the text names the NodeId (OPC 10000-6, 5.3.1.10)
 abbrev pub NamesId : List ℕ → NodeId → Type 0
-NamesId text id = (is_short text ≡ true) × NamesNode id text
+NamesId text id = (has_short_fields text ≡ true) × NamesNode id text
 
 -- the access to a value: whether it may be read, and whether it may be written
 abbrev pub rights : Bool → Bool → Rights
@@ -80,7 +80,7 @@ access_denoted text =
 
 -- a name is any text but the empty one
 abbrev pub name_denoted : List ℕ → Option (Option (List ℕ))
-name_denoted text = cond (nat_lt 0 (length text) && is_short text) (Some (Some text)) None
+name_denoted text = cond (nat_lt 0 (length text) && has_short_fields text) (Some (Some text)) None
 
 -- ---- the node of a line
 
@@ -99,14 +99,14 @@ pub record WritesNode (line : List ℕ) (node : NodeId × Variable) : Type 0 whe
 
 -- a reason against a line after lines that defined these nodes: it does not have five fields; a
 -- field denotes nothing; or a line before it defined a node with its NodeId
-abbrev pub Holds : LineReason → Nodes → List ℕ → Type 0
-Holds Fields before line = length (fields line) ≢ 5
-Holds Node before line = (id : NodeId) → ¬ (NamesId (field 0 line) id)
-Holds Access before line = access_denoted (field 1 line) ≡ None
-Holds Name before line = name_denoted (field 2 line) ≡ None
-Holds Kind before line = type_denoted (field 3 line) ≡ None
-Holds Value before line = (type_denoted (field 3 line) >>= λ t. value_denoted t.0 t.1 (field 4 line)) ≡ None
-Holds Duplicate before line = (id : NodeId) × NamesId (field 0 line) id × IsSome (node_at before id)
+abbrev pub HoldsAgainstLine : LineReason → Nodes → List ℕ → Type 0
+HoldsAgainstLine Fields before line = length (fields line) ≢ 5
+HoldsAgainstLine Node before line = (id : NodeId) → ¬ (NamesId (field 0 line) id)
+HoldsAgainstLine Access before line = access_denoted (field 1 line) ≡ None
+HoldsAgainstLine Name before line = name_denoted (field 2 line) ≡ None
+HoldsAgainstLine Kind before line = type_denoted (field 3 line) ≡ None
+HoldsAgainstLine Value before line = (type_denoted (field 3 line) >>= λ t. value_denoted t.0 t.1 (field 4 line)) ≡ None
+HoldsAgainstLine Duplicate before line = (id : NodeId) × NamesId (field 0 line) id × IsSome (node_at before id)
 
 -- the order in which reasons are judged
 abbrev pub place : LineReason → ℕ
@@ -120,8 +120,8 @@ place Duplicate = 6
 
 -- the first reason against a line
 pub record IsFirstReason (reason : LineReason) (before : Nodes) (line : List ℕ) : Type 0 where
-  pub holds : Holds reason before line
-  pub first : (other : LineReason) → place other < place reason → ¬ (Holds other before line)
+  pub holds : HoldsAgainstLine reason before line
+  pub first : (other : LineReason) → place other < place reason → ¬ (HoldsAgainstLine other before line)
 
 -- ---- a whole file
 
@@ -141,9 +141,9 @@ pub record IsFirstBad (lines : List FileLine) (number : ℕ) (reason : LineReaso
   pub bad : IsFirstReason reason nodes line
 
 -- what an error tells of the lines
-abbrev pub Refuses : List FileLine → LoadFault → Type 0
-Refuses lines (Line number reason) = IsFirstBad lines number reason
-Refuses lines OutOfMemory = Unit {0}
+abbrev pub RefusesNodeFile : List FileLine → LoadFault → Type 0
+RefusesNodeFile lines (Line number reason) = IsFirstBad lines number reason
+RefusesNodeFile lines OutOfMemory = Unit {0}
 
 -- ---- what functions answer for a line
 
@@ -167,8 +167,8 @@ GivesNode line (Err NoMemory) = Unit {0}
 
 -- what a line makes of a table: it adds one node, of another NodeId than those before, unless the
 -- line is skipped
-abbrev pub Adds : List ℕ → Nodes → Nodes → Type 0
-Adds line before after = (is_read line ≡ true → (node : NodeId × Variable) × WritesNode line node × (after ≡ before ++ node ∷ [])
+abbrev pub AddsNodeOfLine : List ℕ → Nodes → Nodes → Type 0
+AddsNodeOfLine line before after = (is_read line ≡ true → (node : NodeId × Variable) × WritesNode line node × (after ≡ before ++ node ∷ [])
     × IsDistinct same_id (keys_of after))
     × (is_read line ≡ false → after ≡ before)
 

@@ -12,8 +12,8 @@ abbrev pub places : ℕ → ℕ → IndexRange
 places n m = record { first = n; last = m }
 
 -- an index in decimal digits, at most 4294967295
-abbrev pub single : List ℕ → Option IndexRange
-single n = unsigned_denoted 32 n >>= λ place. Some (places place place)
+abbrev pub single_index : List ℕ → Option IndexRange
+single_index n = unsigned_denoted 32 n >>= λ place. Some (places place place)
 
 -- the indexes from one such number to another, which is greater
 abbrev pub between : List ℕ → List ℕ → Option IndexRange
@@ -23,7 +23,7 @@ between n m = unsigned_denoted 32 n >>= λ first. unsigned_denoted 32 m >>= λ l
 -- the second
 abbrev pub range_between : List (List ℕ) → Option IndexRange
 range_between [] = None
-range_between (n ∷ []) = single n
+range_between (n ∷ []) = single_index n
 range_between (n ∷ m ∷ []) = between n m
 range_between (n ∷ m ∷ o ∷ more) = None
 
@@ -55,16 +55,16 @@ list_in None = []
 list_in (Some ss) = ss
 
 -- the elements of an array; a null array has none
-abbrev pub elements_of : VariantData → List ScalarData
-elements_of null = []
-elements_of (one s) = []
-elements_of (absent kind ds) = []
-elements_of (many kind ss ds) = row_list ss
+abbrev pub elements_of_array : VariantData → List ScalarData
+elements_of_array null = []
+elements_of_array (one s) = []
+elements_of_array (absent kind ds) = []
+elements_of_array (many kind ss ds) = row_list ss
 
 -- the array of the elements at the indexes of the range, without dimensions; null if there is no
 -- array
-abbrev pub part_of : IndexRange → VariantData → VariantData
-part_of r null = null
-part_of r (one s) = null
-part_of r (absent kind ds) = many kind (row []) []
-part_of r (many kind ss ds) = many kind (row (ranged r (row_list ss))) []
+abbrev pub range_part_of : IndexRange → VariantData → VariantData
+range_part_of r null = null
+range_part_of r (one s) = null
+range_part_of r (absent kind ds) = many kind (row []) []
+range_part_of r (many kind ss ds) = many kind (row (ranged r (row_list ss))) []

@@ -17,28 +17,28 @@ use Rattle.ua_nodes.specs.declared.stamps.Stamps.{Stamps}
 use Rattle.ua_nodes.specs.declared.stamps.Stamps.TheVariants.{Source, Server, Both, Neither}
 use Rattle.ua_nodes.specs.declared.range.IndexRange.{IndexRange}
 use Rattle.ua_nodes.specs.Attribute.{attribute_of, is_attribute, attribute_value}
-use Rattle.ua_nodes.specs.Range.{asked_range, elements_of, part_of}
+use Rattle.ua_nodes.specs.Range.{asked_range, elements_of_array, range_part_of}
 use Rattle.ua_nodes.specs.Table.{Nodes, node_at}
 use Rattle.ua_nodes.specs.Status.{bad_node_id_unknown, bad_attribute_id_invalid, bad_index_range_invalid}
 use Rattle.ua_nodes.specs.Status.{bad_index_range_no_data, bad_data_encoding_invalid, bad_not_readable}
 
 -- a text that is neither null nor empty
-abbrev pub is_filled : Option (List ℕ) → Bool
-is_filled None = false
-is_filled (Some text) = nat_lt 0 (length text)
+abbrev pub is_filled_text : Option (List ℕ) → Bool
+is_filled_text None = false
+is_filled_text (Some text) = nat_lt 0 (length text)
 
 -- a text that is this one
-abbrev pub is_text : Option (List ℕ) → List ℕ → Bool
-is_text None name = false
-is_text (Some text) name = bytes_eq text name
+abbrev pub is_this_text : Option (List ℕ) → List ℕ → Bool
+is_this_text None name = false
+is_this_text (Some text) name = bytes_eq text name
 
 -- no name, or the name of the binary encoding
 abbrev pub is_default_encoding : QualifiedName → Bool
-is_default_encoding q = not (is_filled q.name) || (nat_eq q.namespace 0 && is_text q.name (codes "Default Binary"))
+is_default_encoding q = not (is_filled_text q.name) || (nat_eq q.namespace 0 && is_this_text q.name (codes "Default Binary"))
 
 -- the item asks for a range: its text is neither null nor empty
 abbrev pub asks_range : ReadValueId → Bool
-asks_range item = is_filled item.index_range
+asks_range item = is_filled_text item.index_range
 
 -- the attribute is an array: the Value of a node whose values are arrays
 abbrev pub is_array_attribute : Variable → ℕ → Bool
@@ -47,7 +47,7 @@ is_array_attribute v attribute_id = nat_eq attribute_id 13 && v.array
 -- the range is past the end: its first index is after the last element
 abbrev pub is_past : Option IndexRange → VariantData → Bool
 is_past None value = false
-is_past (Some r) value = leb (length (elements_of value)) r.first
+is_past (Some r) value = leb (length (elements_of_array value)) r.first
 
 -- why an item for this node is rejected, in the order in which it is judged
 abbrev pub read_item_reasons : Variable → ReadValueId → List (StatusCode × Bool)
@@ -86,8 +86,8 @@ gives_server Both = true
 gives_server Neither = false
 
 -- a status alone
-abbrev pub refused : StatusCode → DataValueData
-refused code = bare (record { status = Some code; source_timestamp = None; source_picoseconds = None; server_timestamp = None; server_picoseconds = None })
+abbrev pub status_alone : StatusCode → DataValueData
+status_alone code = bare (record { status = Some code; source_timestamp = None; source_picoseconds = None; server_timestamp = None; server_picoseconds = None })
 
 -- the content, if the test holds; else nothing
 abbrev pub where_so : {A : Type 0} → Bool → Option A → Option A
@@ -107,7 +107,7 @@ stamps_of v is_value stamps moment = record {
 -- what is read of a node: an attribute, or the part of the Value at the indexes of a range
 abbrev pub value_read : NodeId → Variable → Attribute → Option IndexRange → VariantData
 value_read id v a None = attribute_value id v a
-value_read id v a (Some r) = part_of r v.value
+value_read id v a (Some r) = range_part_of r v.value
 
 -- a value, if there is one, with its status and timestamps
 abbrev pub with_stamps : Option VariantData → DataFields → DataValueData
@@ -117,16 +117,16 @@ with_stamps (Some value) fields = valued value fields
 -- the result for a node: the rejection if there is a reason, else what is read with its status and
 -- timestamps
 abbrev pub read_by : Option StatusCode → Variable → ReadValueId → Stamps → DateTime → DataValueData
-read_by (Some code) v item stamps moment = refused code
+read_by (Some code) v item stamps moment = status_alone code
 read_by None v item stamps moment =
     with_stamps (option_map (λ a. value_read item.node_id v a (asked_range item.index_range)) (attribute_of item.attribute_id))
     (stamps_of v (nat_eq item.attribute_id 13) stamps moment)
 
 -- the result of an item, by the node that it names
 abbrev pub read_answer : Option Variable → ReadValueId → Stamps → DateTime → DataValueData
-read_answer None item stamps moment = refused bad_node_id_unknown
+read_answer None item stamps moment = status_alone bad_node_id_unknown
 read_answer (Some v) item stamps moment = read_by (first_reason (read_item_reasons v item)) v item stamps moment
 
 -- the encoding of the result of an item
-abbrev pub answer_octets : Nodes → Stamps → DateTime → ReadValueId → List ℕ
-answer_octets nodes stamps moment item = data_value_canonical (read_answer (node_at nodes item.node_id) item stamps moment)
+abbrev pub result_octets : Nodes → Stamps → DateTime → ReadValueId → List ℕ
+result_octets nodes stamps moment item = data_value_canonical (read_answer (node_at nodes item.node_id) item stamps moment)

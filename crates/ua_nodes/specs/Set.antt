@@ -14,8 +14,8 @@ use Rattle.ua_nodes.specs.declared.node.Variable.{Variable}
 use Rattle.ua_nodes.specs.declared.set.Reading.{Reading}
 
 -- a reading, as a DataValue
-abbrev pub given_by : Reading → DataValue
-given_by r = record {
+abbrev pub value_of_reading : Reading → DataValue
+value_of_reading r = record {
   value = Some (variant_of r.value);
   status = r.status;
   source_timestamp = Some r.source_time;
@@ -35,12 +35,12 @@ set_reasons v given =
 -- why a reading is rejected, by the node that it is of, if it is
 abbrev pub set_refusal : Option Variable → Reading → Option SetFault
 set_refusal None r = Some Unknown
-set_refusal (Some v) r = first_reason (set_reasons v (given_by r))
+set_refusal (Some v) r = first_reason (set_reasons v (value_of_reading r))
 
 -- the node with the value, status and source timestamp of the reading, or unchanged if that is
 -- rejected
 abbrev pub set_node : Variable → Reading → Variable
-set_node v r = cond (is_none (first_reason (set_reasons v (given_by r)))) (stored v (given_by r) r.source_time) v
+set_node v r = cond (is_none (first_reason (set_reasons v (value_of_reading r)))) (stored v (value_of_reading r) r.source_time) v
 
 -- the nodes with this reading of the node with this NodeId
 abbrev pub with_reading : Option Variable → NodeId → Reading → Nodes → Nodes

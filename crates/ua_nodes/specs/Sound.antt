@@ -27,8 +27,8 @@ held_fields v = record {
 }
 
 -- the value of a node, as a DataValue
-abbrev pub held : Variable → DataValueData
-held v = valued v.value (held_fields v)
+abbrev pub held_value : Variable → DataValueData
+held_value v = valued v.value (held_fields v)
 
 -- a node whose NodeId and name can be encoded, and whose value is one of its type, or an array of
 -- it without dimensions, and can be encoded within a DataValue: its nesting depth is at most 99
@@ -36,7 +36,7 @@ pub record IsSoundNode (id : NodeId) (v : Variable) : Type 0 where
   pub id_fits : IsTrue (node_id.encodable id)
   pub name_fits : IsTrue (text.encodable v.name)
   pub of_type : IsTrue (is_of_type v.kind v.array v.value)
-  pub value_fits : IsTrue (data_value_encodable (held v))
+  pub value_fits : IsTrue (data_value_encodable (held_value v))
 
 -- the test for it: the value leaves one level for the DataValue, and can be encoded, and so can the
 -- status and source timestamp
@@ -48,5 +48,5 @@ is_sound_node id v =
     && (optional_fits date_time.encodable v.source_time && optional_fits (number 2).encodable v.source_picoseconds))))))
 
 -- each node is sound
-abbrev pub IsSound : Nodes → Type 0
-IsSound nodes = AllByRecursion (λ node. IsSoundNode node.0 node.1) nodes
+abbrev pub AreNodesSound : Nodes → Type 0
+AreNodesSound nodes = AllByRecursion (λ node. IsSoundNode node.0 node.1) nodes

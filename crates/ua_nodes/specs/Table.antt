@@ -21,8 +21,8 @@ abbrev pub node_at : Nodes → NodeId → Option Variable
 node_at nodes id = lookup (same_id id) nodes
 
 -- the NodeId of the node at a place in this order
-abbrev pub id_at : Nodes → ℕ → Option NodeId
-id_at nodes index = slice_get (keys_of nodes) index
+abbrev pub node_id_at : Nodes → ℕ → Option NodeId
+node_id_at nodes index = slice_get (keys_of nodes) index
 
 -- the place in this order of the node that the NodeId names
 abbrev pub index_of_id : Nodes → NodeId → Option ℕ

@@ -13,13 +13,13 @@ named_types =
     ∷ (15, codes "ByteString") ∷ (19, codes "StatusCode") ∷ []
 
 -- the id that is beside the name
-abbrev pub id_of : List (ℕ × List ℕ) → List ℕ → Option ℕ
-id_of [] name = None
-id_of (row ∷ rows) name = cond (bytes_eq name row.1) (Some row.0) (id_of rows name)
+abbrev pub id_beside_name : List (ℕ × List ℕ) → List ℕ → Option ℕ
+id_beside_name [] name = None
+id_beside_name (row ∷ rows) name = cond (bytes_eq name row.1) (Some row.0) (id_beside_name rows name)
 
 -- the id of the type that a text names
 abbrev pub type_named : List ℕ → Option ℕ
-type_named = id_of named_types
+type_named = id_beside_name named_types
 
 -- what follows the name of an array's element type
 abbrev pub array_mark : Bool → List ℕ
@@ -31,13 +31,13 @@ abbrev pub unmarked : List ℕ → List ℕ
 unmarked text = take (length text - 2) text
 
 -- the type, with whether an array of it is meant
-abbrev pub typed : Bool → ℕ → ℕ × Bool
-typed array kind = (kind, array)
+abbrev pub type_with_array : Bool → ℕ → ℕ × Bool
+type_with_array array kind = (kind, array)
 
 -- the type that a text names, and whether it names an array of it
 abbrev pub type_denoted : List ℕ → Option (ℕ × Bool)
-type_denoted text = cond (ends_with nat_eq text (codes "[]")) (option_map (typed true) (type_named (unmarked text)))
-    (option_map (typed false) (type_named text))
+type_denoted text = cond (ends_with nat_eq text (codes "[]")) (option_map (type_with_array true) (type_named (unmarked text)))
+    (option_map (type_with_array false) (type_named text))
 
 -- a text names the type, or an array of it: the type's name, and for an array `[]` after it
 pub record NamesType (text : List ℕ) (kind : ℕ) (array : Bool) : Type 0 where

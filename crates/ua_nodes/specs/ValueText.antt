@@ -105,8 +105,8 @@ abbrev pub has_text_form : ℕ → Bool
 has_text_form kind = (nat_lt 0 kind && nat_lt kind 16) || nat_eq kind 19
 
 -- the longest text of a value, in bytes
-abbrev pub most_octets : ℕ
-most_octets = 1073741824
+abbrev pub most_value_octets : ℕ
+most_value_octets = 1073741824
 
 -- a scalar: the one value that the text denotes
 abbrev pub scalar_denoted : ℕ → List ℕ → Option VariantData
@@ -119,7 +119,7 @@ array_denoted kind text = option_map (λ vs. many kind (row vs) []) (leaves_deno
 -- what a text denotes at a type or at an array of it
 unfoldable pub value_denoted : ℕ → Bool → List ℕ → Option VariantData
 value_denoted kind array text =
-    cond (has_text_form kind && nat_lt (length text) (most_octets + 1))
+    cond (has_text_form kind && nat_lt (length text) (most_value_octets + 1))
     (cond array (array_denoted kind text) (scalar_denoted kind text)) None
 
 -- ---- what functions answer

@@ -5,14 +5,14 @@ use Rattle.ua_builtin.specs.declared.date_time.DateTime.{DateTime}
 use Rattle.ua_builtin.specs.declared.node_id.NodeId.{NodeId}
 use Rattle.ua_builtin.specs.declared.status_code.StatusCode.{StatusCode}
 use Rattle.ua_variant.specs.Data.{VariantData, null, one, absent, many}
-use Rattle.ua_variant.specs.Encodable.{kind_of, data_value_encodable}
+use Rattle.ua_variant.specs.Encodable.{kind_of_scalar, data_value_encodable}
 use Rattle.ua_variant.specs.View.{data_value_of}
 use Rattle.ua_variant.specs.declared.values.DataValue.{DataValue}
 use Rattle.ua_structures.specs.declared.attribute.WriteValue.{WriteValue}
 use Rattle.ua_structures.specs.declared.thin.ValueType.{ValueType}
 use Rattle.ua_nodes.specs.declared.node.Variable.{Variable}
 use Rattle.ua_nodes.specs.Attribute.{is_attribute}
-use Rattle.ua_nodes.specs.Read.{is_filled}
+use Rattle.ua_nodes.specs.Read.{is_filled_text}
 use Rattle.ua_nodes.specs.Status.{good, bad_node_id_unknown, bad_attribute_id_invalid, bad_not_writable, bad_write_not_supported, bad_type_mismatch}
 use Rattle.ua_nodes.specs.Table.{Nodes, node_at, same_id}
 
@@ -24,7 +24,7 @@ has_none (x ∷ xs) = false
 -- the value is one of the type, or an array of it without dimensions
 abbrev pub is_of_type : ℕ → Bool → VariantData → Bool
 is_of_type kind array null = false
-is_of_type kind array (one s) = not array && nat_eq (kind_of s) kind
+is_of_type kind array (one s) = not array && nat_eq (kind_of_scalar s) kind
 is_of_type kind array (absent k ds) = array && (nat_eq k kind && has_none ds)
 is_of_type kind array (many k ss ds) = array && (nat_eq k kind && has_none ds)
 
@@ -48,7 +48,7 @@ abbrev pub write_item_reasons : Variable → WriteValue → List (StatusCode × 
 write_item_reasons v item =
     (bad_attribute_id_invalid, not (is_attribute item.attribute_id))
     ∷ (bad_not_writable, not (nat_eq item.attribute_id 13 && v.access.writable))
-    ∷ (bad_write_not_supported, is_filled item.index_range || is_none item.value.value)
+    ∷ (bad_write_not_supported, is_filled_text item.index_range || is_none item.value.value)
     ∷ (bad_type_mismatch, not (holds_type v.kind v.array item.value.value && data_value_encodable (data_value_of item.value)))
     ∷ []
 
@@ -63,13 +63,13 @@ write_answer None item = bad_node_id_unknown
 write_answer (Some v) item = good_or (first_reason (write_item_reasons v item))
 
 -- the content, or else the other
-abbrev pub or_else : {A : Type 0} → Option A → A → A
-or_else None x = x
-or_else (Some y) x = y
+abbrev pub content_or : {A : Type 0} → Option A → A → A
+content_or None x = x
+content_or (Some y) x = y
 
 -- the source timestamp given, or without one this time
 abbrev pub time_of : Option DateTime → DateTime → DateTime
-time_of t moment = or_else t moment
+time_of t moment = content_or t moment
 
 -- the picoseconds given, but none if no source timestamp is given
 abbrev pub picoseconds_of : Option DateTime → Option ℕ → Option ℕ
@@ -84,7 +84,7 @@ stored v given moment = record {
   kind = v.kind;
   array = v.array;
   access = v.access;
-  value = or_else given.value null;
+  value = content_or given.value null;
   status = given.status;
   source_time = Some (time_of given.source_timestamp moment);
   source_picoseconds = picoseconds_of given.source_timestamp given.source_picoseconds;

@@ -5,9 +5,9 @@ ghost use Rattle.ua_builtin.specs.Format.{Extends};
 ghost use Rattle.ua_variant.specs.Canonical.{data_value_canonical};
 ghost use Rattle.ua_variant.specs.Data.{valued};
 ghost use Rattle.ua_variant.specs.Encodable.{data_value_encodable};
-ghost use Rattle.ua_nodes.specs.Read.{answer_octets, stamps_of};
+ghost use Rattle.ua_nodes.specs.Read.{result_octets, stamps_of};
 ghost use Rattle.ua_nodes.specs.Within.{IsWithin, Passes};
-ghost use Rattle.ua_nodes.specs.Sound.{IsSound};
+ghost use Rattle.ua_nodes.specs.Sound.{AreNodesSound};
 ghost use Rattle.ua_nodes.specs.declared.stamps.Stamps.{Stamps};
 ghost use Rattle.ua_builtin.specs.declared.date_time.DateTime.{DateTime};
 
@@ -36,9 +36,9 @@ impl NodeTable {
         most: Option<usize>,
         out: &mut Vec<u8>,
     ) -> Result<(), AllocError>
-        requires sound { IsSound self.now }
+        requires sound { AreNodesSound self.now }
         ensures ok { OnOk result
-            (IsWithin most (answer_octets self.now stamps moment) items.now out.old.items out.new.items) }
+            (IsWithin most (result_octets self.now stamps moment) items.now out.old.items out.new.items) }
         ensures err { OnErr result (Extends out.old.items out.new.items) }
     {
         for item in items {
@@ -60,8 +60,8 @@ impl NodeTable {
         moment: DateTime,
         out: &mut Vec<u8>,
     ) -> Result<(), AllocError>
-        requires sound { IsSound self.now }
-        ensures ok { OnOk result (out.new.items ≡ out.old.items ++ answer_octets self.now stamps moment item.now) }
+        requires sound { AreNodesSound self.now }
+        ensures ok { OnOk result (out.new.items ≡ out.old.items ++ result_octets self.now stamps moment item.now) }
         ensures err { OnErr result (Extends out.old.items out.new.items) }
     {
         moment_is_encodable(&moment);

@@ -9,7 +9,7 @@ ghost use Rattle.ua_variant.specs.View.{variant_of};
 ghost use Rattle.ua_nodes.specs.declared.stamps.Stamps.{Stamps};
 ghost use Rattle.ua_nodes.specs.NodeFile.{FileLine, node_lines, WriteNodes, IsFirstBad};
 ghost use Rattle.ua_nodes.specs.Read.{read_answer};
-ghost use Rattle.ua_nodes.specs.Sound.{IsSoundNode, IsSound, is_sound_node};
+ghost use Rattle.ua_nodes.specs.Sound.{IsSoundNode, AreNodesSound, is_sound_node};
 ghost use Rattle.ua_nodes.specs.Table.{Nodes, node_at, same_id};
 ghost use Rattle.ua_nodes.specs.Set.{after_set, set_node, set_refusal};
 ghost use Rattle.ua_nodes.specs.declared.set.Reading.{Reading};
@@ -83,25 +83,25 @@ pub fn a_node_is_sound_where_it_passes()
 
 /// A table that a file gives is sound.
 pub fn a_loaded_table_is_sound()
-    ensures { (text : List ℕ) (nodes : Nodes) → IsUtf8 text → WriteNodes (node_lines text) nodes → IsSound nodes }
+    ensures { (text : List ℕ) (nodes : Nodes) → IsUtf8 text → WriteNodes (node_lines text) nodes → AreNodesSound nodes }
 {}
 
 /// A sound table stays sound if a sound node is inserted.
 pub fn a_table_stays_sound_with_a_sound_node()
-    ensures { (nodes : Nodes) (id : NodeId) (variable : Variable) → IsSound nodes → IsSoundNode id variable
-        → IsSound (nodes ++ (id, variable) ∷ []) }
+    ensures { (nodes : Nodes) (id : NodeId) (variable : Variable) → AreNodesSound nodes → IsSoundNode id variable
+        → AreNodesSound (nodes ++ (id, variable) ∷ []) }
 {}
 
 /// A sound table stays sound after a Write.
 pub fn a_table_stays_sound_after_a_write()
     ensures { (items : List WriteValue) (moment : DateTime) (nodes : Nodes) → IsTrue (date_time.encodable moment)
-        → IsSound nodes → IsSound (after_write items moment nodes) }
+        → AreNodesSound nodes → AreNodesSound (after_write items moment nodes) }
 {}
 
 /// The result of a Read of a sound table can be encoded.
 pub fn a_sound_table_answers_what_can_be_written()
     ensures { (nodes : Nodes) (item : ReadValueId) (stamps : Stamps) (moment : DateTime)
-        → IsTrue (date_time.encodable moment) → IsSound nodes
+        → IsTrue (date_time.encodable moment) → AreNodesSound nodes
         → IsTrue (data_value_encodable (read_answer (node_at nodes item.node_id) item stamps moment)) }
 {}
 

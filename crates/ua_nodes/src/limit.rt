@@ -1,10 +1,10 @@
 //! Items of Write under a limit of memory.
 
 ghost use Rattle.std.specs.Prelude.{◌≡◌, ◌+◌, ◌-◌, ◌≤◌, ◌++◌, Some, cond, drop, length, min, vec_len, vec_capacity};
-ghost use Rattle.ua_nodes.specs.Limit.{after_limited, answer_within, answers_within, begins_refused, behind_first};
+ghost use Rattle.ua_nodes.specs.Limit.{after_limited, answer_within, answers_within, begins_refused, codes_behind_first};
 ghost use Rattle.ua_nodes.specs.Limit.{given_memory, growth, items_left, limited_answers, nodes_memory, room_after};
 ghost use Rattle.ua_nodes.specs.Memory.{value_memory};
-ghost use Rattle.ua_nodes.specs.Sound.{IsSound};
+ghost use Rattle.ua_nodes.specs.Sound.{AreNodesSound};
 ghost use Rattle.ua_nodes.specs.Table.{node_at};
 ghost use Rattle.ua_nodes.specs.Write.{after_item, after_write};
 
@@ -51,7 +51,7 @@ impl NodeTable {
         requires { vec_len statuses.old + vec_len items ≤ vec_capacity statuses.old }
         ensures nodes { self.new ≡ after_limited (Some most) items.items moment self.old }
         ensures answers { statuses.new.items ≡ statuses.old.items ++ limited_answers (Some most) self.old items.items }
-        ensures sound { IsSound self.old → IsSound self.new }
+        ensures sound { AreNodesSound self.old → AreNodesSound self.new }
     {
         moment_is_encodable(&moment);
         let first = statuses.as_slice().len();
@@ -150,7 +150,7 @@ impl NodeValue {
 /// Whether the first code is there and is BadOutOfMemory, and the codes after it.
 fn first_refused(codes: &[StatusCode]) -> (bool, &[StatusCode])
     ensures refused { result.0 ≡ begins_refused codes.now }
-    ensures rest { result.1.now ≡ behind_first codes.now }
+    ensures rest { result.1.now ≡ codes_behind_first codes.now }
 {
     match codes.split_first() {
         Some((code, rest)) => (code.code == BAD_OUT_OF_MEMORY.code, rest),

@@ -2,9 +2,9 @@
 
 ghost use Rattle.std.specs.Prelude.{◌≡◌, ◌≢◌, ◌+◌, ◌*◌, ◌≤◌, ◌∷◌, [], length, MatchOption, IfOk, IfErr, OnOk};
 ghost use Rattle.std.specs.Str.Lines.{strip_carriage_return};
-ghost use Rattle.ua_nodes.specs.NodeFile.{node_lines, WriteNodes, Refuses, Adds, RefusesLine, GivesNode};
+ghost use Rattle.ua_nodes.specs.NodeFile.{node_lines, WriteNodes, RefusesNodeFile, AddsNodeOfLine, RefusesLine, GivesNode};
 ghost use Rattle.ua_nodes.specs.NodeFile.{GivesId, GivesName, access_denoted, fields, is_read as is_read_line};
-ghost use Rattle.ua_nodes.specs.Sound.{IsSound};
+ghost use Rattle.ua_nodes.specs.Sound.{AreNodesSound};
 
 use crate::fault::{LineFault, LineReason, LoadFault};
 use crate::node::{Access, Node};
@@ -21,8 +21,8 @@ impl NodeTable {
     /// form, `r`, `w`, `rw` or `-`, a name, a type and a value.
     pub fn load(alloc: Global, text: &str) -> Result<NodeTable, LoadFault>
         ensures nodes { IfOk result (λ t. WriteNodes (node_lines text.now) t) }
-        ensures fault { IfErr result (λ e. Refuses (node_lines text.now) e) }
-        ensures sound { IfOk result (λ t. IsSound t) }
+        ensures fault { IfErr result (λ e. RefusesNodeFile (node_lines text.now) e) }
+        ensures sound { IfOk result (λ t. AreNodesSound t) }
     {
         let mut table = NodeTable::new(alloc);
         table.make_room(most_nodes(text));
@@ -38,7 +38,7 @@ impl NodeTable {
 
     /// Appends the node of a line, unless the line is skipped.
     fn add_line(&mut self, alloc: Global, line: &str) -> Result<(), LineFault>
-        ensures adds { OnOk result (Adds line.now self.old self.new) }
+        ensures adds { OnOk result (AddsNodeOfLine line.now self.old self.new) }
         ensures refuses { IfErr result (λ e. RefusesLine line.now self.old e) }
     {
         if !is_read(line) {

@@ -1,7 +1,7 @@
 //! Parts of arrays.
 
 ghost use Rattle.std.specs.Prelude.{◌≡◌, length, IfOk};
-ghost use Rattle.ua_nodes.specs.Range.{list_in, elements_of, part_of, ranged};
+ghost use Rattle.ua_nodes.specs.Range.{list_in, elements_of_array, range_part_of, ranged};
 ghost use Rattle.ua_variant.specs.View.{variant_of};
 
 use crate::node::NodeValue;
@@ -12,7 +12,7 @@ use ua_variant::{Dimensions, Scalars, Variant};
 impl NodeValue {
     /// How many elements the array has; a null one has none.
     pub(crate) fn element_count(&self) -> usize
-        ensures { result ≡ length (elements_of self.now) }
+        ensures { result ≡ length (elements_of_array self.now) }
     {
         match self.get() {
             Variant::Many { items, .. } => count_in(items),
@@ -23,7 +23,7 @@ impl NodeValue {
     /// An array of the elements at the places of a range, without dimensions; null where there is
     /// no array. No other element is cloned.
     pub(crate) fn part(&self, alloc: Global, range: IndexRange) -> Result<Variant, AllocError>
-        ensures { IfOk result (λ v. variant_of v ≡ part_of range self.now) }
+        ensures { IfOk result (λ v. variant_of v ≡ range_part_of range self.now) }
     {
         match self.get() {
             Variant::Many { kind, items, .. } => Ok(Variant::Many {

@@ -1,7 +1,7 @@
 //! Index ranges (OPC 10000-4, 7.27).
 
 ghost use Rattle.std.specs.Prelude.{◌≡◌, ◌+◌, ◌-◌, is_some};
-ghost use Rattle.ua_nodes.specs.Range.{range, single, between, asked_range};
+ghost use Rattle.ua_nodes.specs.Range.{range, single_index, between, asked_range};
 
 use crate::number::WholeNumber;
 use ua_builtin::UaString;
@@ -40,7 +40,7 @@ impl IndexRange {
     }
 
     fn single(text: &str) -> Option<IndexRange>
-        ensures { result ≡ single text.now }
+        ensures { result ≡ single_index text.now }
     {
         let place = u32::from_text(text)?;
         Some(IndexRange {

@@ -4,12 +4,12 @@ ghost use Rattle.std.specs.Prelude.{◌≡◌, IfOk, IfSome, IsTrue, None, true}
 ghost use Rattle.ua_variant.specs.View.{variant_of, data_value_of, value_within};
 ghost use Rattle.ua_variant.specs.Encodable.{data_value_encodable};
 ghost use Rattle.ua_nodes.specs.declared.attribute.Attribute.TheVariants as attribute;
-ghost use Rattle.ua_nodes.specs.Attribute.{attribute_of, attribute_value, single, type_node};
+ghost use Rattle.ua_nodes.specs.Attribute.{attribute_of, attribute_value, scalar_variant, type_node};
 ghost use Rattle.ua_variant.specs.Data.{localized_text, node_id as id_leaf, valued};
 ghost use Rattle.ua_nodes.specs.Range.{asked_range};
-ghost use Rattle.ua_nodes.specs.Read.{is_filled, is_default_encoding, read_item_reasons, judged};
-ghost use Rattle.ua_nodes.specs.Read.{refused as refused_data, stamps_of, value_read, read_by, read_answer};
-ghost use Rattle.ua_nodes.specs.Sound.{IsSound};
+ghost use Rattle.ua_nodes.specs.Read.{is_filled_text, is_default_encoding, read_item_reasons, judged};
+ghost use Rattle.ua_nodes.specs.Read.{status_alone as refused_data, stamps_of, value_read, read_by, read_answer};
+ghost use Rattle.ua_nodes.specs.Sound.{AreNodesSound};
 ghost use Rattle.ua_builtin.specs.Reasons.{first_reason};
 ghost use Rattle.ua_nodes.specs.Table.{node_at};
 
@@ -41,7 +41,7 @@ impl NodeTable {
     ) -> Result<DataValue, AllocError>
         ensures answer { IfOk result
             (λ d. data_value_of d ≡ read_answer (node_at self.now item.now.node_id) item.now stamps moment) }
-        ensures encodable { IsSound self.now → IfOk result (λ d. IsTrue (data_value_encodable (data_value_of d))) }
+        ensures encodable { AreNodesSound self.now → IfOk result (λ d. IsTrue (data_value_encodable (data_value_of d))) }
     {
         moment_is_encodable(&moment);
         match self.get(&item.node_id) {
@@ -185,7 +185,7 @@ impl Variable {
     #[inline(never)]
     fn display_name(&self, alloc: Global) -> Result<Variant, AllocError>
         ensures { IfOk result
-            (λ v. variant_of v ≡ single (localized_text (record { locale = None; text = self.now.name }))) }
+            (λ v. variant_of v ≡ scalar_variant (localized_text (record { locale = None; text = self.now.name }))) }
     {
         let text = LocalizedText {
             locale: UaString::null(),
@@ -196,7 +196,7 @@ impl Variable {
 
     #[inline(never)]
     fn data_type(&self) -> Variant
-        ensures { variant_of result ≡ single (id_leaf (type_node self.now.kind)) }
+        ensures { variant_of result ≡ scalar_variant (id_leaf (type_node self.now.kind)) }
     {
         Variant::One(Scalar::NodeId(NodeId {
             namespace: 0,
@@ -236,7 +236,7 @@ impl Variable {
 
 #[inline(never)]
 fn node_id(id: &NodeId) -> Result<Variant, AllocError>
-    ensures { IfOk result (λ v. variant_of v ≡ single (id_leaf id.now)) }
+    ensures { IfOk result (λ v. variant_of v ≡ scalar_variant (id_leaf id.now)) }
 {
     Ok(Variant::One(Scalar::NodeId(id.try_clone()?)))
 }
@@ -257,7 +257,7 @@ pub(crate) fn refused(code: StatusCode) -> DataValue
 
 /// Whether a text is neither null nor empty.
 pub(crate) fn has_text(text: &UaString) -> bool
-    ensures { result ≡ is_filled text.now }
+    ensures { result ≡ is_filled_text text.now }
 {
     match text.as_str() {
         Some(text) => !text.is_empty(),

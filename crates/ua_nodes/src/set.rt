@@ -2,10 +2,10 @@
 
 ghost use Rattle.std.specs.Prelude.{◌≡◌, MatchResult, OnErr, IsSome, Some, None};
 ghost use Rattle.ua_builtin.specs.Reasons.{first_reason};
-ghost use Rattle.ua_nodes.specs.Set.{after_set, after_set_at, given_by, set_node};
+ghost use Rattle.ua_nodes.specs.Set.{after_set, after_set_at, value_of_reading, set_node};
 ghost use Rattle.ua_nodes.specs.Set.{set_reasons, set_refusal, set_refusal_at};
-ghost use Rattle.ua_nodes.specs.Sound.{IsSound};
-ghost use Rattle.ua_nodes.specs.Table.{id_at, node_at};
+ghost use Rattle.ua_nodes.specs.Sound.{AreNodesSound};
+ghost use Rattle.ua_nodes.specs.Table.{node_id_at, node_at};
 
 use crate::fault::SetFault;
 use crate::node::Variable;
@@ -27,7 +27,7 @@ pub struct Reading {
 impl Reading {
     /// The reading as a DataValue. Allocates nothing.
     fn into_data(self) -> DataValue
-        ensures { result ≡ given_by self }
+        ensures { result ≡ value_of_reading self }
     {
         DataValue {
             value: Some(HeldVariant::new(self.value)),
@@ -48,7 +48,7 @@ impl NodeTable {
         ensures answer { MatchResult result (λ _. set_refusal (node_at self.old id.now) reading ≡ None)
             (λ fault. set_refusal (node_at self.old id.now) reading ≡ Some fault) }
         ensures kept { OnErr result (self.new ≡ self.old) }
-        ensures sound { IsSound self.old → IsSound self.new }
+        ensures sound { AreNodesSound self.old → AreNodesSound self.new }
     {
         match self.nodes.get_mut(id) {
             Some(variable) => variable.set(reading),
@@ -63,11 +63,11 @@ impl NodeTable {
     /// insertion, without looking for it. A position past the end is answered as an unknown NodeId.
     /// Allocates nothing.
     pub fn set_at(&mut self, index: usize, reading: Reading) -> Result<(), SetFault>
-        ensures nodes { self.new ≡ after_set_at (id_at self.old index) reading self.old }
-        ensures answer { MatchResult result (λ _. set_refusal_at (id_at self.old index) reading self.old ≡ None)
-            (λ fault. set_refusal_at (id_at self.old index) reading self.old ≡ Some fault) }
+        ensures nodes { self.new ≡ after_set_at (node_id_at self.old index) reading self.old }
+        ensures answer { MatchResult result (λ _. set_refusal_at (node_id_at self.old index) reading self.old ≡ None)
+            (λ fault. set_refusal_at (node_id_at self.old index) reading self.old ≡ Some fault) }
         ensures kept { OnErr result (self.new ≡ self.old) }
-        ensures sound { IsSound self.old → IsSound self.new }
+        ensures sound { AreNodesSound self.old → AreNodesSound self.new }
     {
         match self.nodes.get_index_mut(index) {
             Some(variable) => variable.set(reading),
@@ -83,8 +83,8 @@ impl Variable {
     /// Sets a reading, unless it is rejected.
     fn set(&mut self, reading: Reading) -> Result<(), SetFault>
         ensures node { self.new ≡ set_node self.old reading }
-        ensures answer { MatchResult result (λ _. first_reason (set_reasons self.old (given_by reading)) ≡ None)
-            (λ fault. first_reason (set_reasons self.old (given_by reading)) ≡ Some fault) }
+        ensures answer { MatchResult result (λ _. first_reason (set_reasons self.old (value_of_reading reading)) ≡ None)
+            (λ fault. first_reason (set_reasons self.old (value_of_reading reading)) ≡ Some fault) }
     {
         let moment = reading.source_time;
         let given = reading.into_data();

@@ -5,7 +5,7 @@ ghost use Rattle.std.specs.List.{IsDistinct};
 ghost use Rattle.std.specs.Map.{keys_of};
 ghost use Rattle.std.specs.Map.Iter.{ShowsInOrder, deref_pair};
 ghost use Rattle.std.specs.Option.{option_copied, option_map};
-ghost use Rattle.ua_nodes.specs.Sound.{IsSoundNode, IsSound};
+ghost use Rattle.ua_nodes.specs.Sound.{IsSoundNode, AreNodesSound};
 ghost use Rattle.ua_nodes.specs.Table.{index_of_id, node_at, same_id, variable_of};
 ghost use Rattle.ua_nodes.specs.declared.fault.InsertFault.TheVariants.{Duplicate};
 
@@ -104,7 +104,7 @@ impl NodeTable {
         ensures err { OnErr result (self.new ≡ self.old) }
         ensures distinct { OnOk result (IsDistinct same_id (keys_of self.new)) }
         ensures duplicate { IsErrOf result Duplicate ↔ IsSome (node_at self.old node.id) }
-        ensures sound { OnOk result (IsSound self.old → IsSoundNode node.id (variable_of node) → IsSound self.new) }
+        ensures sound { OnOk result (AreNodesSound self.old → IsSoundNode node.id (variable_of node) → AreNodesSound self.new) }
     {
         if self.nodes.contains_key(&node.id) {
             drop(node);

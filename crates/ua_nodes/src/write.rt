@@ -3,7 +3,7 @@
 ghost use Rattle.std.specs.Prelude.{◌≡◌, ◌+◌, ◌≤◌, ◌++◌, vec_len, vec_capacity, IsSome, Some, None, cond, is_none};
 ghost use Rattle.ua_variant.specs.View.{variant_of};
 ghost use Rattle.ua_builtin.specs.Reasons.{first_reason};
-ghost use Rattle.ua_nodes.specs.Sound.{IsSound};
+ghost use Rattle.ua_nodes.specs.Sound.{AreNodesSound};
 ghost use Rattle.ua_nodes.specs.Table.{node_at};
 ghost use Rattle.ua_nodes.specs.Write.{is_of_type, write_item_reasons, write_answer, good_or};
 ghost use Rattle.ua_nodes.specs.Write.{stored, written_by, after_item, after_write, write_answers};
@@ -29,7 +29,7 @@ impl NodeTable {
         requires { vec_len statuses.old + vec_len items ≤ vec_capacity statuses.old }
         ensures nodes { self.new ≡ after_write items.items moment self.old }
         ensures answers { statuses.new.items ≡ statuses.old.items ++ write_answers self.old items.items }
-        ensures sound { IsSound self.old → IsSound self.new }
+        ensures sound { AreNodesSound self.old → AreNodesSound self.new }
     {
         moment_is_encodable(&moment);
         for item in items {

@@ -7,7 +7,7 @@ use Rattle.ua_builtin.specs.Exact.{Begins, Exact, ◌>>=◌, IsOnly, Follows, Im
 use Rattle.ua_builtin.specs.Number.{IsNumber, number_at, number_octets}
 use Rattle.ua_wire.proofs.Readers.{bind_some, some_is, exact_same, exact_image, exact_only, exact_bind}
 use Rattle.ua_wire.proofs.NumbersRead.{exact_number}
-use Rattle.ua_opening.specs.Array.{EachEncoded, items_at, EncodesArray, behind_count, array_at}
+use Rattle.ua_opening.specs.Array.{EachEncoded, items_at, EncodesArray, array_behind_count, array_at}
 
 -- ---- values, one behind the other
 
@@ -112,4 +112,4 @@ array_back p (Some v) b h =
 pub exact_array : {A : Type 0} (p : A → List ℕ → Type 0) (r : List ℕ → Option (A × List ℕ)) → Exact p r → Exact (EncodesArray p) (array_at r)
 exact_array p r f =
     exact_same (Follows (IsNumber 4) (BehindCount p)) (EncodesArray p) (array_at r) (array_there p) (array_back p)
-    (exact_bind (IsNumber 4) (number_at 4) (BehindCount p) (behind_count r) (exact_number 4) (λ n. exact_behind_at p r f n (nat_lt n first_negative) refl))
+    (exact_bind (IsNumber 4) (number_at 4) (BehindCount p) (array_behind_count r) (exact_number 4) (λ n. exact_behind_at p r f n (nat_lt n first_negative) refl))

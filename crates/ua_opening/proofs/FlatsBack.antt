@@ -11,7 +11,7 @@ use mir.Val.{bits, hbits}
 use Rattle.ua_wire.specs.Format.{Flat}
 use Rattle.ua_wire.specs.Join.{number, both, image, made, such}
 use Rattle.ua_wire.specs.Boolean.{boolean}
-use Rattle.ua_wire.specs.Signed.{signed, in_range, octets_of}
+use Rattle.ua_wire.specs.Signed.{signed, in_range, width_octets}
 use Rattle.ua_wire.specs.FloatBits.{float_bits}
 use Rattle.ua_wire.specs.DoubleBits.{double_bits}
 use Rattle.ua_wire.specs.Counted.{text, is_text, counted, EncodesCounted, counted_fits, first_negative}
@@ -82,12 +82,12 @@ signed_in_range : (w : Width) (z : ℤ) → FitsSigned w z → in_range w z ≡ 
 signed_in_range w (pos n) h = lt-ltb n (2 ^ hbits w) h.sfits
 signed_in_range w (negsuc n) h = lt-ltb n (2 ^ hbits w) h.sfits
 
-pub back_signed : (w : Width) → 256 ^ octets_of w ≡ 2 ^ bits w → WritesBack (signed w)
+pub back_signed : (w : Width) → 256 ^ width_octets w ≡ 2 ^ bits w → WritesBack (signed w)
 back_signed w same = back_image (cast_signed w) (cast_unsigned w) (in_range w)
     (λ n b h.
     let low : n < 2 ^ bits w = subst (λ m. n < m) same h.0 in
     (of_z-to_z w n low, signed_in_range w (cast_signed w n) (sfits_to_z (record { fits = low }))))
-    (back_number (octets_of w))
+    (back_number (width_octets w))
 
 pub back_signed_8 : WritesBack (signed w8)
 back_signed_8 = back_signed w8 refl

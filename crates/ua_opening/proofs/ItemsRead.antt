@@ -9,7 +9,7 @@ use Rattle.ua_builtin.specs.Counted.{first_negative}
 use Rattle.ua_builtin.specs.Exact.{◌>>=◌, image_read}
 use Rattle.ua_builtin.specs.Number.{number_at}
 use Rattle.ua_builtin.specs.Format.{Format, IsLawful, TakesSome, Within, Gives, GivesBy}
-use Rattle.ua_opening.specs.Array.{EachEncoded, items_at, array, behind_count}
+use Rattle.ua_opening.specs.Array.{EachEncoded, items_at, array, array_behind_count}
 use Rattle.ua_wire.proofs.Readers.{some_is}
 use Rattle.ua_opening.proofs.ArrayRead.{exact_items}
 
@@ -125,6 +125,6 @@ pub claims_more : {A : Type 0} (f : Format A) → IsLawful f → (levels count :
     → count < first_negative → length rest < count → (array f).decode levels octets ≡ None
 unfolding array
 claims_more f lawful levels count octets rest e small short =
-    ap (λ o. o >>= λ x. behind_count (f.decode levels) x.0 x.1) e
+    ap (λ o. o >>= λ x. array_behind_count (f.decode levels) x.0 x.1) e
     ∙ ap (λ (test : Bool). cond test (image_read Some (items_at (f.decode levels) count) rest) (Some (None, rest))) (lt-ltb count first_negative small)
     ∙ ap (λ o. o >>= λ x. Some (Some x.0, x.1)) (too_few f lawful levels count rest short (items_at (f.decode levels) count rest) refl)

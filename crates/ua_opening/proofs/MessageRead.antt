@@ -15,7 +15,7 @@ use Rattle.ua_opening.specs.declared.header.ServiceFault.{ServiceFault}
 use Rattle.ua_opening.specs.declared.secure_channel.OpenResponse.{OpenResponse}
 use Rattle.ua_opening.specs.declared.open.OpenAnswer.{OpenAnswer}
 use Rattle.ua_opening.specs.declared.open.OpenAnswer.TheVariants.{Open, Fault}
-use Rattle.ua_opening.specs.Open.{IsAnswer, IsNoAnswer, answer_found, answer_read}
+use Rattle.ua_opening.specs.Open.{IsOpenAnswer, IsNoOpenAnswer, answer_found, answer_read}
 use Rattle.ua_opening.specs.Message.{IsBody, IsNoBody, alone, kind_at, message, standard_number, body_of, found_or}
 use Rattle.ua_opening.proofs.BodyRead.{whole, unread, body_reads, no_fault, body_is, body_found, none_found}
 use Rattle.ua_opening.proofs.HeaderSound.{sound_service_fault}
@@ -96,20 +96,20 @@ error_of (Ok v) = Err NoValue
 error_of (Err e) = Err e
 
 pub no_answer_id : (old new : List ℕ) (e : ReadFault) → Gives node_id.decode old new (Err e) → ◌≡◌ {A = Result OpenAnswer ReadFault} (Err e) (Err NoValue)
-    → IsNoAnswer old
+    → IsNoOpenAnswer old
 no_answer_id old new e h is (Open m) body = no_message_id 449 open_response lawful_open_response old new e h
     (ap (λ (r : Result OpenAnswer ReadFault). error_of {B = OpenResponse} r) is) m body
 no_answer_id old new e h is (Fault m) body = no_message_id 397 service_fault sound_service_fault.lawful old new e h
     (ap (λ (r : Result OpenAnswer ReadFault). error_of {B = ServiceFault} r) is) m body
 
 pub no_answer : (old rest : List ℕ) (id : NodeId) → node_id.decode old ≡ Some (id, rest) → (standard_number id ≡ Some 449 → ⊥)
-    → (standard_number id ≡ Some 397 → ⊥) → IsNoAnswer old
+    → (standard_number id ≡ Some 397 → ⊥) → IsNoOpenAnswer old
 no_answer old rest id found other more (Open m) body = not_message 449 open_response lawful_open_response old rest id found other m body
 no_answer old rest id found other more (Fault m) body = not_message 397 service_fault sound_service_fault.lawful old rest id found more m body
 
 pub no_open : (old rest : List ℕ) (id : NodeId) (e : ReadFault) → node_id.decode old ≡ Some (id, rest) → standard_number id ≡ Some 449
     → (◌≡◌ {A = Result OpenResponse ReadFault} (Err e) (Err NoValue) → IsNoBody open_response rest)
-    → ◌≡◌ {A = Result OpenAnswer ReadFault} (Err e) (Err NoValue) → IsNoAnswer old
+    → ◌≡◌ {A = Result OpenAnswer ReadFault} (Err e) (Err NoValue) → IsNoOpenAnswer old
 no_open old rest id e found is none same (Open m) body = message_none 449 open_response lawful_open_response old rest id 449 found is refl
     (none (ap (λ (r : Result OpenAnswer ReadFault). error_of {B = OpenResponse} r) same)) m body
 no_open old rest id e found is none same (Fault m) body = not_message 397 service_fault sound_service_fault.lawful old rest id found
@@ -117,7 +117,7 @@ no_open old rest id e found is none same (Fault m) body = not_message 397 servic
 
 pub no_fault_answer : (old rest : List ℕ) (id : NodeId) (e : ReadFault) → node_id.decode old ≡ Some (id, rest) → standard_number id ≡ Some 397
     → (◌≡◌ {A = Result ServiceFault ReadFault} (Err e) (Err NoValue) → IsNoBody service_fault rest)
-    → ◌≡◌ {A = Result OpenAnswer ReadFault} (Err e) (Err NoValue) → IsNoAnswer old
+    → ◌≡◌ {A = Result OpenAnswer ReadFault} (Err e) (Err NoValue) → IsNoOpenAnswer old
 no_fault_answer old rest id e found is none same (Open m) body = not_message 449 open_response lawful_open_response old rest id found
     (two_numbers (standard_number id) 397 449 is (λ f. absurd (omega arith))) m body
 no_fault_answer old rest id e found is none same (Fault m) body = message_none 397 service_fault sound_service_fault.lawful old rest id 397 found is refl
@@ -149,14 +149,14 @@ not_both : (octets : List ℕ) (m : OpenResponse) (w : ServiceFault) → IsBody 
     → ⊥
 not_both octets m w p q = not_both_at octets (node_id.decode octets) refl m w p q
 
-pub one_answer : (a c : OpenAnswer) (octets : List ℕ) → IsAnswer a octets → IsAnswer c octets → a ≡ c
+pub one_answer : (a c : OpenAnswer) (octets : List ℕ) → IsOpenAnswer a octets → IsOpenAnswer c octets → a ≡ c
 one_answer (Open m) (Open w) octets p q = ap Open (one_message (message 449 open_response) (lawful_message 449 lawful_open_response) m w octets p q)
 one_answer (Open m) (Fault w) octets p q = absurd (not_both octets m w p q)
 one_answer (Fault m) (Open w) octets p q = absurd (not_both octets w m q p)
 one_answer (Fault m) (Fault w) octets p q = ap Fault (one_message (message 397 service_fault) (lawful_message 397 sound_service_fault.lawful) m w octets p q)
 
 -- what a reader of answers answers, by what it says of Ok and of NoValue
-pub answer_answers : (octets : List ℕ) (r : Result OpenAnswer ReadFault) → IfOk r (λ a. IsAnswer a octets) → (IsErrOf r NoValue → IsNoAnswer octets)
+pub answer_answers : (octets : List ℕ) (r : Result OpenAnswer ReadFault) → IfOk r (λ a. IsOpenAnswer a octets) → (IsErrOf r NoValue → IsNoOpenAnswer octets)
     → (r ≡ found_or (answer_read octets) NoValue) ⊎ (r ≡ Err OutOfMemory)
 answer_answers octets (Ok (Open m)) found none =
     inl (sym
@@ -182,7 +182,7 @@ answer_answers octets (Err OutOfMemory) found none = inr refl
 pub body_of-found : {A : Type 0} (f : Format A) → IsLawful f → (octets : List ℕ) (m : A) → ((body_of f octets ≡ Some m) ↔ IsBody f m octets)
 body_of-found f lawful octets m = ((λ e. body_is f lawful octets m e), (λ h. body_found f lawful octets m h))
 
-pub answer_read-found : (octets : List ℕ) (a : OpenAnswer) → IsAnswer a octets → answer_read octets ≡ Some a
+pub answer_read-found : (octets : List ℕ) (a : OpenAnswer) → IsOpenAnswer a octets → answer_read octets ≡ Some a
 answer_read-found octets (Open m) h =
     ap (λ o. answer_found o (body_of (message 397 service_fault) octets))
     (body_found (message 449 open_response) (lawful_message 449 lawful_open_response) octets m h)
@@ -194,14 +194,14 @@ answer_read-found octets (Fault m) h =
     ∙ ap (λ o. answer_found None o) (body_found (message 397 service_fault) (lawful_message 397 sound_service_fault.lawful) octets m h)
 
 answer_at : (octets : List ℕ) (a : OpenAnswer) (o : Option OpenResponse) (u : Option ServiceFault) → body_of (message 449 open_response) octets ≡ o
-    → body_of (message 397 service_fault) octets ≡ u → answer_found o u ≡ Some a → IsAnswer a octets
-answer_at octets a (Some m) u e f is = subst (λ (x : OpenAnswer). IsAnswer x octets) (some_is (Open m) a is)
+    → body_of (message 397 service_fault) octets ≡ u → answer_found o u ≡ Some a → IsOpenAnswer a octets
+answer_at octets a (Some m) u e f is = subst (λ (x : OpenAnswer). IsOpenAnswer x octets) (some_is (Open m) a is)
     (body_is (message 449 open_response) (lawful_message 449 lawful_open_response) octets m e)
-answer_at octets a None (Some m) e f is = subst (λ (x : OpenAnswer). IsAnswer x octets) (some_is (Fault m) a is)
+answer_at octets a None (Some m) e f is = subst (λ (x : OpenAnswer). IsOpenAnswer x octets) (some_is (Fault m) a is)
     (body_is (message 397 service_fault) (lawful_message 397 sound_service_fault.lawful) octets m f)
 answer_at octets a None None e f is = absurd cc
 
-pub answer_read-is : (octets : List ℕ) (a : OpenAnswer) → ((answer_read octets ≡ Some a) ↔ IsAnswer a octets)
+pub answer_read-is : (octets : List ℕ) (a : OpenAnswer) → ((answer_read octets ≡ Some a) ↔ IsOpenAnswer a octets)
 answer_read-is octets a = (
   (λ e. answer_at octets a (body_of (message 449 open_response) octets) (body_of (message 397 service_fault) octets) refl refl e),
   (λ h. answer_read-found octets a h),

@@ -56,12 +56,12 @@ array_octets octets None = number_octets 4 null_count
 array_octets octets (Some v) = number_octets 4 (length v) ++ flat_map octets v
 
 -- after the count: null has no further bytes
-abbrev pub behind_count : {A : Type 0} → (List ℕ → Option (A × List ℕ)) → ℕ → List ℕ → Option (Option (List A) × List ℕ)
-behind_count read count octets = cond (nat_lt count first_negative) (image_read Some (items_at read count) octets) (Some (None, octets))
+abbrev pub array_behind_count : {A : Type 0} → (List ℕ → Option (A × List ℕ)) → ℕ → List ℕ → Option (Option (List A) × List ℕ)
+array_behind_count read count octets = cond (nat_lt count first_negative) (image_read Some (items_at read count) octets) (Some (None, octets))
 
 -- the count, and what follows it
 abbrev pub array_at : {A : Type 0} → (List ℕ → Option (A × List ℕ)) → List ℕ → Option (Option (List A) × List ℕ)
-array_at read octets = number_at 4 octets >>= λ count. behind_count read count.0 count.1
+array_at read octets = number_at 4 octets >>= λ count. array_behind_count read count.0 count.1
 
 -- an Int32 count and that many values; any negative count is null, and -1 is its canonical encoding
 -- (OPC 10000-6, 5.2.5)

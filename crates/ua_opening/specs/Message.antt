@@ -12,15 +12,15 @@ use Rattle.ua_opening.specs.declared.header.RequestHeader.{RequestHeader}
 -- ---- the NodeIds of encodings
 
 -- the number that an identifier is, if it is a numeric one
-abbrev pub number_in : Identifier → Option ℕ
-number_in (Numeric n) = Some n
-number_in (Text t) = None
-number_in (Global g) = None
-number_in (Opaque b) = None
+abbrev pub number_in_identifier : Identifier → Option ℕ
+number_in_identifier (Numeric n) = Some n
+number_in_identifier (Text t) = None
+number_in_identifier (Global g) = None
+number_in_identifier (Opaque b) = None
 
 -- the number of a NodeId of the standard's namespace
 abbrev pub standard_number : NodeId → Option ℕ
-standard_number id = cond (nat_eq id.namespace 0) (number_in id.identifier) None
+standard_number id = cond (nat_eq id.namespace 0) (number_in_identifier id.identifier) None
 
 -- the NodeId of the standard's namespace with this number
 abbrev pub standard : ℕ → NodeId
@@ -143,8 +143,8 @@ abbrev pub body_of : {A : Type 0} → Format A → List ℕ → Option A
 body_of format octets = format.decode most_levels octets >>= λ x. if_last x.0 x.1
 
 -- the NodeId at the start of a body
-abbrev pub id_of : List ℕ → Option NodeId
-id_of octets = node_id.decode octets >>= λ x. Some x.0
+abbrev pub id_of_body : List ℕ → Option NodeId
+id_of_body octets = node_id.decode octets >>= λ x. Some x.0
 
 -- the RequestHandle of the RequestHeader that was decoded, or 0 if none was (OPC 10000-4, 7.33)
 abbrev pub header_handle : Option (RequestHeader × List ℕ) → ℕ

@@ -9,13 +9,13 @@ use Rattle.ua_opening.specs.declared.open.OpenAnswer.{OpenAnswer}
 use Rattle.ua_opening.specs.declared.open.OpenAnswer.TheVariants.{Open, Fault}
 
 -- the bytes are the body of this answer: of an OpenSecureChannel response, or of a ServiceFault
-abbrev pub IsAnswer : OpenAnswer → List ℕ → Type 0
-IsAnswer (Open m) octets = IsBody (message 449 open_response) m octets
-IsAnswer (Fault m) octets = IsBody (message 397 service_fault) m octets
+abbrev pub IsOpenAnswer : OpenAnswer → List ℕ → Type 0
+IsOpenAnswer (Open m) octets = IsBody (message 449 open_response) m octets
+IsOpenAnswer (Fault m) octets = IsBody (message 397 service_fault) m octets
 
 -- no answer has these bytes as its body
-abbrev pub IsNoAnswer : List ℕ → Type 0
-IsNoAnswer octets = (answer : OpenAnswer) → IsAnswer answer octets → ⊥
+abbrev pub IsNoOpenAnswer : List ℕ → Type 0
+IsNoOpenAnswer octets = (answer : OpenAnswer) → IsOpenAnswer answer octets → ⊥
 
 -- a fault, if there is one
 abbrev pub fault_found : Option ServiceFault → Option OpenAnswer

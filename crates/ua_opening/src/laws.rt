@@ -10,7 +10,7 @@ ghost use Rattle.ua_builtin.specs.QualifiedName.{qualified_name};
 ghost use Rattle.ua_builtin.specs.declared.date_time.DateTime.{DateTime};
 ghost use Rattle.ua_opening.specs.Laws.{BodyReadsBack, OneMessage};
 ghost use Rattle.ua_opening.specs.Message.{message, body_of, IsBody};
-ghost use Rattle.ua_opening.specs.Open.{IsAnswer, answer_read};
+ghost use Rattle.ua_opening.specs.Open.{IsOpenAnswer, answer_read};
 ghost use Rattle.ua_opening.specs.declared.open.OpenAnswer.{OpenAnswer};
 ghost use Rattle.ua_opening.specs.Field.{byte_string, string};
 ghost use Rattle.ua_opening.specs.Header.{service_fault};
@@ -38,7 +38,7 @@ pub fn bodies_of_channel_messages_differ()
 
 /// No body encodes two responses to an OpenSecureChannel request, whether of one kind or of two.
 pub fn bodies_of_answers_differ()
-    ensures { (a b : OpenAnswer) (octets : List ℕ) → IsAnswer a octets → IsAnswer b octets → a ≡ b }
+    ensures { (a b : OpenAnswer) (octets : List ℕ) → IsOpenAnswer a octets → IsOpenAnswer b octets → a ≡ b }
 {}
 
 /// The canonical bodies of an OpenSecureChannel request, of its good response and of a
@@ -58,7 +58,7 @@ pub fn bodies_of_the_channel_have_lengths()
 pub fn channel_messages_are_read()
     ensures request { (octets : List ℕ) (m : OpenRequest)
         → ((body_of (message 446 open_request) octets ≡ Some m) ↔ IsBody (message 446 open_request) m octets) }
-    ensures answer { (octets : List ℕ) (a : OpenAnswer) → ((answer_read octets ≡ Some a) ↔ IsAnswer a octets) }
+    ensures answer { (octets : List ℕ) (a : OpenAnswer) → ((answer_read octets ≡ Some a) ↔ IsOpenAnswer a octets) }
 {}
 
 /// A String, a ByteString, a NodeId, a QualifiedName, a LocalizedText, an ExtensionObject or a

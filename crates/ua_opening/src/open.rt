@@ -5,7 +5,7 @@ ghost use Rattle.ua_wire.specs.declared.fault.ReadFault.TheVariants.{NoValue};
 ghost use Rattle.ua_wire.specs.declared.fault.WriteFault.TheVariants.{NotWritable};
 ghost use Rattle.ua_opening.specs.SecureChannel.{open_request, open_response, close_request};
 ghost use Rattle.ua_opening.specs.Message.{IsBody, IsNoBody, message, body_of, found_or};
-ghost use Rattle.ua_opening.specs.Open.{IsAnswer, IsNoAnswer, answer_read};
+ghost use Rattle.ua_opening.specs.Open.{IsOpenAnswer, IsNoOpenAnswer, answer_read};
 
 use crate::header::ServiceFault;
 use crate::message::{read_message, read_whole, standard_number, write_message};
@@ -43,8 +43,8 @@ pub fn write_open_request(request: &OpenRequest, out: &mut Vec<u8>) -> Result<()
 
 // Reads an answer by the NodeId that it begins with.
 fn read_answer<S: Source>(alloc: Global, src: &mut S) -> Result<OpenAnswer, ReadFault>
-    ensures found { IfOk result (λ answer. IsAnswer answer (S.octets src.old)) }
-    ensures none { IsErrOf result NoValue → IsNoAnswer (S.octets src.old) }
+    ensures found { IfOk result (λ answer. IsOpenAnswer answer (S.octets src.old)) }
+    ensures none { IsErrOf result NoValue → IsNoOpenAnswer (S.octets src.old) }
 {
     let id = NodeId::read_value(alloc, src, MOST_LEVELS)?;
     match standard_number(&id) {
@@ -58,8 +58,8 @@ fn read_answer<S: Source>(alloc: Global, src: &mut S) -> Result<OpenAnswer, Read
 /// it. After an error, discard the source.
 pub fn read_open_response<S: Source>(alloc: Global, src: &mut S) -> Result<OpenAnswer, ReadFault>
     ensures read { (result ≡ found_or (answer_read (S.octets src.old)) NoValue) ⊎ (result ≡ Err ReadFault.OutOfMemory) }
-    ensures found { IfOk result (λ answer. IsAnswer answer (S.octets src.old)) }
-    ensures none { IsErrOf result NoValue → IsNoAnswer (S.octets src.old) }
+    ensures found { IfOk result (λ answer. IsOpenAnswer answer (S.octets src.old)) }
+    ensures none { IsErrOf result NoValue → IsNoOpenAnswer (S.octets src.old) }
 {
     read_answer(alloc, src)
 }

@@ -5,9 +5,9 @@ use Rattle.std.proofs.Common.{if◌then◌else◌, codes, refl, sym, ap, subst, 
 use Rattle.std.specs.Fmt.{decimal}
 use Rattle.ua_texts.specs.PlainLeaf.{Adds}
 use Rattle.ua_pair.specs.declared.options.FieldStyle.{FieldStyle}
-use Rattle.ua_pair.specs.Styles.{exact}
+use Rattle.ua_pair.specs.Styles.{exact_field_style}
 use Rattle.ua_pair.specs.Messages.{AreMessageLines, message_lines}
-use Rattle.ua_pair.specs.Tree.{exact_text, Leaf, IsText, Tree, Array, Elements, Fields, text, array, structure, null, elements}
+use Rattle.ua_pair.specs.Tree.{exact_leaf_text, Leaf, IsText, Tree, Array, Elements, Fields, text, array, structure, null, elements}
 use Rattle.ua_pair.specs.Tree.{no_elements, element, no_fields, field, count, deeper, line, lines, array_lines, element_lines, field_lines}
 use Rattle.ua_pair.specs.Tree.{field_margin, field_path, element_path, IsBehind, IsArrayBehind, AreElementsBehind, AreFieldsBehind}
 
@@ -77,13 +77,13 @@ text_line (Err x) style margin path old start mid new leaf s h e = tt
 -- ---- exact texts
 
 mutual
-  exact_behind : (names : Bool) (margin path old : List ℕ) (tree : Tree) (new : List ℕ) → IsBehind (exact names) margin path old tree new
+  exact_behind : (names : Bool) (margin path old : List ℕ) (tree : Tree) (new : List ℕ) → IsBehind (exact_field_style names) margin path old tree new
       → new ≡ old ++ lines names margin path tree
   exact_behind names margin path old (text leaf) new h = h.1 ∙ ap (λ (t : List ℕ). old ++ line margin path t) h.2
   exact_behind names margin path old (array items) new h = exact_array names margin path old items new h
   exact_behind names margin path old (structure inner) new h = exact_fields names margin path old inner new h
 
-  exact_array : (names : Bool) (margin path old : List ℕ) (items : Array) (new : List ℕ) → IsArrayBehind (exact names) margin path old items new
+  exact_array : (names : Bool) (margin path old : List ℕ) (items : Array) (new : List ℕ) → IsArrayBehind (exact_field_style names) margin path old items new
       → new ≡ old ++ array_lines names margin path items
   exact_array names margin path old null new h = h
   exact_array names margin path old (elements items) new h =
@@ -91,14 +91,14 @@ mutual
       ∙ append_assoc old (line margin path (decimal (count items))) (element_lines names (deeper margin) path 0 items)
 
   exact_elements : (names : Bool) (margin path : List ℕ) (index : ℕ) (old : List ℕ) (items : Elements) (new : List ℕ)
-      → AreElementsBehind (exact names) margin path index old items new → new ≡ old ++ element_lines names margin path index items
+      → AreElementsBehind (exact_field_style names) margin path index old items new → new ≡ old ++ element_lines names margin path index items
   exact_elements names margin path index old no_elements new h = h ∙ sym (append-nil old)
   exact_elements names margin path index old (element tree others) new h =
       exact_elements names margin path (index + 1) h.0 others new h.2
       ∙ ap (λ (t : List ℕ). t ++ element_lines names margin path (index + 1) others) (exact_behind names margin (element_path path index) old tree h.0 h.1)
       ∙ append_assoc old (lines names margin (element_path path index) tree) (element_lines names margin path (index + 1) others)
 
-  exact_fields : (names : Bool) (margin path old : List ℕ) (inner : Fields) (new : List ℕ) → AreFieldsBehind (exact names) margin path old inner new
+  exact_fields : (names : Bool) (margin path old : List ℕ) (inner : Fields) (new : List ℕ) → AreFieldsBehind (exact_field_style names) margin path old inner new
       → new ≡ old ++ field_lines names margin path inner
   exact_fields names margin path old no_fields new h = h ∙ sym (append-nil old)
   exact_fields names margin path old (field name tree others) new h =
@@ -109,20 +109,20 @@ mutual
 -- and the lines of a tree are such ones
 mutual
   behind_exact : (names : Bool) (margin path old : List ℕ) (tree : Tree) (new : List ℕ) → new ≡ old ++ lines names margin path tree
-      → IsBehind (exact names) margin path old tree new
-  behind_exact names margin path old (text leaf) new h = (exact_text names leaf, h, refl)
+      → IsBehind (exact_field_style names) margin path old tree new
+  behind_exact names margin path old (text leaf) new h = (exact_leaf_text names leaf, h, refl)
   behind_exact names margin path old (array items) new h = array_exact names margin path old items new h
   behind_exact names margin path old (structure inner) new h = fields_exact names margin path old inner new h
 
   array_exact : (names : Bool) (margin path old : List ℕ) (items : Array) (new : List ℕ) → new ≡ old ++ array_lines names margin path items
-      → IsArrayBehind (exact names) margin path old items new
+      → IsArrayBehind (exact_field_style names) margin path old items new
   array_exact names margin path old null new h = h
   array_exact names margin path old (elements items) new h =
       elements_exact names (deeper margin) path 0 (old ++ line margin path (decimal (count items))) items new
       (h ∙ sym (append_assoc old (line margin path (decimal (count items))) (element_lines names (deeper margin) path 0 items)))
 
   elements_exact : (names : Bool) (margin path : List ℕ) (index : ℕ) (old : List ℕ) (items : Elements) (new : List ℕ)
-      → new ≡ old ++ element_lines names margin path index items → AreElementsBehind (exact names) margin path index old items new
+      → new ≡ old ++ element_lines names margin path index items → AreElementsBehind (exact_field_style names) margin path index old items new
   elements_exact names margin path index old no_elements new h = h ∙ append-nil old
   elements_exact names margin path index old (element tree others) new h =
       let mid = old ++ lines names margin (element_path path index) tree in (
@@ -133,7 +133,7 @@ mutual
       )
 
   fields_exact : (names : Bool) (margin path old : List ℕ) (inner : Fields) (new : List ℕ) → new ≡ old ++ field_lines names margin path inner
-      → AreFieldsBehind (exact names) margin path old inner new
+      → AreFieldsBehind (exact_field_style names) margin path old inner new
   fields_exact names margin path old no_fields new h = h ∙ append-nil old
   fields_exact names margin path old (field name tree others) new h =
       let mid = old ++ lines names (field_margin margin tree) (field_path path name) tree in (
@@ -143,14 +143,14 @@ mutual
             (h ∙ sym (append_assoc old (lines names (field_margin margin tree) (field_path path name) tree) (field_lines names margin path others))),
       )
 
-pub message_exact : (names : Bool) (tree : Tree) → AreMessageLines (exact names) tree (message_lines names tree)
+pub message_exact : (names : Bool) (tree : Tree) → AreMessageLines (exact_field_style names) tree (message_lines names tree)
 message_exact names tree = behind_exact names (codes "  ") [] [] tree (message_lines names tree) refl
 
 -- a message's lines, where they are exact, are those of its tree
-pub exact_message : (names : Bool) (tree : Tree) (told : List ℕ) → AreMessageLines (exact names) tree told → told ≡ message_lines names tree
+pub exact_message : (names : Bool) (tree : Tree) (told : List ℕ) → AreMessageLines (exact_field_style names) tree told → told ≡ message_lines names tree
 exact_message names tree told h = exact_behind names (codes "  ") [] [] tree told h
 
-pub exact_lines : {E : Type 0} (r : Result (Unit {0}) E) (names : Bool) (tree : Tree) (old new : List ℕ) → Adds r old new (AreMessageLines (exact names) tree)
+pub exact_lines : {E : Type 0} (r : Result (Unit {0}) E) (names : Bool) (tree : Tree) (old new : List ℕ) → Adds r old new (AreMessageLines (exact_field_style names) tree)
     → OnOk r (new ≡ old ++ message_lines names tree)
 exact_lines (Ok u) names tree old new h = h.1 ∙ ap (λ (t : List ℕ). old ++ t) (exact_message names tree h.0 h.2)
 exact_lines (Err x) names tree old new h = tt

@@ -14,7 +14,7 @@ use Rattle.ua_services.specs.Request.{request}
 use Rattle.ua_services.specs.Response.{response}
 use Rattle.ua_texts.specs.PlainLeaf.{Adds}
 use Rattle.ua_pair.proofs.Behind.{exact_message, message_exact}
-use Rattle.ua_pair.specs.Styles.{exact}
+use Rattle.ua_pair.specs.Styles.{exact_field_style}
 use Rattle.ua_pair.specs.Tree.{Tree}
 use Rattle.ua_pair.specs.Messages.{AreMessageLines, message_lines, request_tree, response_tree}
 use Rattle.ua_pair.specs.Messages.{open_request_tree, open_answer_tree, close_request_tree, service_fault_tree}
@@ -43,16 +43,16 @@ body_told names CloseRequest octets =
 -- ---- exact texts
 
 exact_found : {A : Type 0} (names : Bool) (tree : A → Tree) (found : Option A) (text : List ℕ)
-    → IsFound (λ m. AreMessageLines (exact names) (tree m)) found text → text ≡ fields_found (λ m. message_lines names (tree m)) found
+    → IsFound (λ m. AreMessageLines (exact_field_style names) (tree m)) found text → text ≡ fields_found (λ m. message_lines names (tree m)) found
 exact_found names tree None text h = h
 exact_found names tree (Some m) text h = exact_message names (tree m) text h
 
 found_exact : {A : Type 0} (names : Bool) (tree : A → Tree) (found : Option A)
-    → IsFound (λ m. AreMessageLines (exact names) (tree m)) found (fields_found (λ m. message_lines names (tree m)) found)
+    → IsFound (λ m. AreMessageLines (exact_field_style names) (tree m)) found (fields_found (λ m. message_lines names (tree m)) found)
 found_exact names tree None = refl
 found_exact names tree (Some m) = message_exact names (tree m)
 
-pub text_exact : (names : Bool) (kind : BodyKind) (octets : List ℕ) → IsBodyText (exact names) kind octets (body_fields names kind octets)
+pub text_exact : (names : Bool) (kind : BodyKind) (octets : List ℕ) → IsBodyText (exact_field_style names) kind octets (body_fields names kind octets)
 unfolding body_fields
 text_exact names Request octets = found_exact names request_tree (body_of request octets)
 text_exact names Response octets = found_exact names response_tree (body_of response octets)
@@ -60,11 +60,11 @@ text_exact names OpenRequest octets = found_exact names open_request_tree (body_
 text_exact names OpenResponse octets = found_exact names open_answer_tree (answer_read octets)
 text_exact names CloseRequest octets = found_exact names close_request_tree (body_of (message 452 close_request) octets)
 
-pub header_exact : (names : Bool) (side : Side) (octets : List ℕ) → IsHeaderText (exact names) side octets (header_fields names side octets)
+pub header_exact : (names : Bool) (side : Side) (octets : List ℕ) → IsHeaderText (exact_field_style names) side octets (header_fields names side octets)
 header_exact names Client octets = found_exact names close_request_tree (behind_id close_request octets)
 header_exact names Server octets = found_exact names service_fault_tree (behind_id service_fault octets)
 
-pub exact_text_of : (names : Bool) (kind : BodyKind) (octets text : List ℕ) → IsBodyText (exact names) kind octets text → text ≡ body_fields names kind octets
+pub exact_text_of : (names : Bool) (kind : BodyKind) (octets text : List ℕ) → IsBodyText (exact_field_style names) kind octets text → text ≡ body_fields names kind octets
 unfolding body_fields
 exact_text_of names Request octets text h = exact_found names request_tree (body_of request octets) text h
 exact_text_of names Response octets text h = exact_found names response_tree (body_of response octets) text h
@@ -72,11 +72,11 @@ exact_text_of names OpenRequest octets text h = exact_found names open_request_t
 exact_text_of names OpenResponse octets text h = exact_found names open_answer_tree (answer_read octets) text h
 exact_text_of names CloseRequest octets text h = exact_found names close_request_tree (body_of (message 452 close_request) octets) text h
 
-pub exact_header : (names : Bool) (side : Side) (octets text : List ℕ) → IsHeaderText (exact names) side octets text → text ≡ header_fields names side octets
+pub exact_header : (names : Bool) (side : Side) (octets text : List ℕ) → IsHeaderText (exact_field_style names) side octets text → text ≡ header_fields names side octets
 exact_header names Client octets text h = exact_found names close_request_tree (behind_id close_request octets) text h
 exact_header names Server octets text h = exact_found names service_fault_tree (behind_id service_fault octets) text h
 
 pub exact_body : {E : Type 0} (r : Result (Unit {0}) E) (names : Bool) (kind : BodyKind) (octets old new : List ℕ)
-    → Adds r old new (IsBodyText (exact names) kind octets) → OnOk r (new ≡ old ++ body_fields names kind octets)
+    → Adds r old new (IsBodyText (exact_field_style names) kind octets) → OnOk r (new ≡ old ++ body_fields names kind octets)
 exact_body (Ok u) names kind octets old new h = h.1 ∙ ap (λ (t : List ℕ). old ++ t) (exact_text_of names kind octets h.0 h.2)
 exact_body (Err x) names kind octets old new h = tt

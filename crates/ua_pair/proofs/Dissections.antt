@@ -27,8 +27,8 @@ use Rattle.ua_chunk.specs.declared.chunk.Chunk.{Chunk}
 use Rattle.ua_chunk.specs.Open.{open_octets}
 use Rattle.ua_pair.specs.Before.{message_chunks}
 use Rattle.ua_pair.specs.Dissected.{rules, every_frame, AddsLines, AreTexts}
-use Rattle.ua_pair.specs.Dissecting.{Holds, DissectorGoesOn, HasRefused, IsClosed, AreHeld, StandsAt, StandsBehind, TellsMore}
-use Rattle.ua_pair.specs.Dissecting.{EndsLines, is_going, MovesOn, TakesPiece, Accepts, Refuses, FrameTold, TakesNone, TakesSome}
+use Rattle.ua_pair.specs.Dissecting.{Holds, DissectorGoesOn, HasRefused, IsDissectorClosed, AreHeld, DissectorStandsAt, StandsBehind, TellsMore}
+use Rattle.ua_pair.specs.Dissecting.{EndsLines, is_dissecting, MovesOn, TakesPiece, Accepts, RefusesFrame, FrameTold, TakesNone, DissectsSome}
 use Rattle.ua_pair.specs.Lines.{rest_line, refused_line}
 use Rattle.ua_pair.specs.Refused.{frame_reasons}
 use Rattle.ua_pair.specs.Telling.{TellerStands}
@@ -38,11 +38,11 @@ use Rattle.ua_pair.proofs.Texts.{texts_push}
 
 -- ---- states
 
-going_not_refused : (s : State) (code : StatusCode) → is_going s ≡ true → s ≡ state.Refused code → ⊥
-going_not_refused s code goes refused = let bad : false ≡ true = ap is_going (sym refused) ∙ goes in cc
+going_not_refused : (s : State) (code : StatusCode) → is_dissecting s ≡ true → s ≡ state.Refused code → ⊥
+going_not_refused s code goes refused = let bad : false ≡ true = ap is_dissecting (sym refused) ∙ goes in cc
 
-going_not_still : (s : State) → is_going s ≡ false → s ≡ state.Going → ⊥
-going_not_still s still goes = let bad : false ≡ true = sym still ∙ ap is_going goes in cc
+going_not_still : (s : State) → is_dissecting s ≡ false → s ≡ state.Going → ⊥
+going_not_still s still goes = let bad : false ≡ true = sym still ∙ ap is_dissecting goes in cc
 
 -- the code of a refusal
 code_in : State → ℕ
@@ -66,14 +66,14 @@ pub record GoesBehind (d : Dissector) (options : DissectOptions) (octets told : 
   pub place : d.place ≡ place_behind frames
 
 goes_at : (d : Dissector) (options : DissectOptions) (octets told : List ℕ) (fs : List Frame) (rest : List ℕ) (end : End ℕ)
-    → Run (rules options) octets fs rest end → AreTexts options fs told → StandsAt d options fs rest end → d.place ≡ place_behind fs → is_going d.state ≡ true
+    → Run (rules options) octets fs rest end → AreTexts options fs told → DissectorStandsAt d options fs rest end → d.place ≡ place_behind fs → is_dissecting d.state ≡ true
     → GoesBehind d options octets told
 goes_at d options octets told fs rest Going run told_are at place goes =
     record { frames = fs; rest = rest; run = run; told_are = told_are; goes_on = at; place = place }
 goes_at d options octets told fs rest (Stopped code) run told_are at place goes = absurd (going_not_refused d.state (of_code code) goes at.state)
 goes_at d options octets told fs rest Over run told_are at place goes = absurd at
 
-pub goes_behind : (d : Dissector) (options : DissectOptions) (octets told : List ℕ) → StandsBehind d options octets told → is_going d.state ≡ true
+pub goes_behind : (d : Dissector) (options : DissectOptions) (octets told : List ℕ) → StandsBehind d options octets told → is_dissecting d.state ≡ true
     → GoesBehind d options octets told
 goes_behind d options octets told s goes = goes_at d options octets told s.are.frames s.are.rest s.are.end s.are.run s.are.told_are s.at s.place goes
 
@@ -112,7 +112,7 @@ told-none told lines none = sym (ap (λ (l : List ℕ). told ++ l) none ∙ appe
 
 -- where it goes no further, octets more change nothing
 stays_at : (d : Dissector) (options : DissectOptions) (o told more : List ℕ) (fs : List Frame) (rest : List ℕ) (end : End ℕ) → Run (rules options) o fs rest end
-    → AreTexts options fs told → StandsAt d options fs rest end → d.place ≡ place_behind fs → is_going d.state ≡ false → StandsBehind d options (o ++ more) told
+    → AreTexts options fs told → DissectorStandsAt d options fs rest end → d.place ≡ place_behind fs → is_dissecting d.state ≡ false → StandsBehind d options (o ++ more) told
 stays_at d options o told more fs rest Going run told_are at place still = absurd (going_not_still d.state still at.state)
 stays_at d options o told more fs rest (Stopped code) run told_are at place still = record {
   are = record {
@@ -127,11 +127,11 @@ stays_at d options o told more fs rest (Stopped code) run told_are at place stil
 }
 stays_at d options o told more fs rest Over run told_are at place still = absurd at
 
-pub stays : (d : Dissector) (options : DissectOptions) (o told more : List ℕ) → is_going d.state ≡ false → StandsBehind d options o told
+pub stays : (d : Dissector) (options : DissectOptions) (o told more : List ℕ) → is_dissecting d.state ≡ false → StandsBehind d options o told
     → StandsBehind d options (o ++ more) told
 stays d options o told more still s = stays_at d options o told more s.are.frames s.are.rest s.are.end s.are.run s.are.told_are s.at s.place still
 
-module _ (d e : Dissector) (octets : List ℕ) (goes : is_going d.state ≡ true) (some : 0 < length octets) where
+module _ (d e : Dissector) (octets : List ℕ) (goes : is_dissecting d.state ≡ true) (some : 0 < length octets) where
   part_moves : (y : Reader) (n : ℕ) (lines : List ℕ) → TakesAll d.reader octets n y → e ≡ record d { reader = y } → lines ≡ []
       → MovesOn d e (take n octets) lines
   part_moves y n lines t e_is none options o told s =
@@ -154,7 +154,7 @@ module _ (d e : Dissector) (octets : List ℕ) (goes : is_going d.state ≡ true
 
   -- no whole frame
   pub takes_part : (y : Reader) (n : ℕ) (lines : List ℕ) → TakesAll d.reader octets n y → e ≡ record d { reader = y } → lines ≡ []
-      → TakesSome d octets n e lines
+      → DissectsSome d octets n e lines
   takes_part y n lines t e_is none = record {
     some = omega (arith, t.all, some);
     within = omega (arith, t.all);
@@ -181,7 +181,7 @@ module _ (d e : Dissector) (octets : List ℕ) (goes : is_going d.state ≡ true
 
   takes_header_by : (fault : FrameFault) (y : Reader) (code : StatusCode) (lines : List ℕ) → RefusesHeader d.reader octets fault y
       → header_code fault ≡ Some code.code → HasRefused e d.teller.options code.code → e.place ≡ d.place → lines ≡ []
-      → TakesSome d octets (length octets) e lines
+      → DissectsSome d octets (length octets) e lines
   takes_header_by fault y code lines t code_is refused place none = record {
     some = some;
     within = omega arith;
@@ -191,7 +191,7 @@ module _ (d e : Dissector) (octets : List ℕ) (goes : is_going d.state ≡ true
   -- a header that is refused
   pub takes_header : (fault : FrameFault) (y : Reader) (code : StatusCode) (lines : List ℕ) → ReaderTakes d.reader octets (Err fault) y
       → header_code fault ≡ Some code.code → HasRefused e d.teller.options code.code → e.place ≡ d.place → lines ≡ []
-      → TakesSome d octets (length octets) e lines
+      → DissectsSome d octets (length octets) e lines
   takes_header UnknownType y code lines t code_is refused place none = takes_header_by UnknownType y code lines t code_is refused place none
   takes_header OutOfPlace y code lines t code_is refused place none = takes_header_by OutOfPlace y code lines t code_is refused place none
   takes_header TooLarge y code lines t code_is refused place none = takes_header_by TooLarge y code lines t code_is refused place none
@@ -213,7 +213,7 @@ module _ (d e : Dissector) (octets : List ℕ) (n : ℕ) (f : Frame) (lines : Li
     place = a.place;
   })
 
-  frame_refused : Refuses e options g.frames f lines → StandsBehind e options (o ++ take n octets) (told ++ lines)
+  frame_refused : RefusesFrame e options g.frames f lines → StandsBehind e options (o ++ take n octets) (told ++ lines)
   frame_refused r =
       let front : g.rest ++ take (length (take n octets)) (take n octets) ≡ frame_octets f = ap (λ (x : List ℕ). g.rest ++ x) (take-length (take n octets))
       ∙ joined in
@@ -233,7 +233,7 @@ module _ (d e : Dissector) (octets : List ℕ) (n : ℕ) (f : Frame) (lines : Li
   frame_told (inl a) = frame_accepted a
   frame_told (inr r) = frame_refused r
 
-module _ (d e : Dissector) (octets : List ℕ) (n : ℕ) (f : Frame) (y : Reader) (lines : List ℕ) (goes : is_going d.state ≡ true)
+module _ (d e : Dissector) (octets : List ℕ) (n : ℕ) (f : Frame) (y : Reader) (lines : List ℕ) (goes : is_dissecting d.state ≡ true)
     (t : TakesFrame d.reader octets n f y) (told_by : (options : DissectOptions) (before : List Frame)
     → DissectorGoesOn (record d { reader = y }) options before [] → d.place ≡ place_behind before → FrameTold e options before f lines) where
   frame_moves : MovesOn d e (take n octets) lines
@@ -246,7 +246,7 @@ module _ (d e : Dissector) (octets : List ℕ) (n : ℕ) (f : Frame) (y : Reader
       let let_in : LetsIn every_frame f = subst (λ (r : Reader). LetsIn r.gate f) g.goes_on.holds.reader t.let_in in
       frame_told d e octets n f lines options o told g joined t.sized let_in (told_by options g.frames now g.place)
 
-  pub takes_frame : TakesSome d octets n e lines
+  pub takes_frame : DissectsSome d octets n e lines
   takes_frame = record { some = t.some; within = t.within; moves = frame_moves }
 
 -- ---- what becomes of a frame
@@ -280,7 +280,7 @@ takes_first d piece text = record {
 
 -- some octets more
 pub takes_more : (d m e : Dissector) (piece : List ℕ) (at n : ℕ) (rest a b c lines text : List ℕ) → TakesPiece d m (take at piece) a b → rest ≡ drop at piece
-    → TakesSome m rest n e lines → text ≡ lines → c ≡ b ++ text → TakesPiece d e (take (at + n) piece) a c
+    → DissectsSome m rest n e lines → text ≡ lines → c ≡ b ++ text → TakesPiece d e (take (at + n) piece) a c
 takes_more d m e piece at n rest a b c lines text x rest_is y text_is grown = record {
   lines = x.lines ++ lines;
   added = grown ∙ ap₂ (λ (u v : List ℕ). u ++ v) x.added text_is ∙ append_assoc a x.lines lines;
@@ -294,7 +294,7 @@ takes_more d m e piece at n rest a b c lines text x rest_is y text_is grown = re
 
 -- nothing is left that counts
 takes_rest : (d m : Dissector) (piece : List ℕ) (at : ℕ) (a b : List ℕ) → TakesPiece d m (take at piece) a b → at ≤ length piece
-    → (drop at piece ≡ []) ⊎ (is_going m.state ≡ false) → TakesPiece d m piece a b
+    → (drop at piece ≡ []) ⊎ (is_dissecting m.state ≡ false) → TakesPiece d m piece a b
 takes_rest d m piece at a b x within (inl none) =
     let all : take at piece ≡ piece = take_all at piece (omega (arith, ap length none, length-drop at piece)) in
     subst (λ (u : List ℕ). TakesPiece d m u a b) all x
@@ -311,7 +311,7 @@ pub takes_end : (d m e : Dissector) (piece : List ℕ) (at : ℕ) (rest a b line
     → rest ≡ drop at piece → TakesNone m rest e lines → TakesPiece d e piece a b
 takes_end d m e piece at rest a b lines x within rest_is none =
     subst (λ (u : Dissector). TakesPiece d u piece a b) (sym none.same)
-    (takes_rest d m piece at a b x within (subst (λ (u : List ℕ). (u ≡ []) ⊎ (is_going m.state ≡ false)) rest_is none.why))
+    (takes_rest d m piece at a b x within (subst (λ (u : List ℕ). (u ≡ []) ⊎ (is_dissecting m.state ≡ false)) rest_is none.why))
 
 -- the octets in front of a place of a piece were taken
 pub record SoFar (d e : Dissector) (piece : List ℕ) (at : ℕ) (a b : List ℕ) : Type 0 where
@@ -322,7 +322,7 @@ pub so_far_first : (d : Dissector) (piece text : List ℕ) → SoFar d d piece 0
 so_far_first d piece text = record { takes = takes_first d piece text; within = omega arith }
 
 pub so_far_more : (d m e : Dissector) (piece : List ℕ) (at n : ℕ) (rest a b c lines text : List ℕ) → SoFar d m piece at a b → rest ≡ drop at piece
-    → TakesSome m rest n e lines → text ≡ lines → c ≡ b ++ text → SoFar d e piece (at + n) a c
+    → DissectsSome m rest n e lines → text ≡ lines → c ≡ b ++ text → SoFar d e piece (at + n) a c
 so_far_more d m e piece at n rest a b c lines text x rest_is y text_is grown = record {
   takes = takes_more d m e piece at n rest a b c lines text x.takes rest_is y text_is grown;
   within = omega (arith, x.within, y.within, ap length rest_is, length-drop at piece);
@@ -345,9 +345,9 @@ takes_tells (Err u) d e piece a b x options o told s = tt
 -- ---- the last line
 
 ends_at : (d : Dissector) (options : DissectOptions) (o told old new : List ℕ) (code : StatusCode) (fs : List Frame) (rest : List ℕ) (end : End ℕ)
-    → Run (rules options) o fs rest end → AreTexts options fs told → StandsAt d options fs rest end → d.place ≡ place_behind fs → d.state ≡ state.Refused code
+    → Run (rules options) o fs rest end → AreTexts options fs told → DissectorStandsAt d options fs rest end → d.place ≡ place_behind fs → d.state ≡ state.Refused code
     → new ≡ old ++ refused_line d.teller.options.names d.place code.code → EndsLines options o told old new
-ends_at d options o told old new code fs rest Going run told_are at place refused grown = absurd (going_not_refused d.state code (ap is_going at.state) refused)
+ends_at d options o told old new code fs rest Going run told_are at place refused grown = absurd (going_not_refused d.state code (ap is_dissecting at.state) refused)
 ends_at d options o told old new code fs rest (Stopped why) run told_are at place refused grown = record {
   line = refused_line d.teller.options.names d.place code.code;
   added = grown;
@@ -374,7 +374,7 @@ ends_refused d options o told old new code s refused grown = ends_at d options o
 pub ends_going : (d : Dissector) (options : DissectOptions) (o told old new : List ℕ) (held : ℕ) → StandsBehind d options o told → d.state ≡ state.Going
     → held ≡ length d.reader.held → new ≡ old ++ rest_line d.place held → EndsLines options o told old new
 ends_going d options o told old new held s goes held_is grown =
-    let g = goes_behind d options o told s (ap is_going goes) in
+    let g = goes_behind d options o told s (ap is_dissecting goes) in
     record {
       line = rest_line d.place held;
       added = grown;
@@ -410,7 +410,7 @@ holds_none : (d : Dissector) (a b : ℕ) → Holds d [] [] → a ≡ length d.re
 holds_none d a b h a_is b_is = holds_sum d [] [] a b h a_is b_is ∙ ap (λ (cs : List Chunk). 0 + open_octets cs) message_chunks-nil
 
 held_at : (d : Dissector) (options : DissectOptions) (o told : List ℕ) (a b : ℕ) (fs : List Frame) (rest : List ℕ) (end : End ℕ)
-    → Run (rules options) o fs rest end → StandsAt d options fs rest end → a ≡ length d.reader.held
+    → Run (rules options) o fs rest end → DissectorStandsAt d options fs rest end → a ≡ length d.reader.held
     → ((before : List Frame) → TellerStands d.teller before → b ≡ open_octets (message_chunks before)) → AreHeld options o (a + b)
 held_at d options o told a b fs rest Going run at a_is b_is =
     record { frames = fs; rest = rest; end = Going; run = run; held_are = holds_sum d fs rest a b at.holds a_is b_is }
@@ -423,7 +423,7 @@ pub record Tells (d : Dissector) : Type 0 where
   pub frames : List Frame
   pub stands : TellerStands d.teller frames
 
-tells_at : (d : Dissector) (options : DissectOptions) (fs : List Frame) (rest : List ℕ) (end : End ℕ) → StandsAt d options fs rest end → Tells d
+tells_at : (d : Dissector) (options : DissectOptions) (fs : List Frame) (rest : List ℕ) (end : End ℕ) → DissectorStandsAt d options fs rest end → Tells d
 tells_at d options fs rest Going at = record { frames = fs; stands = at.holds.teller }
 tells_at d options fs rest (Stopped code) at = record { frames = []; stands = at.nothing.teller }
 tells_at d options fs rest Over at = absurd at
@@ -438,7 +438,7 @@ held_is d options o told a b n s a_is b_is sum =
     subst (λ (k : ℕ). AreHeld options o k) (sym sum) (held_at d options o told a b s.are.frames s.are.rest s.are.end s.are.run s.at a_is b_is)
 
 -- a closed one holds nothing
-pub held_closed : (d : Dissector) (a b n : ℕ) → IsClosed d → a ≡ length d.reader.held
+pub held_closed : (d : Dissector) (a b n : ℕ) → IsDissectorClosed d → a ≡ length d.reader.held
     → ((before : List Frame) → TellerStands d.teller before → b ≡ open_octets (message_chunks before)) → n ≡ a + b → n ≡ 0
 held_closed d a b n c a_is b_is sum = sum ∙ holds_none d a b c.nothing a_is b_is
 

@@ -22,14 +22,14 @@ use Rattle.ua_chunk.specs.Opening.{open_refusal, opening_in}
 use Rattle.ua_chunk.specs.Sequence.{may_follow}
 use Rattle.ua_chunk.specs.declared.fault.OpenFault.{OpenFault}
 use Rattle.ua_chunk.specs.declared.open_chunk.OpenChunk.{OpenChunk}
-use Rattle.ua_chunk.specs.Refusal.{reasons, refusal, IsFor}
+use Rattle.ua_chunk.specs.Refusal.{reasons, chunk_refusal, IsFor}
 use Rattle.ua_pair.specs.declared.fault.DissectFault.{DissectFault}
 use Rattle.ua_pair.specs.declared.side.Side.{Side}
 use Rattle.ua_pair.specs.declared.options.DissectOptions.{DissectOptions}
 use Rattle.ua_pair.specs.Before.{message_chunks, last_sequence, sequence_by}
-use Rattle.ua_pair.specs.Telling.{TellerStands, Judges, JudgesKind, chunk_fault}
-use Rattle.ua_pair.specs.Refused.{most_octets, most_chunks, breaks_order, chunk_code, chunk_reasons}
-use Rattle.ua_pair.specs.Refused.{greeting_reasons, frame_reasons, is_other_policy, is_unreadable, opening_reasons}
+use Rattle.ua_pair.specs.Telling.{TellerStands, JudgesFrameTelling, JudgesKind, chunk_fault}
+use Rattle.ua_pair.specs.Refused.{most_message_octets, most_chunks, breaks_number_order, chunk_code, chunk_reasons_of_side}
+use Rattle.ua_pair.specs.Refused.{greeting_reasons, frame_reasons, is_other_policy, is_open_unreadable, opening_reasons}
 use Rattle.ua_pair.specs.Bodies.{IsFound}
 use Rattle.ua_pair.specs.Told.{AreParts, IsChunkText, IsFrameText, IsItemText, IsOpenedText, IsOpeningText, IsTextBy, line_if, place_behind}
 
@@ -37,20 +37,20 @@ use Rattle.ua_pair.specs.Told.{AreParts, IsChunkText, IsFrameText, IsItemText, I
 
 -- the first reason against a chunk, by its code
 chunk_reason : (side : Side) (last : Option ℕ) (cs : List Chunk) (f : Frame) (c : Chunk) → chunk_in f ≡ Some c
-    → first_reason (chunk_reasons side last cs (chunk_in f)) ≡ option_map (chunk_code side) (refusal most_octets most_chunks last cs c)
+    → first_reason (chunk_reasons_of_side side last cs (chunk_in f)) ≡ option_map (chunk_code side) (chunk_refusal most_message_octets most_chunks last cs c)
 chunk_reason side last cs f c e =
-    ap (λ (o : Option Chunk). first_reason (chunk_reasons side last cs o)) e
-    ∙ first_reason-map (chunk_code side) (reasons most_octets most_chunks last cs c)
+    ap (λ (o : Option Chunk). first_reason (chunk_reasons_of_side side last cs o)) e
+    ∙ first_reason-map (chunk_code side) (reasons most_message_octets most_chunks last cs c)
 
 -- a chunk that is taken
 pub message_taken : (side : Side) (last : Option ℕ) (cs : List Chunk) (f : Frame) (c : Chunk) → chunk_in f ≡ Some c
-    → refusal most_octets most_chunks last cs c ≡ None → first_reason (chunk_reasons side last cs (chunk_in f)) ≡ None
+    → chunk_refusal most_message_octets most_chunks last cs c ≡ None → first_reason (chunk_reasons_of_side side last cs (chunk_in f)) ≡ None
 message_taken side last cs f c e none = chunk_reason side last cs f c e ∙ ap (option_map (chunk_code side)) none
 
 -- a chunk that is not
 pub message_refused : (side : Side) (last : Option ℕ) (cs : List Chunk) (f : Frame) (c : Chunk) (fault : AssembleFault) (Holds : List ℕ → Type 0)
-    (old new : List ℕ) → chunk_in f ≡ Some c → IsFor (refusal most_octets most_chunks last cs c) fault
-    → Judges (first_reason (chunk_reasons side last cs (chunk_in f))) Holds (Err (chunk_fault side fault)) old new
+    (old new : List ℕ) → chunk_in f ≡ Some c → IsFor (chunk_refusal most_message_octets most_chunks last cs c) fault
+    → JudgesFrameTelling (first_reason (chunk_reasons_of_side side last cs (chunk_in f))) Holds (Err (chunk_fault side fault)) old new
 message_refused side last cs f c Sequence Holds old new e h = chunk_reason side last cs f c e ∙ ap (option_map (chunk_code side)) h
 message_refused side last cs f c Unreadable Holds old new e h = chunk_reason side last cs f c e ∙ ap (option_map (chunk_code side)) h
 message_refused side last cs f c TooManyOpen Holds old new e h = chunk_reason side last cs f c e ∙ ap (option_map (chunk_code side)) h
@@ -61,11 +61,11 @@ message_refused side last cs f c Closed Holds old new e h = absurd h
 
 -- the limits and the last number of a teller are those of its frames
 pub refusal_at : (d : Teller) (fs : List Frame) (cs : List Chunk) (c : Chunk) → TellerStands d fs
-    → refusal (octet_limit d.assembler) (chunk_limit d.assembler) (last_number d.assembler) cs c ≡ refusal most_octets most_chunks (last_sequence fs) cs c
+    → chunk_refusal (octet_limit d.assembler) (chunk_limit d.assembler) (last_number d.assembler) cs c ≡ chunk_refusal most_message_octets most_chunks (last_sequence fs) cs c
 refusal_at d fs cs c s =
-    ap (λ (n : ℕ). refusal n (chunk_limit d.assembler) (last_number d.assembler) cs c) s.octets
-    ∙ ap (λ (n : ℕ). refusal most_octets n (last_number d.assembler) cs c) s.chunks
-    ∙ ap (λ (o : Option ℕ). refusal most_octets most_chunks o cs c) s.last
+    ap (λ (n : ℕ). chunk_refusal n (chunk_limit d.assembler) (last_number d.assembler) cs c) s.octets
+    ∙ ap (λ (n : ℕ). chunk_refusal most_message_octets n (last_number d.assembler) cs c) s.chunks
+    ∙ ap (λ (o : Option ℕ). chunk_refusal most_message_octets most_chunks o cs c) s.last
 
 -- the text of a chunk that is taken
 message_told : (options : DissectOptions) (cs : List Chunk) (place n : ℕ) (f : Frame) (c : Chunk) (items : List Item) (old mid new : List ℕ)
@@ -87,7 +87,7 @@ message_told options cs place n f c items old mid new e size given_is first seco
 module _ (d : Teller) (fs : List Frame) (place n : ℕ) (f : Frame) (c : Chunk) (old mid : List ℕ) (s : TellerStands d fs) (chunk : chunk_in f ≡ Some c)
     (size : n ≡ frame_size f) (first : mid ≡ old ++ chunk_line (codes "MSG") place n c) where
   -- a chunk that delivers nothing
-  pub message_continued : refusal (octet_limit d.assembler) (chunk_limit d.assembler) (last_number d.assembler) (message_chunks fs) c ≡ None
+  pub message_continued : chunk_refusal (octet_limit d.assembler) (chunk_limit d.assembler) (last_number d.assembler) (message_chunks fs) c ≡ None
       → given (message_chunks fs) c ≡ [] → JudgesKind Msg d.options fs place f (Ok tt) old mid
   message_continued none given_is = (
     message_taken d.options.side (last_sequence fs) (message_chunks fs) f c chunk (sym (refusal_at d fs (message_chunks fs) c s) ∙ none),
@@ -95,7 +95,7 @@ module _ (d : Teller) (fs : List Frame) (place n : ℕ) (f : Frame) (c : Chunk) 
   )
 
   -- a chunk that delivers a message
-  pub message_delivered : (item : Item) (new : List ℕ) → refusal (octet_limit d.assembler) (chunk_limit d.assembler) (last_number d.assembler)
+  pub message_delivered : (item : Item) (new : List ℕ) → chunk_refusal (octet_limit d.assembler) (chunk_limit d.assembler) (last_number d.assembler)
       (message_chunks fs) c ≡ None → given (message_chunks fs) c ≡ item ∷ []
       → ((more : List ℕ) × (new ≡ mid ++ more) × IsItemText d.options item more) → JudgesKind Msg d.options fs place f (Ok tt) old new
   message_delivered item new none given_is second = (
@@ -107,7 +107,7 @@ module _ (d : Teller) (fs : List Frame) (place n : ℕ) (f : Frame) (c : Chunk) 
 -- a chunk that is refused
 pub message_fails : (d : Teller) (fs : List Frame) (place : ℕ) (f : Frame) (c : Chunk) (fault : AssembleFault) (e : DissectFault) (old new : List ℕ)
     → TellerStands d fs → chunk_in f ≡ Some c
-    → IsFor (refusal (octet_limit d.assembler) (chunk_limit d.assembler) (last_number d.assembler) (message_chunks fs) c) fault
+    → IsFor (chunk_refusal (octet_limit d.assembler) (chunk_limit d.assembler) (last_number d.assembler) (message_chunks fs) c) fault
     → e ≡ chunk_fault d.options.side fault → JudgesKind Msg d.options fs place f (Err e) old new
 message_fails d fs place f c fault e old new s chunk why is =
     subst (λ (x : DissectFault). JudgesKind Msg d.options fs place f (Err x) old new) (sym is)
@@ -121,8 +121,8 @@ opening_taken : (last : Option ℕ) (f : Frame) (c : OpenChunk) → open_refusal
     → first_reason (opening_reasons last f) ≡ None
 opening_taken last f c none found follows =
     ap (λ (o : Option OpenFault).
-    first_reason ((0x8007_0000, is_unreadable o) ∷ (0x8055_0000, is_other_policy o) ∷ (0x8088_0000, breaks_order last (sequence_by Opn f)) ∷ [])) none
-    ∙ ap (λ (o : Option OpenChunk). first_reason ((0x8088_0000, breaks_order last (option_map (λ (x : OpenChunk). x.sequence) o)) ∷ [])) found
+    first_reason ((0x8007_0000, is_open_unreadable o) ∷ (0x8055_0000, is_other_policy o) ∷ (0x8088_0000, breaks_number_order last (sequence_by Opn f)) ∷ [])) none
+    ∙ ap (λ (o : Option OpenChunk). first_reason ((0x8088_0000, breaks_number_order last (option_map (λ (x : OpenChunk). x.sequence) o)) ∷ [])) found
     ∙ ap (λ (b : Bool). first_reason ((0x8088_0000, not b) ∷ [])) follows
 
 -- its text
@@ -154,18 +154,18 @@ opening_told d fs place n f c old mid new s none found size follows first second
 -- a HEL, an ACK or an ERR, by its body and size
 pub greeting_judged : {A : Type 0} (message : Flat A) (line : ℕ → A → List ℕ) (read body : List ℕ) (n m : ℕ) (result : Result (Unit {0}) DissectFault)
     (old new : List ℕ) → read ≡ body → n ≡ m
-    → Judges (first_reason (greeting_reasons (whole_of message read))) (λ text. text ≡ line_if (line n) (whole_of message read)) result old new
-    → Judges (first_reason (greeting_reasons (whole_of message body))) (λ text. text ≡ line_if (line m) (whole_of message body)) result old new
+    → JudgesFrameTelling (first_reason (greeting_reasons (whole_of message read))) (λ text. text ≡ line_if (line n) (whole_of message read)) result old new
+    → JudgesFrameTelling (first_reason (greeting_reasons (whole_of message body))) (λ text. text ≡ line_if (line m) (whole_of message body)) result old new
 greeting_judged message line read body n m result old new e size h =
-    subst (λ (k : ℕ). Judges (first_reason (greeting_reasons (whole_of message body))) (λ text. text ≡ line_if (line k) (whole_of message body)) result old new)
+    subst (λ (k : ℕ). JudgesFrameTelling (first_reason (greeting_reasons (whole_of message body))) (λ text. text ≡ line_if (line k) (whole_of message body)) result old new)
     size
-    (subst (λ (b : List ℕ). Judges (first_reason (greeting_reasons (whole_of message b))) (λ text. text ≡ line_if (line n) (whole_of message b)) result old new)
+    (subst (λ (b : List ℕ). JudgesFrameTelling (first_reason (greeting_reasons (whole_of message b))) (λ text. text ≡ line_if (line n) (whole_of message b)) result old new)
     e h)
 
 -- a frame is judged by its kind
 pub judged_kind : (k : Kind) (options : DissectOptions) (before : List Frame) (place : ℕ) (f : Frame) (result : Result (Unit {0}) DissectFault)
     (old new : List ℕ) → f.kind ≡ k → place ≡ place_behind before → JudgesKind k options before place f result old new
-    → Judges (first_reason (frame_reasons options.side before f)) (IsFrameText options before f) result old new
+    → JudgesFrameTelling (first_reason (frame_reasons options.side before f)) (IsFrameText options before f) result old new
 unfolding frame_reasons IsFrameText
 judged_kind k options before place f result old new is place_is h =
     subst (λ (p : ℕ). JudgesKind f.kind options before p f result old new) place_is

@@ -6,10 +6,10 @@ use Rattle.ua_pair.specs.declared.dissector.Dissector.{Dissector}
 use Rattle.ua_pair.specs.declared.dissector.State.{State}
 use Rattle.ua_pair.specs.declared.dissector.State.TheVariants as state
 use Rattle.ua_pair.specs.declared.options.DissectOptions.{DissectOptions}
-use Rattle.ua_pair.specs.Dissecting.{StandsAt, StandsBehind, TellsMore, is_going, is_refused, is_stopped}
+use Rattle.ua_pair.specs.Dissecting.{DissectorStandsAt, StandsBehind, TellsMore, is_dissecting, is_refused, is_stopped}
 use Rattle.ua_pair.proofs.Dissections.{stays}
 
-refused_at : (d : Dissector) (options : DissectOptions) (fs : List Frame) (rest : List ℕ) (end : End ℕ) → StandsAt d options fs rest end
+refused_at : (d : Dissector) (options : DissectOptions) (fs : List Frame) (rest : List ℕ) (end : End ℕ) → DissectorStandsAt d options fs rest end
     → is_refused d.state ≡ is_stopped end
 refused_at d options fs rest Going at = ap is_refused at.state
 refused_at d options fs rest (Stopped code) at = ap is_refused at.state
@@ -20,7 +20,7 @@ pub refused_is : (d : Dissector) (options : DissectOptions) (octets told : List 
     → is_refused d.state ≡ is_stopped s.are.end
 refused_is d options octets told s = refused_at d options s.are.frames s.are.rest s.are.end s.at
 
-goes_no_further : (s : State) → is_refused s ≡ true → is_going s ≡ false
+goes_no_further : (s : State) → is_refused s ≡ true → is_dissecting s ≡ false
 goes_no_further state.Going refused = absurd cc
 goes_no_further (state.Refused code) refused = refl
 goes_no_further state.Closed refused = absurd cc

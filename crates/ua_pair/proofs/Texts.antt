@@ -24,9 +24,9 @@ use Rattle.ua_pair.specs.Bodies.{IsBodyText, IsFound, IsHeaderText, body_fields,
 use Rattle.ua_pair.specs.Dissected.{AreTexts, rules}
 use Rattle.ua_pair.specs.Lines.{chunk_line, message_line, opening_line}
 use Rattle.ua_pair.specs.Names.{is_unsupported, message_kind, message_title, opening_kind, opening_name}
-use Rattle.ua_pair.specs.Styles.{exact, style_of}
+use Rattle.ua_pair.specs.Styles.{exact_field_style, style_of}
 use Rattle.ua_pair.specs.Told.{AreFieldsOf, AreParts, AreTextsBehind, IsChunkText, IsFrameText, IsHeaderOf, IsItemText, IsOpeningText, IsTextBy}
-use Rattle.ua_pair.specs.Told.{chunk_lines, fields_of, frame_lines, header_of, item_lines, line_if, lines_by, opening_lines, place_behind}
+use Rattle.ua_pair.specs.Told.{chunk_lines, field_lines_of, frame_lines, header_lines_of, item_lines, line_if, lines_by, opening_lines, place_behind}
 use Rattle.ua_pair.proofs.Bodies.{exact_header, exact_text_of, header_exact, text_exact}
 
 -- ---- one frame more
@@ -52,16 +52,16 @@ exact_if : (wanted : Bool) (Is : List ℕ → Type 0) (shown text : List ℕ) �
 exact_if true Is shown text same h = same text h
 exact_if false Is shown text same h = h
 
-exact_style : (options : DissectOptions) → options.plain ≡ false → style_of options ≡ exact options.names
+exact_style : (options : DissectOptions) → options.plain ≡ false → style_of options ≡ exact_field_style options.names
 exact_style options none = ap (λ (p : Bool). record { names = options.names; plain = p }) none
 
 module _ (options : DissectOptions) (none : options.plain ≡ false) where
-  exact_fields : (kind : BodyKind) (octets text : List ℕ) → AreFieldsOf options kind octets text → text ≡ fields_of options kind octets
+  exact_fields : (kind : BodyKind) (octets text : List ℕ) → AreFieldsOf options kind octets text → text ≡ field_lines_of options kind octets
   exact_fields kind octets text h =
       exact_if options.fields (IsBodyText (style_of options) kind octets) (body_fields options.names kind octets) text
       (λ t g. exact_text_of options.names kind octets t (subst (λ (s : FieldStyle). IsBodyText s kind octets t) (exact_style options none) g)) h
 
-  exact_head : (unsupported : Bool) (octets text : List ℕ) → IsHeaderOf options unsupported octets text → text ≡ header_of options unsupported octets
+  exact_head : (unsupported : Bool) (octets text : List ℕ) → IsHeaderOf options unsupported octets text → text ≡ header_lines_of options unsupported octets
   exact_head unsupported octets text h =
       exact_if (options.fields && unsupported) (IsHeaderText (style_of options) options.side octets) (header_fields options.names options.side octets) text
       (λ t g. exact_header options.names options.side octets t (subst (λ (s : FieldStyle). IsHeaderText s options.side octets t) (exact_style options none) g))
@@ -108,13 +108,13 @@ module _ (options : DissectOptions) (none : options.plain ≡ false) where
   if_exact true Is shown h = h
   if_exact false Is shown h = refl
 
-  fields_exact : (kind : BodyKind) (octets : List ℕ) → AreFieldsOf options kind octets (fields_of options kind octets)
+  fields_exact : (kind : BodyKind) (octets : List ℕ) → AreFieldsOf options kind octets (field_lines_of options kind octets)
   fields_exact kind octets =
       if_exact options.fields (IsBodyText (style_of options) kind octets) (body_fields options.names kind octets)
       (subst (λ (s : FieldStyle). IsBodyText s kind octets (body_fields options.names kind octets)) (sym (exact_style options none))
       (text_exact options.names kind octets))
 
-  head_exact : (unsupported : Bool) (octets : List ℕ) → IsHeaderOf options unsupported octets (header_of options unsupported octets)
+  head_exact : (unsupported : Bool) (octets : List ℕ) → IsHeaderOf options unsupported octets (header_lines_of options unsupported octets)
   head_exact unsupported octets =
       if_exact (options.fields && unsupported) (IsHeaderText (style_of options) options.side octets) (header_fields options.names options.side octets)
       (subst (λ (s : FieldStyle). IsHeaderText s options.side octets (header_fields options.names options.side octets)) (sym (exact_style options none))
@@ -122,8 +122,8 @@ module _ (options : DissectOptions) (none : options.plain ≡ false) where
 
   item_exact : (item : Item) → IsItemText options item (item_lines options item)
   item_exact (Whole id octets) = (
-    fields_of options (message_kind options.side) octets,
-    header_of options (is_unsupported options.side octets) octets,
+    field_lines_of options (message_kind options.side) octets,
+    header_lines_of options (is_unsupported options.side octets) octets,
     refl,
     fields_exact (message_kind options.side) octets,
     head_exact (is_unsupported options.side octets) octets,
@@ -148,9 +148,9 @@ module _ (options : DissectOptions) (none : options.plain ≡ false) where
   by_exact Opn cs place f =
       found_exact (IsOpeningText options place (frame_size f)) (opening_lines options place (frame_size f)) (opening_in f)
       (λ c. (
-        message_line c.request (length c.body) (opening_name options.side c.body) ++ fields_of options (opening_kind options.side) c.body,
+        message_line c.request (length c.body) (opening_name options.side c.body) ++ field_lines_of options (opening_kind options.side) c.body,
         refl,
-        (fields_of options (opening_kind options.side) c.body, refl, fields_exact (opening_kind options.side) c.body),
+        (field_lines_of options (opening_kind options.side) c.body, refl, fields_exact (opening_kind options.side) c.body),
       ))
   by_exact Clo cs place f = refl
 

@@ -9,16 +9,16 @@ use Rattle.ua_structures.specs.declared.attribute.WriteResponse.{WriteResponse}
 use Rattle.ua_structures.specs.declared.attribute.WriteValue.{WriteValue}
 use Rattle.ua_pair.specs.DataValue.{data_value_entries}
 use Rattle.ua_pair.specs.Header.{request_header_entries, response_header_entries}
-use Rattle.ua_pair.specs.Leaves.{diagnostic_info, double, node_id, number, qualified_name, signed, status_code, string}
+use Rattle.ua_pair.specs.Leaves.{diagnostic_info, double, node_id_tree, number_tree, qualified_name_tree, signed_tree, status_code_tree, string_tree}
 use Rattle.ua_pair.specs.Tree.{Fields, array_of, named, structure}
 
 -- ReadValueId (OPC 10000-4, 7.29)
 unfoldable pub read_value_id_entries : ReadValueId → Fields
 read_value_id_entries m = named (
-    (codes "node_id", node_id m.node_id)
-    ∷ (codes "attribute_id", number m.attribute_id)
-    ∷ (codes "index_range", string m.index_range)
-    ∷ (codes "data_encoding", qualified_name m.data_encoding)
+    (codes "node_id", node_id_tree m.node_id)
+    ∷ (codes "attribute_id", number_tree m.attribute_id)
+    ∷ (codes "index_range", string_tree m.index_range)
+    ∷ (codes "data_encoding", qualified_name_tree m.data_encoding)
     ∷ [])
 
 -- the request of Read (OPC 10000-4, 5.11.2)
@@ -26,7 +26,7 @@ unfoldable pub read_request_entries : ReadRequest → Fields
 read_request_entries m = named (
     (codes "request_header", structure (request_header_entries m.request_header))
     ∷ (codes "max_age", double m.max_age)
-    ∷ (codes "timestamps_to_return", signed m.timestamps_to_return)
+    ∷ (codes "timestamps_to_return", signed_tree m.timestamps_to_return)
     ∷ (codes "nodes_to_read", array_of (λ e. structure (read_value_id_entries e)) m.nodes_to_read)
     ∷ [])
 
@@ -41,9 +41,9 @@ read_response_entries m = named (
 -- WriteValue (OPC 10000-4, 5.11.4)
 unfoldable pub write_value_entries : WriteValue → Fields
 write_value_entries m = named (
-    (codes "node_id", node_id m.node_id)
-    ∷ (codes "attribute_id", number m.attribute_id)
-    ∷ (codes "index_range", string m.index_range)
+    (codes "node_id", node_id_tree m.node_id)
+    ∷ (codes "attribute_id", number_tree m.attribute_id)
+    ∷ (codes "index_range", string_tree m.index_range)
     ∷ (codes "value", structure (data_value_entries m.value))
     ∷ [])
 
@@ -58,6 +58,6 @@ write_request_entries m = named (
 unfoldable pub write_response_entries : WriteResponse → Fields
 write_response_entries m = named (
     (codes "response_header", structure (response_header_entries m.response_header))
-    ∷ (codes "results", array_of status_code m.results)
+    ∷ (codes "results", array_of status_code_tree m.results)
     ∷ (codes "diagnostic_infos", array_of diagnostic_info m.diagnostic_infos)
     ∷ [])

@@ -6,7 +6,7 @@ use Rattle.ua_builtin.specs.NodeId.{node_id}
 use Rattle.ua_opening.specs.Header.{service_fault}
 use Rattle.ua_opening.specs.SecureChannel.{open_request, close_request}
 use Rattle.ua_opening.specs.Message.{IsBody, message, body_of}
-use Rattle.ua_opening.specs.Open.{IsAnswer, answer_read}
+use Rattle.ua_opening.specs.Open.{IsOpenAnswer, answer_read}
 use Rattle.ua_services.specs.Request.{request}
 use Rattle.ua_services.specs.Response.{response}
 use Rattle.ua_pair.specs.declared.options.FieldStyle.{FieldStyle}
@@ -79,5 +79,5 @@ abbrev pub AreBodyFields : Bool → BodyKind → List ℕ → List ℕ → Type 
 AreBodyFields names Request octets text = AreFields (IsBody request) (request_fields names) octets text
 AreBodyFields names Response octets text = AreFields (IsBody response) (response_fields names) octets text
 AreBodyFields names OpenRequest octets text = AreFields (IsBody (message 446 open_request)) (open_request_fields names) octets text
-AreBodyFields names OpenResponse octets text = AreFields IsAnswer (open_answer_fields names) octets text
+AreBodyFields names OpenResponse octets text = AreFields IsOpenAnswer (open_answer_fields names) octets text
 AreBodyFields names CloseRequest octets text = AreFields (IsBody (message 452 close_request)) (close_request_fields names) octets text

@@ -10,8 +10,8 @@ use Rattle.ua_pair.specs.Refused.{frame_reasons}
 use Rattle.ua_pair.specs.Told.{AreTextsBehind, frame_lines, place_behind}
 
 -- the bytes of this side, without fields and without names, exact
-abbrev pub plain : Side → DissectOptions
-plain side = record { side = side; fields = false; names = false; plain = false }
+abbrev pub plain_of_side : Side → DissectOptions
+plain_of_side side = record { side = side; fields = false; names = false; plain = false }
 
 -- the frame filter that accepts a frame (UA TCP message) of each kind at any place, of at most
 -- 16777216 bytes

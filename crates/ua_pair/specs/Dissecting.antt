@@ -18,10 +18,10 @@ use Rattle.ua_pair.specs.Told.{IsFrameText, place_behind}
 
 -- how many bytes are buffered after frames: those of an incomplete frame and those of unfinished
 -- messages, none after a rejected frame
-abbrev pub held_behind : List Frame → List ℕ → End ℕ → ℕ
-held_behind fs rest Going = length rest + open_octets (message_chunks fs)
-held_behind fs rest (Stopped code) = 0
-held_behind fs rest Over = 0
+abbrev pub buffered_behind : List Frame → List ℕ → End ℕ → ℕ
+buffered_behind fs rest Going = length rest + open_octets (message_chunks fs)
+buffered_behind fs rest (Stopped code) = 0
+buffered_behind fs rest Over = 0
 
 -- this many of these bytes are buffered
 pub record AreHeld (options : DissectOptions) (octets : List ℕ) (held : ℕ) : Type 0 where
@@ -29,12 +29,12 @@ pub record AreHeld (options : DissectOptions) (octets : List ℕ) (held : ℕ) :
   pub rest : List ℕ
   pub end : End ℕ
   pub run : Run (rules options) octets frames rest end
-  pub held_are : held ≡ held_behind frames rest end
+  pub held_are : held ≡ buffered_behind frames rest end
 
 -- the most bytes that are buffered: 16777216 of an incomplete frame, and as many of each of 4
 -- unfinished messages
-abbrev pub most_held : ℕ
-most_held = 83886080
+abbrev pub most_buffered : ℕ
+most_buffered = 83886080
 
 -- ---- where a dissector stands
 
@@ -56,20 +56,20 @@ pub record HasRefused (d : Dissector) (options : DissectOptions) (code : ℕ) : 
   pub nothing : Holds d [] []
 
 -- an allocation failed: the dissector takes nothing more
-pub record IsClosed (d : Dissector) : Type 0 where
+pub record IsDissectorClosed (d : Dissector) : Type 0 where
   pub state : d.state ≡ state.Closed
   pub nothing : Holds d [] []
 
 -- the state of the dissector is that after these frames of bytes that end in this way
-abbrev pub StandsAt : Dissector → DissectOptions → List Frame → List ℕ → End ℕ → Type 0
-StandsAt d options fs rest Going = DissectorGoesOn d options fs rest
-StandsAt d options fs rest (Stopped code) = HasRefused d options code
-StandsAt d options fs rest Over = ⊥
+abbrev pub DissectorStandsAt : Dissector → DissectOptions → List Frame → List ℕ → End ℕ → Type 0
+DissectorStandsAt d options fs rest Going = DissectorGoesOn d options fs rest
+DissectorStandsAt d options fs rest (Stopped code) = HasRefused d options code
+DissectorStandsAt d options fs rest Over = ⊥
 
 -- the state of the dissector is that after these bytes of this side, whose lines so far are these
 pub record StandsBehind (d : Dissector) (options : DissectOptions) (octets told : List ℕ) : Type 0 where
   pub are : AreTold options octets told
-  pub at : StandsAt d options are.frames are.rest are.end
+  pub at : DissectorStandsAt d options are.frames are.rest are.end
   pub place : d.place ≡ place_behind are.frames
 
 -- ---- what is added to a text
@@ -89,10 +89,10 @@ pub record EndsLines (options : DissectOptions) (octets told old new : List ℕ)
 -- ---- a fragment, as it is taken
 
 -- whether further bytes are accepted
-abbrev pub is_going : State → Bool
-is_going state.Going = true
-is_going (state.Refused code) = false
-is_going state.Closed = false
+abbrev pub is_dissecting : State → Bool
+is_dissecting state.Going = true
+is_dissecting (state.Refused code) = false
+is_dissecting state.Closed = false
 
 -- whether a frame was rejected
 abbrev pub is_refused : State → Bool
@@ -130,7 +130,7 @@ pub record Accepts (new : Dissector) (options : DissectOptions) (before : List F
   pub place : new.place ≡ place_behind (before ++ f ∷ [])
 
 -- a frame after these was rejected
-pub record Refuses (new : Dissector) (options : DissectOptions) (before : List Frame) (f : Frame) (lines : List ℕ) : Type 0 where
+pub record RefusesFrame (new : Dissector) (options : DissectOptions) (before : List Frame) (f : Frame) (lines : List ℕ) : Type 0 where
   pub code : ℕ
   pub refused : refusal (rules options) before f ≡ Some code
   pub lines_are : lines ≡ []
@@ -139,15 +139,15 @@ pub record Refuses (new : Dissector) (options : DissectOptions) (before : List F
 
 -- a frame after these was accepted or rejected
 abbrev pub FrameTold : Dissector → DissectOptions → List Frame → Frame → List ℕ → Type 0
-FrameTold new options before f lines = Accepts new options before f lines ⊎ Refuses new options before f lines
+FrameTold new options before f lines = Accepts new options before f lines ⊎ RefusesFrame new options before f lines
 
 -- nothing is left to be taken
 pub record TakesNone (old : Dissector) (octets : List ℕ) (new : Dissector) (lines : List ℕ) : Type 0 where
-  pub why : (octets ≡ []) ⊎ (is_going old.state ≡ false)
+  pub why : (octets ≡ []) ⊎ (is_dissecting old.state ≡ false)
   pub same : new ≡ old
 
 -- this many bytes were taken
-pub record TakesSome (old : Dissector) (octets : List ℕ) (n : ℕ) (new : Dissector) (lines : List ℕ) : Type 0 where
+pub record DissectsSome (old : Dissector) (octets : List ℕ) (n : ℕ) (new : Dissector) (lines : List ℕ) : Type 0 where
   pub some : 0 < n
   pub within : n ≤ length octets
   pub moves : MovesOn old new (take n octets) lines
@@ -155,4 +155,4 @@ pub record TakesSome (old : Dissector) (octets : List ℕ) (n : ℕ) (new : Diss
 -- what was taken of bytes, and the lines that were printed
 abbrev pub TakesNext : Dissector → List ℕ → Option ℕ → Dissector → List ℕ → Type 0
 TakesNext old octets None new lines = TakesNone old octets new lines
-TakesNext old octets (Some n) new lines = TakesSome old octets n new lines
+TakesNext old octets (Some n) new lines = DissectsSome old octets n new lines

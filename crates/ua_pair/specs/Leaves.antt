@@ -36,8 +36,8 @@ leaf_or_null leaf None = same_leaf (codes "null")
 leaf_or_null leaf (Some value) = leaf value
 
 -- an optional value
-abbrev pub optional : {A : Type 0} → (A → Leaf) → Option A → Tree
-optional leaf value = text (leaf_or_null leaf value)
+abbrev pub optional_tree : {A : Type 0} → (A → Leaf) → Option A → Tree
+optional_tree leaf value = text (leaf_or_null leaf value)
 
 -- ---- plain values
 
@@ -46,22 +46,22 @@ abbrev pub number_leaf : ℕ → Leaf
 number_leaf n = same_leaf (decimal n)
 
 -- the same as a tree; so are those below
-abbrev pub number : ℕ → Tree
-number n = text (number_leaf n)
+abbrev pub number_tree : ℕ → Tree
+number_tree n = text (number_leaf n)
 
 -- a signed number or the number of an enumeration, in decimal
 abbrev pub signed_leaf : ℤ → Leaf
 signed_leaf n = same_leaf (signed_decimal n)
 
-abbrev pub signed : ℤ → Tree
-signed n = text (signed_leaf n)
+abbrev pub signed_tree : ℤ → Tree
+signed_tree n = text (signed_leaf n)
 
 -- `true` or `false`
 abbrev pub boolean_leaf : Bool → Leaf
 boolean_leaf b = same_leaf (boolean_text b)
 
-abbrev pub boolean : Bool → Tree
-boolean b = text (boolean_leaf b)
+abbrev pub boolean_tree : Bool → Tree
+boolean_tree b = text (boolean_leaf b)
 
 -- a Double: `0x` and the sixteen digits of its pattern, or its decimal
 abbrev pub double_leaf : DoubleBits → Leaf
@@ -74,34 +74,34 @@ double d = text (double_leaf d)
 abbrev pub string_leaf : Option (List ℕ) → Leaf
 string_leaf s = same_leaf (escaped_string s)
 
-abbrev pub string : Option (List ℕ) → Tree
-string s = text (string_leaf s)
+abbrev pub string_tree : Option (List ℕ) → Tree
+string_tree s = text (string_leaf s)
 
 -- a ByteString, in base64
 abbrev pub bytes_leaf : Option (List ℕ) → Leaf
 bytes_leaf b = same_leaf (base64_text b)
 
-abbrev pub byte_string : Option (List ℕ) → Tree
-byte_string b = text (bytes_leaf b)
+abbrev pub byte_string_tree : Option (List ℕ) → Tree
+byte_string_tree b = text (bytes_leaf b)
 
 -- a DateTime: its ticks (OPC 10000-6, 5.2.2.5), or its time
-abbrev pub date_time : DateTime → Tree
-date_time t = text (moment_of t)
+abbrev pub date_time_tree : DateTime → Tree
+date_time_tree t = text (moment_of t)
 
 -- a StatusCode: eight upper case digits, and if names are wanted the standard's name
 abbrev pub code_leaf : StatusCode → Leaf
 code_leaf c = fixed (λ names. named_code names c.code) (λ names. named_code names c.code)
 
 -- a StatusCode, as a tree
-abbrev pub status_code : StatusCode → Tree
-status_code c = text (code_leaf c)
+abbrev pub status_code_tree : StatusCode → Tree
+status_code_tree c = text (code_leaf c)
 
 -- a NodeId: its text, control characters and backslashes escaped; the null NodeId is `i=0`
 abbrev pub node_leaf : NodeId → Leaf
 node_leaf id = same_leaf (escaped (node_text id))
 
-abbrev pub node_id : NodeId → Tree
-node_id id = text (node_leaf id)
+abbrev pub node_id_tree : NodeId → Tree
+node_id_tree id = text (node_leaf id)
 
 -- ---- values that are shown by their bytes
 
@@ -163,22 +163,22 @@ is_empty (around f d) = false
 abbrev pub name_leaf : QualifiedName → Leaf
 name_leaf q = encoded (flat name_format) is_null_name (λ names. plain_name false) q
 
-abbrev pub qualified_name : QualifiedName → Tree
-qualified_name q = text (name_leaf q)
+abbrev pub qualified_name_tree : QualifiedName → Tree
+qualified_name_tree q = text (name_leaf q)
 
 -- a LocalizedText: as `en|Pump`
 abbrev pub localized_leaf : LocalizedText → Leaf
 localized_leaf t = encoded (flat localized_format) is_null_localized (λ names. plain_localized false) t
 
-abbrev pub localized_text : LocalizedText → Tree
-localized_text t = text (localized_leaf t)
+abbrev pub localized_text_tree : LocalizedText → Tree
+localized_text_tree t = text (localized_leaf t)
 
 -- an ExtensionObject: by its bytes in each style
 abbrev pub object_leaf : ExtensionObject → Leaf
 object_leaf x = same_leaf (encoded_text (flat object_format) is_null_object x)
 
-abbrev pub extension_object : ExtensionObject → Tree
-extension_object x = text (object_leaf x)
+abbrev pub extension_object_tree : ExtensionObject → Tree
+extension_object_tree x = text (object_leaf x)
 
 -- a DiagnosticInfo: by its fields, as `{ symbolic_id 1 }`
 abbrev pub diagnostic_leaf : DiagnosticInfo → Leaf

@@ -5,7 +5,7 @@ use Rattle.ua_builtin.specs.NodeText.{node_text}
 use Rattle.ua_builtin.specs.declared.node_id.NodeId.{NodeId}
 use Rattle.ua_opening.specs.SecureChannel.{open_request}
 use Rattle.ua_opening.specs.declared.secure_channel.OpenRequest.{OpenRequest}
-use Rattle.ua_opening.specs.Message.{message, body_of, id_of, standard_number}
+use Rattle.ua_opening.specs.Message.{message, body_of, id_of_body, standard_number}
 use Rattle.ua_opening.specs.Open.{answer_read}
 use Rattle.ua_services.specs.Request.{request_kind_name, request_read, kind_alone}
 use Rattle.ua_services.specs.Response.{response_kind_name, response_kind_alone, response_read}
@@ -80,15 +80,15 @@ abbrev pub is_unsupported_request : List ℕ → Bool
 is_unsupported_request octets = is_unsupported_kind (kind_alone (request_read octets))
 
 -- whether what was decoded as a response begins with a NodeId of no known kind
-abbrev pub is_unknown : Result ResponseKind ResponseFault → Bool
-is_unknown (Ok kind) = false
-is_unknown (Err response_fault.Unknown) = true
-is_unknown (Err response_fault.Unreadable) = false
-is_unknown (Err response_fault.OutOfMemory) = false
+abbrev pub is_unknown_response : Result ResponseKind ResponseFault → Bool
+is_unknown_response (Ok kind) = false
+is_unknown_response (Err response_fault.Unknown) = true
+is_unknown_response (Err response_fault.Unreadable) = false
+is_unknown_response (Err response_fault.OutOfMemory) = false
 
 -- whether a message that a server sent is of no known kind
 abbrev pub is_unsupported_response : List ℕ → Bool
-is_unsupported_response octets = is_unknown (response_kind_alone (response_read octets))
+is_unsupported_response octets = is_unknown_response (response_kind_alone (response_read octets))
 
 -- whether a message that this side sent is of no known kind
 abbrev pub is_unsupported : Side → List ℕ → Bool
@@ -108,7 +108,7 @@ encoding_text (Some id) = codes " " ++ (escaped (node_text id) ++ name_part (nam
 -- the title of a message in its line: its name, and if names are wanted, the encoding of one of no
 -- known kind
 abbrev pub message_title : Bool → Side → List ℕ → List ℕ
-message_title names side octets = message_name side octets ++ cond (names && is_unsupported side octets) (encoding_text (id_of octets)) []
+message_title names side octets = message_name side octets ++ cond (names && is_unsupported side octets) (encoding_text (id_of_body octets)) []
 
 -- ---- the bodies of OPN frames
 

@@ -23,8 +23,8 @@ use Rattle.ua_pair.specs.declared.side.Side.TheVariants.{Client, Server}
 use Rattle.ua_pair.specs.Before.{message_chunks, last_sequence, sequence_by}
 
 -- the most bytes of a message
-abbrev pub most_octets : ℕ
-most_octets = 16777216
+abbrev pub most_message_octets : ℕ
+most_message_octets = 16777216
 
 -- the most chunks of a message
 abbrev pub most_chunks : ℕ
@@ -53,11 +53,11 @@ abbrev pub greeting_reasons : {A : Type 0} → Option A → List (ℕ × Bool)
 greeting_reasons read = (0x8007_0000, is_none read) ∷ []
 
 -- whether the headers of an OPN cannot be decoded
-abbrev pub is_unreadable : Option OpenFault → Bool
-is_unreadable None = false
-is_unreadable (Some opening.Unreadable) = true
-is_unreadable (Some opening.Policy) = false
-is_unreadable (Some opening.OutOfMemory) = false
+abbrev pub is_open_unreadable : Option OpenFault → Bool
+is_open_unreadable None = false
+is_open_unreadable (Some opening.Unreadable) = true
+is_open_unreadable (Some opening.Policy) = false
+is_open_unreadable (Some opening.OutOfMemory) = false
 
 -- whether an OPN names another policy than None
 abbrev pub is_other_policy : Option OpenFault → Bool
@@ -67,9 +67,9 @@ is_other_policy (Some opening.Policy) = true
 is_other_policy (Some opening.OutOfMemory) = false
 
 -- whether the SequenceNumber does not follow the last one, if there is one
-abbrev pub breaks_order : Option ℕ → Option ℕ → Bool
-breaks_order last None = false
-breaks_order last (Some number) = not (may_follow last number)
+abbrev pub breaks_number_order : Option ℕ → Option ℕ → Bool
+breaks_number_order last None = false
+breaks_number_order last (Some number) = not (may_follow last number)
 
 -- the reasons against an OPN after this last SequenceNumber: its headers cannot be decoded,
 -- BadDecodingError; it names another policy, BadSecurityPolicyRejected; its number does not follow,
@@ -77,25 +77,25 @@ breaks_order last (Some number) = not (may_follow last number)
 -- which follows it
 abbrev pub opening_reasons : Option ℕ → Frame → List (ℕ × Bool)
 opening_reasons last f =
-    (0x8007_0000, is_unreadable (open_refusal f.body))
+    (0x8007_0000, is_open_unreadable (open_refusal f.body))
     ∷ (0x8055_0000, is_other_policy (open_refusal f.body))
-    ∷ (0x8088_0000, breaks_order last (sequence_by Opn f))
+    ∷ (0x8088_0000, breaks_number_order last (sequence_by Opn f))
     ∷ []
 
 -- the reasons against a MessageChunk after these chunks and this last SequenceNumber: those of an
 -- assembler with these limits
-abbrev pub chunk_reasons : Side → Option ℕ → List Chunk → Option Chunk → List (ℕ × Bool)
-chunk_reasons side last cs None = []
-chunk_reasons side last cs (Some c) = map (renamed_reason (chunk_code side)) (reasons most_octets most_chunks last cs c)
+abbrev pub chunk_reasons_of_side : Side → Option ℕ → List Chunk → Option Chunk → List (ℕ × Bool)
+chunk_reasons_of_side side last cs None = []
+chunk_reasons_of_side side last cs (Some c) = map (renamed_reason (chunk_code side)) (reasons most_message_octets most_chunks last cs c)
 
 -- the reasons against a frame of this kind, after this last SequenceNumber and these chunks
 abbrev pub reasons_by : Kind → Side → Option ℕ → List Chunk → Frame → List (ℕ × Bool)
 reasons_by Hel side last cs f = greeting_reasons (whole_of hello f.body)
 reasons_by Ack side last cs f = greeting_reasons (whole_of ack f.body)
 reasons_by kind.Err side last cs f = greeting_reasons (whole_of error f.body)
-reasons_by Msg side last cs f = chunk_reasons side last cs (chunk_in f)
+reasons_by Msg side last cs f = chunk_reasons_of_side side last cs (chunk_in f)
 reasons_by Opn side last cs f = opening_reasons last f
-reasons_by Clo side last cs f = (0x8088_0000, breaks_order last (sequence_by Clo f)) ∷ []
+reasons_by Clo side last cs f = (0x8088_0000, breaks_number_order last (sequence_by Clo f)) ∷ []
 
 -- the reasons against a frame after these frames
 unfoldable pub frame_reasons : Side → List Frame → Frame → List (ℕ × Bool)

@@ -3,16 +3,16 @@ use Rattle.std.specs.Prelude.{[], ◌∷◌, codes}
 use Rattle.ua_opening.specs.declared.secure_channel.OpenResponse.{OpenResponse}
 use Rattle.ua_pair.specs.declared.fields.security_token.SecurityToken.{SecurityToken}
 use Rattle.ua_pair.specs.Tree.{Fields, structure, named}
-use Rattle.ua_pair.specs.Leaves.{number, byte_string, date_time}
+use Rattle.ua_pair.specs.Leaves.{number_tree, byte_string_tree, date_time_tree}
 use Rattle.ua_pair.specs.Header.{response_header_entries}
 
 -- ChannelSecurityToken, a structure within the response (OPC 10000-4, 5.6.2)
 unfoldable pub security_token_entries : SecurityToken → Fields
 security_token_entries t = named (
-    (codes "channel_id", number t.channel_id)
-    ∷ (codes "token_id", number t.token_id)
-    ∷ (codes "created_at", date_time t.created_at)
-    ∷ (codes "revised_lifetime", number t.revised_lifetime)
+    (codes "channel_id", number_tree t.channel_id)
+    ∷ (codes "token_id", number_tree t.token_id)
+    ∷ (codes "created_at", date_time_tree t.created_at)
+    ∷ (codes "revised_lifetime", number_tree t.revised_lifetime)
     ∷ [])
 
 -- the ChannelSecurityToken of a response
@@ -23,7 +23,7 @@ security_token_of m = record { channel_id = m.channel_id; token_id = m.token_id;
 unfoldable pub open_response_entries : OpenResponse → Fields
 open_response_entries m = named (
     (codes "response_header", structure (response_header_entries m.response_header))
-    ∷ (codes "server_protocol_version", number m.server_protocol_version)
+    ∷ (codes "server_protocol_version", number_tree m.server_protocol_version)
     ∷ (codes "security_token", structure (security_token_entries (security_token_of m)))
-    ∷ (codes "server_nonce", byte_string m.server_nonce)
+    ∷ (codes "server_nonce", byte_string_tree m.server_nonce)
     ∷ [])

@@ -4,8 +4,8 @@ use Rattle.ua_pair.specs.declared.options.DissectOptions.{DissectOptions}
 use Rattle.ua_pair.specs.declared.options.FieldStyle.{FieldStyle}
 
 -- exact, with or without the names of StatusCodes
-abbrev pub exact : Bool → FieldStyle
-exact names = record { names = names; plain = false }
+abbrev pub exact_field_style : Bool → FieldStyle
+exact_field_style names = record { names = names; plain = false }
 
 -- as these options say
 abbrev pub style_of : DissectOptions → FieldStyle

@@ -16,7 +16,7 @@ use Rattle.ua_pair.specs.declared.fault.DissectFault.TheVariants.{Refused, OutOf
 use Rattle.ua_pair.specs.declared.side.Side.{Side}
 use Rattle.ua_pair.specs.declared.options.DissectOptions.{DissectOptions}
 use Rattle.ua_pair.specs.Before.{message_chunks, last_sequence}
-use Rattle.ua_pair.specs.Refused.{most_octets, most_chunks, chunk_code, reasons_by}
+use Rattle.ua_pair.specs.Refused.{most_message_octets, most_chunks, chunk_code, reasons_by}
 use Rattle.ua_pair.specs.Told.{IsTextBy}
 
 -- the error that results from an error of the assembler: a rejection with its code, or OutOfMemory
@@ -40,18 +40,18 @@ opening_fault opening.OutOfMemory = OutOfMemory
 pub record TellerStands (t : Teller) (fs : List Frame) : Type 0 where
   pub messages : AssemblerStands t.assembler (message_chunks fs)
   pub last : last_number t.assembler ≡ last_sequence fs
-  pub octets : octet_limit t.assembler ≡ most_octets
+  pub octets : octet_limit t.assembler ≡ most_message_octets
   pub chunks : chunk_limit t.assembler ≡ most_chunks
 
 -- the outcome for a frame: there is no reason against it, and a text of which this holds was
 -- appended; or it is rejected for its first reason; or an allocation failed
-abbrev pub Judges : Option ℕ → (List ℕ → Type 0) → Result (Unit {0}) DissectFault → List ℕ → List ℕ → Type 0
-Judges why Holds (Ok x) old new = (why ≡ None) × ((text : List ℕ) × (new ≡ old ++ text) × Holds text)
-Judges why Holds (Err (Refused code)) old new = why ≡ Some code.code
-Judges why Holds (Err OutOfMemory) old new = Unit {0}
+abbrev pub JudgesFrameTelling : Option ℕ → (List ℕ → Type 0) → Result (Unit {0}) DissectFault → List ℕ → List ℕ → Type 0
+JudgesFrameTelling why Holds (Ok x) old new = (why ≡ None) × ((text : List ℕ) × (new ≡ old ++ text) × Holds text)
+JudgesFrameTelling why Holds (Err (Refused code)) old new = why ≡ Some code.code
+JudgesFrameTelling why Holds (Err OutOfMemory) old new = Unit {0}
 
 -- the outcome for a frame of this kind at this offset, after these frames
 abbrev pub JudgesKind : Kind → DissectOptions → List Frame → ℕ → Frame → Result (Unit {0}) DissectFault → List ℕ → List ℕ → Type 0
 JudgesKind k options before place f result old new =
-    Judges (first_reason (reasons_by k options.side (last_sequence before) (message_chunks before) f)) (IsTextBy k options (message_chunks before) place f)
+    JudgesFrameTelling (first_reason (reasons_by k options.side (last_sequence before) (message_chunks before) f)) (IsTextBy k options (message_chunks before) place f)
     result old new

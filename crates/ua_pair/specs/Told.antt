@@ -30,17 +30,17 @@ line_if line None = []
 line_if line (Some m) = line m
 
 -- the lines of the fields of a body of this kind, if they are wanted
-abbrev pub fields_of : DissectOptions → BodyKind → List ℕ → List ℕ
-fields_of options kind octets = cond options.fields (body_fields options.names kind octets) []
+abbrev pub field_lines_of : DissectOptions → BodyKind → List ℕ → List ℕ
+field_lines_of options kind octets = cond options.fields (body_fields options.names kind octets) []
 
 -- the lines of the header of a message, if fields are wanted and it is of no known kind
-abbrev pub header_of : DissectOptions → Bool → List ℕ → List ℕ
-header_of options unsupported octets = cond (options.fields && unsupported) (header_fields options.names options.side octets) []
+abbrev pub header_lines_of : DissectOptions → Bool → List ℕ → List ℕ
+header_lines_of options unsupported octets = cond (options.fields && unsupported) (header_fields options.names options.side octets) []
 
 -- the lines of the fields of a message, or of the header of one of no known kind, which has no
 -- fields
 abbrev pub message_fields : DissectOptions → List ℕ → List ℕ
-message_fields options octets = fields_of options (message_kind options.side) octets ++ header_of options (is_unsupported options.side octets) octets
+message_fields options octets = field_lines_of options (message_kind options.side) octets ++ header_lines_of options (is_unsupported options.side octets) octets
 
 -- the lines of what a chunk completes: that of the message, and those of its fields
 abbrev pub item_lines : DissectOptions → Item → List ℕ
@@ -51,7 +51,7 @@ item_lines options (Aborted id code reason) = aborted_line options.names id code
 abbrev pub opening_lines : DissectOptions → ℕ → ℕ → OpenChunk → List ℕ
 opening_lines options place size c =
     opening_line place size c
-    ++ (message_line c.request (length c.body) (opening_name options.side c.body) ++ fields_of options (opening_kind options.side) c.body)
+    ++ (message_line c.request (length c.body) (opening_name options.side c.body) ++ field_lines_of options (opening_kind options.side) c.body)
 
 -- a MSG at this offset and of this size after these chunks: its line, and those of what it
 -- completes

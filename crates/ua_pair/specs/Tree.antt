@@ -20,11 +20,11 @@ pub data Leaf : Type 0 where
   value_of : VariantData → Leaf
 
 -- the exact text, with or without the names of StatusCodes
-abbrev pub exact_text : Bool → Leaf → List ℕ
-exact_text names (fixed exact plain) = exact names
-exact_text names (double_of bits) = pattern_text 16 bits
-exact_text names (moment_of t) = signed_decimal t.ticks
-exact_text names (value_of v) = variant_text v
+abbrev pub exact_leaf_text : Bool → Leaf → List ℕ
+exact_leaf_text names (fixed exact plain) = exact names
+exact_leaf_text names (double_of bits) = pattern_text 16 bits
+exact_leaf_text names (moment_of t) = signed_decimal t.ticks
+exact_leaf_text names (value_of v) = variant_text v
 
 -- a text as people write it: that of a Double, and of a Variant that holds one or a Float, is any
 -- decimal that reads back as it
@@ -36,7 +36,7 @@ IsPlainText names (value_of v) text = IsPlainVariant names v text
 
 -- a text of this style
 abbrev pub IsText : FieldStyle → Leaf → List ℕ → Type 0
-IsText style leaf text = Either style.plain (IsPlainText style.names leaf text) (text ≡ exact_text style.names leaf)
+IsText style leaf text = Either style.plain (IsPlainText style.names leaf text) (text ≡ exact_leaf_text style.names leaf)
 
 -- ---- trees
 
@@ -69,9 +69,9 @@ abbrev pub same_text : List ℕ → Tree
 same_text shown = text (same_leaf shown)
 
 -- the elements of an array, of a list
-abbrev pub elements_of : List Tree → Elements
-elements_of [] = no_elements
-elements_of (tree ∷ trees) = element tree (elements_of trees)
+abbrev pub tree_elements : List Tree → Elements
+tree_elements [] = no_elements
+tree_elements (tree ∷ trees) = element tree (tree_elements trees)
 
 -- the fields of a structure, each by its name, of a list
 abbrev pub named : List (List ℕ × Tree) → Fields
@@ -81,7 +81,7 @@ named (entry ∷ entries) = field entry.0 entry.1 (named entries)
 -- these values as elements, each as a tree; none for null
 abbrev pub array_from : {A : Type 0} → (A → Tree) → Option (List A) → Array
 array_from tree None = null
-array_from tree (Some items) = elements (elements_of (map tree items))
+array_from tree (Some items) = elements (tree_elements (map tree items))
 
 -- the array of these values, or the null one
 abbrev pub array_of : {A : Type 0} → (A → Tree) → Option (List A) → Tree
@@ -124,7 +124,7 @@ field_margin margin (structure inner) = deeper margin
 -- level deeper; of a structure the lines of its fields, in their order
 abbrev mutual
   pub lines : Bool → List ℕ → List ℕ → Tree → List ℕ
-  lines names margin path (text leaf) = line margin path (exact_text names leaf)
+  lines names margin path (text leaf) = line margin path (exact_leaf_text names leaf)
   lines names margin path (array items) = array_lines names margin path items
   lines names margin path (structure inner) = field_lines names margin path inner
 

@@ -5,9 +5,9 @@ ghost use Rattle.ua_wire.specs.Format.{Extends};
 ghost use Rattle.ua_frame.specs.declared.frame.Frame.{Frame};
 ghost use Rattle.ua_frame.specs.Frames.{IsSized, LetsIn};
 ghost use Rattle.ua_pair.specs.Dissected.{every_frame as open_gate};
-ghost use Rattle.ua_pair.specs.Dissecting.{StandsBehind, TellsMore, EndsLines, AreHeld, IsClosed};
-ghost use Rattle.ua_pair.specs.Dissecting.{most_held, Holds, DissectorGoesOn, FrameTold, TakesPiece};
-ghost use Rattle.ua_pair.specs.Dissecting.{TakesNext, is_going, is_refused, is_stopped, HasRefusedOne};
+ghost use Rattle.ua_pair.specs.Dissecting.{StandsBehind, TellsMore, EndsLines, AreHeld, IsDissectorClosed};
+ghost use Rattle.ua_pair.specs.Dissecting.{most_buffered, Holds, DissectorGoesOn, FrameTold, TakesPiece};
+ghost use Rattle.ua_pair.specs.Dissecting.{TakesNext, is_dissecting, is_refused, is_stopped, HasRefusedOne};
 ghost use Rattle.ua_pair.specs.Told.{place_behind};
 
 use crate::fault::DissectFault;
@@ -62,7 +62,7 @@ impl Dissector {
 
     /// Whether further bytes are accepted.
     fn goes_on(&self) -> bool
-        ensures { result ≡ is_going self.now.state }
+        ensures { result ≡ is_dissecting self.now.state }
     {
         match self.state {
             State::Going => true,
@@ -152,7 +152,7 @@ impl Dissector {
         ensures takes { OnOk result
             (TakesPiece self.old self.new piece.now (string_bytes out.old) (string_bytes out.new)) }
         ensures err { OnErr result (Extends (string_bytes out.old) (string_bytes out.new)) }
-        ensures closed { IsClosed self.old → IsErr result }
+        ensures closed { IsDissectorClosed self.old → IsErr result }
     {
         if let State::Closed = self.state {
             return Err(AllocError);
@@ -177,8 +177,8 @@ impl Dissector {
             → OnOk result (TellsMore self.new options (octets ++ piece.now) told (string_bytes out.old)
             (string_bytes out.new)) }
         ensures err { OnErr result (string_bytes out.new ≡ string_bytes out.old) }
-        ensures failed { OnErr result (IsClosed self.new) }
-        ensures closed { IsClosed self.old → IsErr result }
+        ensures failed { OnErr result (IsDissectorClosed self.new) }
+        ensures closed { IsDissectorClosed self.old → IsErr result }
         // After a rejected UA TCP message nothing more is appended, whatever comes, and nothing is
         // allocated.
         ensures rests { HasRefusedOne self.old → IsOk result × (string_bytes out.new ≡ string_bytes out.old)
@@ -200,7 +200,7 @@ impl Dissector {
     fn push_last(&self, line: &mut String) -> Result<(), AllocError>
         ensures last { (options : DissectOptions) (octets told : List ℕ) → StandsBehind self.now options octets told
             → OnOk result (EndsLines options octets told (string_bytes line.old) (string_bytes line.new)) }
-        ensures closed { IsClosed self.now → IsErr result }
+        ensures closed { IsDissectorClosed self.now → IsErr result }
     {
         match self.state {
             State::Going => push_rest_line(line, self.place, self.reader.held()),
@@ -221,7 +221,7 @@ impl Dissector {
         ensures last { (options : DissectOptions) (octets told : List ℕ) → StandsBehind self.now options octets told
             → OnOk result (EndsLines options octets told (string_bytes out.old) (string_bytes out.new)) }
         ensures err { OnErr result (string_bytes out.new ≡ string_bytes out.old) }
-        ensures closed { IsClosed self.now → IsErr result }
+        ensures closed { IsDissectorClosed self.now → IsErr result }
     {
         let mut line = String::new(self.alloc);
         self.push_last(&mut line)?;
@@ -246,8 +246,8 @@ impl Dissector {
         ensures held { (options : DissectOptions) (octets told : List ℕ) → StandsBehind self.now options octets told
             → AreHeld options octets result }
         ensures bound { (options : DissectOptions) (octets told : List ℕ) → StandsBehind self.now options octets told
-            → result ≤ most_held }
-        ensures closed { IsClosed self.now → result ≡ 0 }
+            → result ≤ most_buffered }
+        ensures closed { IsDissectorClosed self.now → result ≡ 0 }
     {
         self.reader.held().saturating_add(self.teller.held())
     }
@@ -255,7 +255,7 @@ impl Dissector {
     /// The greatest number of buffered bytes: those of a UA TCP message of the greatest size, and
     /// of four messages of the greatest size.
     pub fn bound() -> usize
-        ensures { result ≡ most_held }
+        ensures { result ≡ most_buffered }
     {
         MOST_HELD
     }

@@ -1,7 +1,7 @@
 //! The encodings of messages, by their ids and names.
 
 ghost use Rattle.std.specs.Prelude.{◌≡◌, ◌++◌, Some, map, option_map, slice_get, string_bytes, OnOk};
-ghost use Rattle.ua_opening.specs.Message.{id_of};
+ghost use Rattle.ua_opening.specs.Message.{id_of_body};
 ghost use Rattle.ua_texts.specs.Names.{name_in};
 ghost use Rattle.ua_pair.specs.Encodings.{encodings};
 ghost use Rattle.ua_pair.specs.Names.{encoding_text, name_of_encoding};
@@ -66,7 +66,7 @@ pub fn push_encoding<S: Source>(
     src: &mut S,
     out: &mut String,
 ) -> Result<(), AllocError>
-    ensures { OnOk result (string_bytes out.new ≡ string_bytes out.old ++ encoding_text (id_of (S.octets src.old))) }
+    ensures { OnOk result (string_bytes out.new ≡ string_bytes out.old ++ encoding_text (id_of_body (S.octets src.old))) }
 {
     match NodeId::read_value(alloc, src, MOST_LEVELS) {
         Ok(id) => push_id(alloc, out, &id),

@@ -1,7 +1,7 @@
 //! The options of the dissector.
 
 ghost use Rattle.std.specs.Prelude.{◌≡◌};
-ghost use Rattle.ua_pair.specs.Dissected.{plain as plain_options};
+ghost use Rattle.ua_pair.specs.Dissected.{plain_of_side as plain_options};
 ghost use Rattle.ua_pair.specs.Styles.{style_of};
 
 use crate::side::Side;
@@ -32,11 +32,11 @@ pub struct FieldStyle {
 
 impl FieldStyle {
     ghost use Rattle.std.specs.Prelude.{◌≡◌};
-    ghost use Rattle.ua_pair.specs.Styles.{exact};
+    ghost use Rattle.ua_pair.specs.Styles.{exact_field_style};
 
     /// Exact texts, with or without the names of StatusCodes.
     pub fn exact(names: bool) -> FieldStyle
-        ensures { result ≡ exact names }
+        ensures { result ≡ exact_field_style names }
     {
         FieldStyle {
             names,

@@ -12,7 +12,7 @@ ghost use Rattle.ua_chunk.specs.Open.{open_octets};
 ghost use Rattle.ua_chunk.specs.View.{item_of};
 ghost use Rattle.ua_pair.specs.Before.{message_chunks};
 ghost use Rattle.ua_pair.specs.Dissected.{every_frame};
-ghost use Rattle.ua_pair.specs.Telling.{TellerStands, Judges, JudgesKind};
+ghost use Rattle.ua_pair.specs.Telling.{TellerStands, JudgesFrameTelling, JudgesKind};
 ghost use Rattle.ua_pair.specs.Refused.{greeting_reasons, frame_reasons};
 ghost use Rattle.ua_pair.specs.Lines.{message_line};
 ghost use Rattle.ua_pair.specs.Names.{message_kind as kind_of_message, opening_kind as kind_of_opening};
@@ -67,7 +67,7 @@ fn push_greeting<T: GreetingLine>(
     size: usize,
     lines: &mut String,
 ) -> Result<(), DissectFault>
-    ensures { Judges (first_reason (greeting_reasons (whole_of T.message body.now)))
+    ensures { JudgesFrameTelling (first_reason (greeting_reasons (whole_of T.message body.now)))
         (λ text. text ≡ line_if (T.line names place size) (whole_of T.message body.now)) result (string_bytes lines.old)
         (string_bytes lines.new) }
 {
@@ -297,7 +297,7 @@ impl Teller {
         requires sized { IsSized frame }
         requires let_in { LetsIn every_frame frame }
         ensures judged { (before : List Frame) → TellerStands self.old before → place ≡ place_behind before →
-            Judges (first_reason (frame_reasons self.old.options.side before frame))
+            JudgesFrameTelling (first_reason (frame_reasons self.old.options.side before frame))
             (IsFrameText self.old.options before frame) result (string_bytes lines.old) (string_bytes lines.new) }
         ensures stands { (before : List Frame) → TellerStands self.old before
             → OnOk result (TellerStands self.new (before ++ frame ∷ [])) }

@@ -12,7 +12,7 @@ use Rattle.ua_server.specs.Happening.{Leads}
 use Rattle.ua_server.specs.declared.serve_fault.ServeFault.{ServeFault}
 use Rattle.ua_server.specs.declared.step.End.{End}
 use Rattle.ua_structures.specs.declared.attribute.WriteValue.{WriteValue}
-use Rattle.ua_program.specs.AtOnce.{ActsBeside, Ended, HasEnded, HasServedAtOnce, HasServedSomeAtOnce, IsUnwritten, PrintsBy}
+use Rattle.ua_program.specs.AtOnce.{ActsBeside, Ended, HasPrintedEnded, HasServedAtOnce, HasServedSomeAtOnce, IsUnwritten, PrintsBy}
 use Rattle.ua_program.specs.AtOnce.{PrintsNews, SaysEnd, SaysOutcomeOf, SaysStored, StopsAtHalt, Wrote, outcome_of}
 use Rattle.ua_program.specs.Reasons.{StopsWriting}
 use Rattle.ua_program.specs.Served.{IsSaid, connection_line, listening_line}
@@ -22,7 +22,7 @@ use Rattle.ua_program.specs.declared.at_once.Halt.TheVariants as halt
 use Rattle.ua_program.specs.declared.output.Stop.{Stop}
 
 -- no line yet
-none_ended : (writes : Option Bool) (goes_on : Bool) (old new : Option (List ℕ)) → new ≡ old → HasEnded writes goes_on 0 old new
+none_ended : (writes : Option Bool) (goes_on : Bool) (old new : Option (List ℕ)) → new ≡ old → HasPrintedEnded writes goes_on 0 old new
 none_ended writes goes_on old new same = record { said = []; each = tt; count_is = refl; added = subst (λ w. Appends old w []) (sym same) (Appends-nil old) }
 
 -- a text that says one outcome says an outcome
@@ -33,7 +33,7 @@ says_outcome goes_on outcome text (inr is) = inr is
 -- one in front of others
 ended_first : (writes : Option Bool) (goes_on : Bool) (number : ℕ) (outcome : Result End ServeFault) (count : ℕ) (old mid new : Option (List ℕ))
     → SaysEnd goes_on number outcome None old mid
-    → HasEnded writes goes_on count mid new → HasEnded writes goes_on (suc count) old new
+    → HasPrintedEnded writes goes_on count mid new → HasPrintedEnded writes goes_on (suc count) old new
 ended_first writes goes_on number outcome count old mid new said rest = record {
   said = Ended number said.0 ∷ rest.said;
   each = (says_outcome goes_on outcome said.0 said.1, rest.each);
@@ -44,8 +44,8 @@ ended_first writes goes_on number outcome count old mid new said rest = record {
 -- the lines of stored items in front of others
 wrote_first : (writes : Option Bool) (goes_on : Bool) (items : List WriteValue) (count : ℕ) (old mid new : Option (List ℕ))
     → SaysStored writes goes_on items None old mid
-    → HasEnded writes goes_on count mid new → HasEnded writes goes_on count old new
-wrote_first None goes_on items count old mid new said rest = subst (λ w. HasEnded None goes_on count w new) said.1 rest
+    → HasPrintedEnded writes goes_on count mid new → HasPrintedEnded writes goes_on count old new
+wrote_first None goes_on items count old mid new said rest = subst (λ w. HasPrintedEnded None goes_on count w new) said.1 rest
 wrote_first (Some plain) goes_on items count old mid new said rest = record {
   said = Wrote items said.0 ∷ rest.said;
   each = (said.1, rest.each);
@@ -57,14 +57,14 @@ wrote_first (Some plain) goes_on items count old mid new said rest = record {
 pub record EndedSome (writes : Option Bool) (goes_on : Bool) (most : ℕ) (old new : Option (List ℕ)) : Type 0 where
   pub count : ℕ
   pub fewer : count ≤ most
-  pub ended : HasEnded writes goes_on count old new
+  pub ended : HasPrintedEnded writes goes_on count old new
 
 none_of : (writes : Option Bool) (goes_on : Bool) (most : ℕ) (old new : Option (List ℕ)) → new ≡ old → EndedSome writes goes_on most old new
 none_of writes goes_on most old new same = record { count = 0; fewer = omega arith; ended = none_ended writes goes_on old new same }
 
 -- what the news come to
 abbrev pub ComesTo : Option Halt → Option Bool → Bool → ℕ → Option (List ℕ) → Option (List ℕ) → Type 0
-ComesTo None writes goes_on count old new = HasEnded writes goes_on count old new
+ComesTo None writes goes_on count old new = HasPrintedEnded writes goes_on count old new
 ComesTo (Some halt.Memory) writes goes_on count old new = EndedSome writes goes_on count old new
 ComesTo (Some (halt.Listener error)) writes goes_on count old new = EndedSome writes goes_on count old new
 ComesTo (Some (halt.Output error)) writes goes_on count old new = ⊤
@@ -262,7 +262,7 @@ pub all_ended : (form writes : Option Bool) (goes_on : Bool) (port connections :
 all_ended form writes goes_on port connections h old mid new same listening none ended = record {
   between = mid;
   listening = listening;
-  ended = subst (λ w. HasEnded w goes_on connections mid new) same (subst (λ x. ComesTo x form goes_on connections mid new) none ended);
+  ended = subst (λ w. HasPrintedEnded w goes_on connections mid new) same (subst (λ x. ComesTo x form goes_on connections mid new) none ended);
 }
 
 -- however the loop ended, no more than these were told of; where it is done, all were

@@ -6,7 +6,7 @@ use denote.Ref.{Bor}
 use Rattle.ua_session.specs.declared.looping.fault.LoopFault.{LoopFault}
 use Rattle.ua_texts.specs.Script.{AsksFor}
 use Rattle.ua_texts.specs.declared.script.ScriptLine.{ScriptLine}
-use Rattle.ua_program.specs.LineTask.{GivesOwn, IsBare, IsPause, IsSleep, IsTaskOf, RefusesLine, Requests}
+use Rattle.ua_program.specs.LineTask.{GivesOwn, IsBare, IsPause, IsSleep, IsTaskOf, RefusesTaskLine, Requests}
 use Rattle.ua_program.specs.declared.line_task.LineTask.{LineTask}
 use Rattle.ua_program.specs.declared.line_task.LineTask.TheVariants as task
 
@@ -40,7 +40,7 @@ own_requests line words (Ok task.Renew) bare own = absurd own
 own_requests line words (Ok (task.Ask question)) bare own = absurd own
 own_requests line words (Err fault) bare own = tt
 
-pub own_refuses : (line words : List ℕ) (found : Result LineTask LoopFault) → IsBare line words → GivesOwn words found → IfErr found (RefusesLine line)
+pub own_refuses : (line words : List ℕ) (found : Result LineTask LoopFault) → IsBare line words → GivesOwn words found → IfErr found (RefusesTaskLine line)
 own_refuses line words (Ok found) bare own = tt
 own_refuses line words (Err fault) bare own = inr (inl (own.0, (words, bare, own.1)))
 

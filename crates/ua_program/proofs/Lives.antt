@@ -6,7 +6,7 @@ use Rattle.ua_node_files.specs.Changed.{Changes, entry_of, with_all_changed, wit
 use Rattle.ua_nodes.specs.Table.{Nodes}
 use Rattle.ua_nodes.specs.declared.node.Node.{Node}
 use Rattle.ua_server.specs.State.{State, with_nodes}
-use Rattle.ua_program.specs.Live.{FollowsFile, LooksAt, TakesReading, TakesSome}
+use Rattle.ua_program.specs.Live.{FollowsFile, LooksAt, TakesReading, TakesSomeNodes}
 use Rattle.ua_program.specs.declared.live.LiveFile.{LiveFile}
 
 -- ---- nodes that changed
@@ -46,7 +46,7 @@ on_err (Ok value) P p = tt
 on_err (Err fault) P p = p
 
 -- the next one was not taken
-pub taken_some : (moment : DateTime) (all rest : List Node) (old mid new : State) → new ≡ mid → TakenSo moment all rest old mid → TakesSome moment all old new
+pub taken_some : (moment : DateTime) (all rest : List Node) (old mid new : State) → new ≡ mid → TakenSo moment all rest old mid → TakesSomeNodes moment all old new
 taken_some moment all rest old mid new same so = record { first = so.done; rest = rest; parts = sym so.parts; taken = same ∙ so.taken }
 
 -- ---- a look at a file
@@ -59,7 +59,7 @@ took_all last text changed moment old new are taken = record { text = text; chan
 
 -- an allocation failed
 pub took_some : (last text : List ℕ) (changed : List Node) (moment : DateTime) (old new : State) → Changes last text (map entry_of changed)
-    → TakesSome moment changed old new
+    → TakesSomeNodes moment changed old new
     → TakesReading last last old new
 took_some last text changed moment old new are taken = record { text = text; changed = changed; are = are; moment = moment; taken = inr (refl, taken) }
 
@@ -71,7 +71,7 @@ by_nodes old new nodes is = is ∙ ap (λ (s : State). with_nodes old s.nodes) (
 reading_nodes : (last after : List ℕ) (old new : State) → TakesReading last after old new → new ≡ with_nodes old new.nodes
 reading_nodes last after old new r = by r.taken
   where
-    by : ((after ≡ r.text) × (new ≡ with_nodes old (with_all_changed r.moment r.changed old.nodes))) ⊎ ((after ≡ last) × TakesSome r.moment r.changed old new)
+    by : ((after ≡ r.text) × (new ≡ with_nodes old (with_all_changed r.moment r.changed old.nodes))) ⊎ ((after ≡ last) × TakesSomeNodes r.moment r.changed old new)
         → new ≡ with_nodes old new.nodes
     by (inl all) = by_nodes old new _ all.1
     by (inr some) = by_nodes old new _ some.1.taken

@@ -5,7 +5,7 @@ use Rattle.std.specs.List.{position}
 use Rattle.std.specs.Option.{unwrap_or}
 use Rattle.std.proofs.lemmas.List.Folds.{prefix_len-append}
 use Rattle.std.proofs.lemmas.List.Sums.{prefix_len-le-length}
-use Rattle.ua_program.specs.Digits.{digits_before, is_no_digit, GoesOn, IsPlaceIn}
+use Rattle.ua_program.specs.Digits.{digits_before, is_no_digit, GoesOnHexadecimal, IsPlaceIn}
 use Rattle.ua_program.specs.declared.digit_place.DigitPlace.{DigitPlace}
 
 -- the place of the first that is no digit, or how many there are
@@ -45,7 +45,7 @@ by_case a b most more all old new le is found count kept next false had =
       on.1 ∙ (let sum : min (old.count + b) (2 ^ 64 - 1) ≡ min all (2 ^ 64 - 1) = grind (arith, count, place) in sum),
     )
 
-pub place_behind : (text piece : List ℕ) (old new : DigitPlace) → (old.found ≡ true → new ≡ old) → (old.found ≡ false → GoesOn old.count piece new)
+pub place_behind : (text piece : List ℕ) (old new : DigitPlace) → (old.found ≡ true → new ≡ old) → (old.found ≡ false → GoesOnHexadecimal old.count piece new)
     → IsPlaceIn text old → IsPlaceIn (text ++ piece) new
 place_behind text piece old new kept next at =
     let p : ℕ → Bool = λ (octet : ℕ). not (is_no_digit octet) in

@@ -23,7 +23,7 @@ use Rattle.ua_session.specs.declared.verdict.Verdict.{Verdict}
 use Rattle.ua_program.specs.declared.output.Stop.{Stop}
 use Rattle.ua_program.specs.declared.output.Stop.TheVariants as stop
 use Rattle.ua_program.specs.Dissects.{AreLinesOf, DissectsAll, EndsFile, GivesNone, HasBegunDissecting, IsJudged, LeavesNone, PrintsLast}
-use Rattle.ua_program.specs.Dissects.{PrintsNext, PrintsPiece, Reads, StopsLast, StopsNext, StopsReading, TellsPiece, ToldSoFar}
+use Rattle.ua_program.specs.Dissects.{PrintsNext, PrintsPiece, ReadsIntoFragment, StopsLast, StopsNext, StopsReading, TellsPiece, ToldSoFar}
 use Rattle.ua_program.proofs.HexParts.{hex_first}
 
 -- nothing yet
@@ -202,7 +202,7 @@ prints_refused verdict hex options half d content piece told cleared mid text be
     }
 
 -- nothing was read, so nothing is left
-pub nothing_read : (n : ℕ) (known after : Option (List ℕ)) (piece : List ℕ) → Reads (Some n) known after piece → n ≡ 0 → 0 < length piece
+pub nothing_read : (n : ℕ) (known after : Option (List ℕ)) (piece : List ℕ) → ReadsIntoFragment (Some n) known after piece → n ≡ 0 → 0 < length piece
     → (take n piece ≡ []) × IsAtEnd after
 nothing_read zero known after piece r none room = (refl, r.2 refl room)
 nothing_read (suc n) known after piece r none room = absurd cc

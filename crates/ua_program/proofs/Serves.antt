@@ -7,7 +7,7 @@ use Rattle.std.specs.Io.KnownBytes.{Appends}
 use Rattle.std.specs.Prelude.{⊤}
 use Rattle.std.specs.List.{AllByRecursion}
 use Rattle.ua_services.proofs.Words.{local_url_fits, name_fits, server_uri_fits}
-use Rattle.ua_server.specs.Endpoint.{Fits}
+use Rattle.ua_server.specs.Endpoint.{IsEndpointEncodable}
 use Rattle.ua_server.specs.Happening.{Leads}
 use Rattle.ua_server.specs.declared.serve_fault.ServeFault.{ServeFault}
 use Rattle.ua_server.specs.declared.step.End.{End}
@@ -19,8 +19,8 @@ use Rattle.ua_program.specs.declared.serve.Halt.{Halt}
 use Rattle.ua_program.specs.declared.serve.Halt.TheVariants.{Memory, Output}
 use Rattle.ua_program.specs.declared.serve.RequestLines.{RequestLines}
 use Rattle.ua_program.specs.Served.{Connection, HasServed, HasServedSome, HasTold, IsConnection, IsConnectionLine, Prints}
-use Rattle.ua_program.specs.Served.{PrintsNext, PrintsRequest, SaysOutcome, ServesOne, connection_line, connection_lines}
-use Rattle.ua_program.specs.Served.{connection_text, endpoint_on, listening_line, no_memory, request_line}
+use Rattle.ua_program.specs.Served.{PrintsUnlessHalted, PrintsRequest, SaysOutcome, ServesOne, connection_line, connection_lines}
+use Rattle.ua_program.specs.Served.{connection_text, endpoint_on, listening_line, no_memory_text, request_line}
 
 -- one more of which it holds
 all_then : {X : Type 0} (P : X → Type 0) (xs : List X) (x : X) → AllByRecursion P xs → P x → AllByRecursion P (xs ++ x ∷ [])
@@ -92,7 +92,7 @@ some_served requests goes_on port number more connections old mid new all fewer 
 }
 
 -- what the program says of itself can be written
-pub own_fits : (port : ℕ) → port < 2 ^ 16 → Fits (endpoint_on port)
+pub own_fits : (port : ℕ) → port < 2 ^ 16 → IsEndpointEncodable (endpoint_on port)
 own_fits port small = record { url = local_url_fits port small; application_uri = server_uri_fits; name = name_fits }
 
 -- the line of a connection that was served, and added to a writer behind the lines of its requests
@@ -107,10 +107,10 @@ one_said requests goes_on number line shown old mid new told is same added = rec
 
 -- the line of a connection at which memory was refused, behind the lines of its requests
 pub memory_said : (requests goes_on : Bool) (number : ℕ) (old mid new : Option (List ℕ)) → HasTold requests number old mid → goes_on ≡ true
-    → Appends mid new (connection_line number no_memory)
+    → Appends mid new (connection_line number no_memory_text)
     → ServesOne requests goes_on number old new
 memory_said requests goes_on number old mid new told on added = record {
-  connection = record { told = told.told; outcome = no_memory };
+  connection = record { told = told.told; outcome = no_memory_text };
   is = record { is = inr (on, refl); wanted = told.wanted };
   added = Appends-trans old mid new _ _ told.added added;
 }
@@ -176,7 +176,7 @@ module _ {O : Type 0} (contents : O → Option (List ℕ)) where
   halted h p q [] is led = (ap (λ (x : RequestLines O). x.halt) (sym led) ∙ is, ap (λ (x : RequestLines O). contents x.out.now) (sym led))
   halted h p q (r ∷ rs) is led =
       let mid = led.0 in
-      let kept = subst (λ x. PrintsNext x mid.halt (request_line p.number r) (contents p.out.now) (contents mid.out.now)) is led.1.printed in
+      let kept = subst (λ x. PrintsUnlessHalted x mid.halt (request_line p.number r) (contents p.out.now) (contents mid.out.now)) is led.1.printed in
       let rest = halted h mid q rs kept.0 led.2 in
       (rest.0, rest.1 ∙ kept.1)
 
@@ -201,7 +201,7 @@ module _ {O : Type 0} (contents : O → Option (List ℕ)) where
       subst (λ h. ComesTo h p.number (contents p.out.now) (contents q.out.now)) (sym halts) (none_told true p.number _ _ same)
   comes p q (r ∷ rs) is led =
       let mid = led.0 in
-      let printed = subst (λ x. PrintsNext x mid.halt (request_line p.number r) (contents p.out.now) (contents mid.out.now)) is led.1.printed in
+      let printed = subst (λ x. PrintsUnlessHalted x mid.halt (request_line p.number r) (contents p.out.now) (contents mid.out.now)) is led.1.printed in
       comes_behind mid.halt r p mid q rs refl led.1.same_number printed led.2 (λ none. comes mid q rs none led.2)
 
   -- the lines that were printed, where w is what the lent writer ends as

@@ -4,9 +4,9 @@ use Rattle.ua_node_files.specs.Namespaces.{AreNamed, namespace_lines}
 use Rattle.ua_node_files.specs.Standard.{lacks, standard_text}
 use Rattle.ua_nodes.specs.NodeFile.{WriteNodes, node_lines}
 use Rattle.ua_nodes.specs.Table.{Nodes}
-use Rattle.ua_program.specs.Refused.{RefusesLine, RefusesNamespace, RefusesNodes, RefusesStandard}
+use Rattle.ua_program.specs.Refused.{RefusesNodeFileLine, RefusesNamespace, RefusesNodes, RefusesStandard}
 use Rattle.ua_program.specs.Served.{BeginsWith}
-use Rattle.ua_program.specs.Standard.{BeginsStandard, IsWhole}
+use Rattle.ua_program.specs.Standard.{BeginsStandard, IsWithStandardNodes}
 use Rattle.ua_program.specs.declared.fault.Fault.{Fault}
 use Rattle.ua_program.specs.declared.fault.Fault.TheVariants.{NoMemory}
 use Rattle.ua_server.specs.State.{State}
@@ -19,7 +19,7 @@ at_fault P (Err e) fault h p = subst P (sym h) p
 -- the whole text of a file whose lines write nodes and name namespaces
 pub whole_so : (text whole : List ℕ) (nodes : Nodes) (uris passed : List (List ℕ)) (keeps_time : Bool) → WriteNodes (node_lines text) nodes
     → AreNamed (namespace_lines text) uris
-    → whole ≡ standard_text nodes passed text → passed ≡ uris → keeps_time ≡ lacks nodes 2258 → IsWhole text keeps_time whole
+    → whole ≡ standard_text nodes passed text → passed ≡ uris → keeps_time ≡ lacks nodes 2258 → IsWithStandardNodes text keeps_time whole
 whole_so text whole nodes uris passed keeps_time written named is same keeps = record {
   nodes = nodes;
   written = written;
@@ -39,14 +39,14 @@ of_nodes text fault (inl memory) = inl memory
 of_nodes text fault (inr bad) = inr (inr (inl bad))
 
 -- and for what stands behind them
-pub of_whole : (text whole passed : List ℕ) (keeps_time : Bool) (fault : Fault) → IsWhole text keeps_time whole → passed ≡ whole → RefusesNodes passed fault
+pub of_whole : (text whole passed : List ℕ) (keeps_time : Bool) (fault : Fault) → IsWithStandardNodes text keeps_time whole → passed ≡ whole → RefusesNodes passed fault
     → RefusesStandard text fault
 of_whole text whole passed keeps_time fault is same (inl memory) = inl memory
 of_whole text whole passed keeps_time fault is same (inr bad) =
-    inr (inr (inr (record { keeps_time = keeps_time; whole = whole; is = is; refused = subst (λ t. RefusesLine t fault) same bad })))
+    inr (inr (inr (record { keeps_time = keeps_time; whole = whole; is = is; refused = subst (λ t. RefusesNodeFileLine t fault) same bad })))
 
 -- services over the whole text begin with what the file has
-pub begins_so : (text whole passed : List ℕ) (port : ℕ) (keeps_time : Bool) (services : State) → IsWhole text keeps_time whole → passed ≡ whole
+pub begins_so : (text whole passed : List ℕ) (port : ℕ) (keeps_time : Bool) (services : State) → IsWithStandardNodes text keeps_time whole → passed ≡ whole
     → BeginsWith passed port services
     → BeginsStandard text port keeps_time services
 begins_so text whole passed port keeps_time services is same begins =

@@ -7,7 +7,7 @@ use Rattle.ua_program.specs.declared.output.Stop.TheVariants as stop
 use Rattle.ua_session.specs.Printed.{IsOutput}
 use Rattle.ua_session.specs.declared.fault.QuestionFault.{QuestionFault}
 use Rattle.ua_session.specs.declared.fault.QuestionFault.TheVariants as ask
-use Rattle.ua_program.specs.Reasons.{StopsAsking, StopsAt, StopsAtNodes, StopsWriting}
+use Rattle.ua_program.specs.Reasons.{StopsAsking, StopsForFault, StopsAtNodes, StopsWriting}
 use Rattle.ua_program.specs.Refused.{RefusesNodes}
 
 -- what is told of a refused node file refuses it, too
@@ -16,7 +16,7 @@ told_of text fault told refused (inl same) = subst (λ f. RefusesNodes text f) (
 told_of text fault told refused (inr memory) = inl memory
 
 -- a command that stops at what refuses a node file is stopped by that file
-pub stops_at_nodes : (text : List ℕ) (fault : Fault) (why : Stop) → RefusesNodes text fault → StopsAt fault why → StopsAtNodes text why
+pub stops_at_nodes : (text : List ℕ) (fault : Fault) (why : Stop) → RefusesNodes text fault → StopsForFault fault why → StopsAtNodes text why
 stops_at_nodes text fault (stop.Fault told) refused at = told_of text fault told refused at
 stops_at_nodes text fault (stop.Because told reason) refused at = told_of text fault told refused at
 stops_at_nodes text fault (stop.Output error) refused at = at

@@ -16,7 +16,7 @@ use Rattle.ua_server.specs.declared.serve_fault.ServeFault.TheVariants as serve_
 use Rattle.ua_server.specs.State.{State, with_nodes}
 use Rattle.ua_server.specs.declared.step.End.{End}
 use Rattle.ua_structures.specs.declared.attribute.WriteValue.{WriteValue}
-use Rattle.ua_program.specs.Served.{HasServed, HasServedSome, IsSaid, connection_line, listening_line, no_memory, outcome_text}
+use Rattle.ua_program.specs.Served.{HasServed, HasServedSome, IsSaid, connection_line, listening_line, no_memory_text, outcome_text}
 use Rattle.ua_program.specs.Live.{LooksAt}
 use Rattle.ua_program.specs.Stored.{AreStoredLines, lost_line}
 use Rattle.ua_program.specs.declared.arguments.Serve.{Serve}
@@ -61,7 +61,7 @@ count_ended (Wrote items lines ∷ said) = count_ended said
 
 -- the lines of this many connections that ended are added, in the order in which they ended, and
 -- between them, if they are wanted, those of items that were stored
-pub record HasEnded (writes : Option Bool) (goes_on : Bool) (count : ℕ) (old new : Option (List ℕ)) : Type 0 where
+pub record HasPrintedEnded (writes : Option Bool) (goes_on : Bool) (count : ℕ) (old new : Option (List ℕ)) : Type 0 where
   pub said : List Said
   pub each : AllByRecursion (IsPrinted writes goes_on) said
   pub count_is : count_ended said ≡ count
@@ -72,7 +72,7 @@ pub record HasEnded (writes : Option Bool) (goes_on : Bool) (count : ℕ) (old n
 pub record HasServedAtOnce (writes : Option Bool) (goes_on : Bool) (port connections : ℕ) (old new : Option (List ℕ)) : Type 0 where
   pub between : Option (List ℕ)
   pub listening : Appends old between (listening_line port)
-  pub ended : HasEnded writes goes_on connections between new
+  pub ended : HasPrintedEnded writes goes_on connections between new
 
 -- the same of at most this many connections
 pub record HasServedSomeAtOnce (writes : Option Bool) (goes_on : Bool) (port connections : ℕ) (old new : Option (List ℕ)) : Type 0 where
@@ -89,7 +89,7 @@ outcome_of (Err failure.OutOfMemory) = Err serve_fault.OutOfMemory
 
 -- the text says this outcome, or that an allocation failed, where the server goes on
 abbrev pub SaysOutcomeOf : Bool → Result End ServeFault → List ℕ → Type 0
-SaysOutcomeOf goes_on outcome text = (outcome_text outcome ≡ Some text) ⊎ ((goes_on ≡ true) × (text ≡ no_memory))
+SaysOutcomeOf goes_on outcome text = (outcome_text outcome ≡ Some text) ⊎ ((goes_on ≡ true) × (text ≡ no_memory_text))
 
 -- the result of printing the line of a connection: it is added, or nothing is where an allocation
 -- failed and the server does not go on
@@ -152,14 +152,14 @@ pub record SetsNodes {R O E : Type 0} (old : Host R O E) (before after : State) 
   pub set : after ≡ timed old.keeps_time moment between
 
 -- what the program does beside connections
-abbrev pub Does : {R O E : Type 0} → Host R O E → Act → Host R O E → Type 0
-Does old (Acted before after moment) new = SetsNodes old before after moment new
-Does old (Told number items) new = new.live ≡ old.live
+abbrev pub DoesBeside : {R O E : Type 0} → Host R O E → Act → Host R O E → Type 0
+DoesBeside old (Acted before after moment) new = SetsNodes old before after moment new
+DoesBeside old (Told number items) new = new.live ≡ old.live
 
 -- it does this, and its lines go on
 pub record ActsBeside {R O E : Type 0} (contents : O → Option (List ℕ)) (old : Host R O E) (act : Act) (new : Host R O E) : Type 0 where
   pub prints : PrintsNews contents old (Acts act) new
-  pub does : Does old act new
+  pub does : DoesBeside old act new
 
 -- why the command stops: its output cannot be written, where that is why no further connection is
 -- served
@@ -168,12 +168,12 @@ StopsAtHalt (Some (halt.Output error)) why = StopsWriting why
 StopsAtHalt other why = ⊤
 
 -- the connections that the words ask for were served, one after the other or many at a time
-abbrev pub ServesBy : Option ℕ → Serve → Option (List ℕ) → Option (List ℕ) → Type 0
-ServesBy None asked old new = HasServed asked.requests asked.goes_on asked.port asked.connections old new
-ServesBy (Some places) asked old new = HasServedAtOnce (writes_of asked) asked.goes_on asked.port asked.connections old new
+abbrev pub ServesAsAsked : Option ℕ → Serve → Option (List ℕ) → Option (List ℕ) → Type 0
+ServesAsAsked None asked old new = HasServed asked.requests asked.goes_on asked.port asked.connections old new
+ServesAsAsked (Some places) asked old new = HasServedAtOnce (writes_of asked) asked.goes_on asked.port asked.connections old new
 
 abbrev pub ServesAsked : Serve → Option (List ℕ) → Option (List ℕ) → Type 0
-ServesAsked asked old new = ServesBy asked.at_once asked old new
+ServesAsked asked old new = ServesAsAsked asked.at_once asked old new
 
 -- the same of some of them
 abbrev pub ServesSomeBy : Option ℕ → Serve → Option (List ℕ) → Option (List ℕ) → Type 0

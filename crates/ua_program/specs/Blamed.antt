@@ -9,8 +9,8 @@ plain_form kind =
     cond (nat_eq kind 13) (codes "a time as 2026-11-27T08:00:00Z, or ") []))
 
 -- what a type takes, by its number (OPC 10000-6, 5.1.2)
-abbrev pub form_of : ℕ → List ℕ
-form_of kind =
+abbrev pub form_text_of : ℕ → List ℕ
+form_text_of kind =
     cond (nat_eq kind 1) (codes "true or false") (
     cond (nat_eq kind 2) (codes "-128 to 127") (
     cond (nat_eq kind 3) (codes "0 to 255") (
@@ -32,5 +32,5 @@ form_of kind =
 abbrev pub value_told : Bool → List ℕ → List ℕ → Option (ℕ × Bool) → List ℕ
 value_told plain kind value None = kind ++ codes " (no such type)"
 value_told plain kind value (Some named) =
-    value ++ codes " (" ++ kind ++ codes " takes " ++ cond plain (plain_form named.0) [] ++ form_of named.0 ++ cond named.1 (codes ", with commas between)")
+    value ++ codes " (" ++ kind ++ codes " takes " ++ cond plain (plain_form named.0) [] ++ form_text_of named.0 ++ cond named.1 (codes ", with commas between)")
     (codes ")")

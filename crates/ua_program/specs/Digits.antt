@@ -34,8 +34,8 @@ abbrev pub digits_before : List ℕ → ℕ
 digits_before text = position_or_len is_no_digit text
 
 -- how far a fragment is hexadecimal, after so many bytes, and whether it has such a byte
-abbrev pub GoesOn : ℕ → List ℕ → DigitPlace → Type 0
-GoesOn before piece new = (new.found ≡ nat_lt (digits_before piece) (length piece)) × (new.count ≡ min (before + digits_before piece) (2 ^ 64 - 1))
+abbrev pub GoesOnHexadecimal : ℕ → List ℕ → DigitPlace → Type 0
+GoesOnHexadecimal before piece new = (new.found ≡ nat_lt (digits_before piece) (length piece)) × (new.count ≡ min (before + digits_before piece) (2 ^ 64 - 1))
 
 -- how far a text is hexadecimal, up to 2^64 - 1 bytes, and whether it has such a byte
 abbrev pub IsPlaceIn : List ℕ → DigitPlace → Type 0

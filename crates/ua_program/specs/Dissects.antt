@@ -23,8 +23,8 @@ pub record AreLinesOf (hex : Bool) (options : DissectOptions) (content text : Li
   pub lines : AreLines options octets text
 
 -- the verdict on bytes that end in this way: whether a frame among them is rejected
-abbrev pub verdict_at : End ℕ → Verdict
-verdict_at end = cond (is_stopped end) SomeBad AllGood
+abbrev pub verdict_at_end : End ℕ → Verdict
+verdict_at_end end = cond (is_stopped end) SomeBad AllGood
 
 -- the verdict tells whether a frame is rejected among the bytes that a file with this content
 -- contains
@@ -33,12 +33,12 @@ pub record IsJudged (verdict : Verdict) (hex : Bool) (options : DissectOptions) 
   pub holds : HoldsOctets hex content octets
   pub told : List ℕ
   pub are : AreTold options octets told
-  pub is : verdict ≡ verdict_at are.end
+  pub is : verdict ≡ verdict_at_end are.end
 
 -- nothing is left of a source, or whatever follows has no lines: a file whose content begins with
 -- this has these lines
-abbrev pub IsWhole : Bool → DissectOptions → Option (List ℕ) → List ℕ → List ℕ → Type 0
-IsWhole hex options after content text = IsAtEnd after ⊎ ((more : List ℕ) → AreLinesOf hex options (content ++ more) text)
+abbrev pub IsWholeFile : Bool → DissectOptions → Option (List ℕ) → List ℕ → List ℕ → Type 0
+IsWholeFile hex options after content text = IsAtEnd after ⊎ ((more : List ℕ) → AreLinesOf hex options (content ++ more) text)
 
 -- content was read from the start of a source, and a writer that had the old bytes then has after
 -- them the lines of the frames of what it contains so far, except the last line
@@ -61,7 +61,7 @@ pub record DissectsAll (verdict : Verdict) (hex : Bool) (options : DissectOption
   pub consumed : Consumes before after content
   pub text : List ℕ
   pub lines : AreLinesOf hex options content text
-  pub whole : IsWhole hex options after content text
+  pub whole : IsWholeFile hex options after content text
   pub judged : IsJudged verdict hex options content
   pub added : Appends old new text
 
@@ -99,9 +99,9 @@ pub record EndsFile (hex : Bool) (options : DissectOptions) (content told old ne
 -- ---- one read
 
 -- this many bytes were read into a fragment, none only at the end; or the read was interrupted
-abbrev pub Reads : Option ℕ → Option (List ℕ) → Option (List ℕ) → List ℕ → Type 0
-Reads None before after piece = Consumes before after []
-Reads (Some n) before after piece = (n ≤ length piece) × Consumes before after (take n piece) × (n ≡ 0 → 0 < length piece → IsAtEnd after)
+abbrev pub ReadsIntoFragment : Option ℕ → Option (List ℕ) → Option (List ℕ) → List ℕ → Type 0
+ReadsIntoFragment None before after piece = Consumes before after []
+ReadsIntoFragment (Some n) before after piece = (n ≤ length piece) × Consumes before after (take n piece) × (n ≡ 0 → 0 < length piece → IsAtEnd after)
 
 -- one more fragment was read, and the lines of what is complete with it were printed
 pub record PrintsPiece (hex : Bool) (options : DissectOptions) (half : Option ℕ) (d : Dissector) (content told : List ℕ)
@@ -121,7 +121,7 @@ pub record PrintsLast (verdict : Verdict) (hex : Bool) (options : DissectOptions
   pub line : List ℕ
   pub added : Appends old new line
   pub lines : AreLinesOf hex options (content ++ piece) (told ++ line)
-  pub whole : IsWhole hex options after (content ++ piece) (told ++ line)
+  pub whole : IsWholeFile hex options after (content ++ piece) (told ++ line)
   pub judged : IsJudged verdict hex options (content ++ piece)
 
 -- what one more read prints, as the last one or not

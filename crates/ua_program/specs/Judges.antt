@@ -32,19 +32,19 @@ IsPlaceOf octets (Refuses end code) place = StartsAt octets end place
 IsPlaceOf octets (Stops end fault) place = place ≡ end
 
 -- its StatusCode, if it has one
-abbrev pub code_of : Verdict → Option StatusCode
-code_of (Breaks end code) = Some code
-code_of (Refuses end code) = Some code
-code_of other = None
+abbrev pub code_of_verdict : Verdict → Option StatusCode
+code_of_verdict (Breaks end code) = Some code
+code_of_verdict (Refuses end code) = Some code
+code_of_verdict other = None
 
 -- a StatusCode after a colon, if there is one
-abbrev pub code_text : Bool → Option StatusCode → List ℕ
-code_text names None = codes ""
-code_text names (Some code) = codes ": " ++ named_code names code.code
+abbrev pub colon_code_text : Bool → Option StatusCode → List ℕ
+colon_code_text names None = codes ""
+colon_code_text names (Some code) = codes ": " ++ named_code names code.code
 
 -- the line of a verdict on a side
 abbrev pub verdict_line : List ℕ → Bool → ℕ → Verdict → List ℕ
-verdict_line side names place verdict = side ++ verdict_words verdict ++ decimal place ++ code_text names (code_of verdict) ++ codes "\n"
+verdict_line side names place verdict = side ++ verdict_words verdict ++ decimal place ++ colon_code_text names (code_of_verdict verdict) ++ codes "\n"
 
 -- the lines of the verdicts on both sides were added
 pub record AreVerdicts (names : Bool) (up down : List ℕ) (marks : List Mark) (old new : List ℕ) : Type 0 where

@@ -18,12 +18,12 @@ use Rattle.ua_program.specs.declared.reason.Reason.{Reason}
 use Rattle.ua_program.specs.declared.reason.Reason.TheVariants.{HalfPair, NoDigit, System, Text}
 
 -- the status code in a fault: that of a service, or by which one end refused the other
-abbrev pub code_in : Fault → Option StatusCode
-code_in (Asking (ask.Service code)) = Some code
-code_in (Asking (ask.Connection (client.Peer code))) = Some code
-code_in (Asking (ask.Connection (client.Refused code))) = Some code
-code_in (Looping (loop.Service code)) = Some code
-code_in other = None
+abbrev pub code_in_fault : Fault → Option StatusCode
+code_in_fault (Asking (ask.Service code)) = Some code
+code_in_fault (Asking (ask.Connection (client.Peer code))) = Some code
+code_in_fault (Asking (ask.Connection (client.Refused code))) = Some code
+code_in_fault (Looping (loop.Service code)) = Some code
+code_in_fault other = None
 
 -- a name, or that there is none
 abbrev pub named_or_not : Option (List ℕ) → List ℕ
@@ -68,5 +68,5 @@ known_text None (Some reason) = reason_line reason
 known_text None None = Some []
 
 -- a frame is an ERR frame, and reads as this Error (OPC 10000-6, 7.1.2.5)
-abbrev pub IsRefusal : Frame → ErrorFrame → Type 0
-IsRefusal frame e = (frame.kind ≡ kind.Err) × (whole_of error frame.body ≡ Some e)
+abbrev pub IsErrorFrame : Frame → ErrorFrame → Type 0
+IsErrorFrame frame e = (frame.kind ≡ kind.Err) × (whole_of error frame.body ≡ Some e)

@@ -92,5 +92,5 @@ Requests line (task.Ask question) = RequestsStep line (task.Ask question)
 
 -- why a line is refused: as a script it has a bad line, or it is a pause whose time is bad; or an
 -- allocation failed
-abbrev pub RefusesLine : List ℕ → LoopFault → Type 0
-RefusesLine line fault = Unread line fault ⊎ ((fault ≡ loop_fault.ScriptLine 1) × HasWords IsBadSleep line) ⊎ (fault ≡ loop_fault.NoMemory)
+abbrev pub RefusesTaskLine : List ℕ → LoopFault → Type 0
+RefusesTaskLine line fault = Unread line fault ⊎ ((fault ≡ loop_fault.ScriptLine 1) × HasWords IsBadSleep line) ⊎ (fault ≡ loop_fault.NoMemory)

@@ -8,7 +8,7 @@ use Rattle.ua_program.specs.declared.live.LiveFile.{LiveFile}
 
 -- the first of the nodes that changed were taken at a time, and an allocation failed for the next
 -- one
-pub record TakesSome (moment : DateTime) (changed : List Node) (old new : State) : Type 0 where
+pub record TakesSomeNodes (moment : DateTime) (changed : List Node) (old new : State) : Type 0 where
   pub first : List Node
   pub rest : List Node
   pub parts : changed ≡ first ++ rest
@@ -22,7 +22,7 @@ pub record TakesReading (last after : List ℕ) (old new : State) : Type 0 where
   pub changed : List Node
   pub are : Changes last text (map entry_of changed)
   pub moment : DateTime
-  pub taken : ((after ≡ text) × (new ≡ with_nodes old (with_all_changed moment changed old.nodes))) ⊎ ((after ≡ last) × TakesSome moment changed old new)
+  pub taken : ((after ≡ text) × (new ≡ with_nodes old (with_all_changed moment changed old.nodes))) ⊎ ((after ≡ last) × TakesSomeNodes moment changed old new)
 
 -- a look at a file: nothing has changed, or a reading was taken
 abbrev pub FollowsFile : {F : Type 0} → LiveFile F → State → LiveFile F → State → Type 0

@@ -4,7 +4,7 @@ use Rattle.std.specs.Io.KnownBytes.{Appends}
 use Rattle.ua_exchange.specs.Accepted.{AreAccepted}
 use Rattle.ua_exchange.specs.Exchanged.{down_octets}
 use Rattle.ua_exchange.specs.Turns.{up_octets}
-use Rattle.ua_session.specs.ScriptFaults.{Stops, Unread}
+use Rattle.ua_session.specs.ScriptFaults.{StopsScriptLines, Unread}
 use Rattle.ua_session.specs.ScriptPrinted.{IsTextOf, told_fault, script_told}
 use Rattle.ua_session.specs.Script.{script_moment, script_turns}
 use Rattle.ua_session.specs.declared.looping.fault.LoopFault.{LoopFault}
@@ -33,7 +33,7 @@ pub record RunsScript (people names : Bool) (nodes : Nodes) (text : List ℕ) (l
 pub record StopsScript (text : List ℕ) (fault : LoopFault) : Type 0 where
   pub lines : List ScriptLine
   pub asked : AsksFor text lines
-  pub stops : Stops lines fault
+  pub stops : StopsScriptLines lines fault
 
 -- why a script is not run: its first line that requests nothing, or the first that a client does
 -- not accept; or an allocation failed

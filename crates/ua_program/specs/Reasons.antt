@@ -41,22 +41,22 @@ abbrev pub EndsServing : Stop → Type 0
 EndsServing why = StopsWriting why ⊎ NeverAccepts why
 
 -- a command stopped at this fault, or since an allocation failed
-abbrev pub StopsAt : Fault → Stop → Type 0
-StopsAt fault why = StopsBy (λ told. (told ≡ fault) ⊎ (told ≡ NoMemory)) why
+abbrev pub StopsForFault : Fault → Stop → Type 0
+StopsForFault fault why = StopsBy (λ told. (told ≡ fault) ⊎ (told ≡ NoMemory)) why
 
 -- a command stopped at a fault of a conversation: the writer failed in it, or the fault is told,
 -- with what more is known of it or without
 abbrev pub StopsAsking : QuestionFault → Stop → Type 0
 StopsAsking (Output error) why = why ≡ stop.Output error
-StopsAsking other why = StopsAt (Asking other) why
+StopsAsking other why = StopsForFault (Asking other) why
 
 -- why a file is not read: it cannot be, or an allocation failed
 abbrev pub StopsAtFile : Bor (List ℕ) → Stop → Type 0
-StopsAtFile file why = StopsAt (CannotRead file) why
+StopsAtFile file why = StopsForFault (CannotRead file) why
 
 -- why a record of this name is not written: one of its two files cannot be, or an allocation failed
 abbrev pub StopsRecording : Bor (List ℕ) → Stop → Type 0
-StopsRecording name why = StopsAt (CannotWriteUp name) why ⊎ StopsAt (CannotWriteDown name) why
+StopsRecording name why = StopsForFault (CannotWriteUp name) why ⊎ StopsForFault (CannotWriteDown name) why
 
 -- why the nodes of a text are not served: its first bad line, or an allocation failed
 abbrev pub StopsAtNodes : List ℕ → Stop → Type 0

@@ -4,12 +4,12 @@ use Rattle.ua_node_files.specs.Namespaces.{IsFirstUnnamed, namespace_lines}
 use Rattle.ua_nodes.specs.NodeFile.{IsFirstBad, node_lines}
 use Rattle.ua_nodes.specs.declared.fault.LineReason.{LineReason}
 use Rattle.ua_nodes.specs.declared.fault.LineReason.TheVariants.{Fields}
-use Rattle.ua_program.specs.Standard.{IsWhole}
+use Rattle.ua_program.specs.Standard.{IsWithStandardNodes}
 use Rattle.ua_program.specs.declared.fault.Fault.{Fault}
 use Rattle.ua_program.specs.declared.fault.Fault.TheVariants.{Line, NoMemory}
 
 -- a bad line of a node file: it is the first one, and the reason is the first against it
-pub record RefusesLine (text : List ℕ) (fault : Fault) : Type 0 where
+pub record RefusesNodeFileLine (text : List ℕ) (fault : Fault) : Type 0 where
   pub number : ℕ
   pub reason : LineReason
   pub fault_is : fault ≡ Line number reason
@@ -17,7 +17,7 @@ pub record RefusesLine (text : List ℕ) (fault : Fault) : Type 0 where
 
 -- the fault is that of the first bad line of a node file, unless an allocation failed
 abbrev pub RefusesNodes : List ℕ → Fault → Type 0
-RefusesNodes text fault = (fault ≡ NoMemory) ⊎ RefusesLine text fault
+RefusesNodes text fault = (fault ≡ NoMemory) ⊎ RefusesNodeFileLine text fault
 
 -- ---- with the standard's nodes
 
@@ -32,10 +32,10 @@ pub record RefusesNamespace (text : List ℕ) (fault : Fault) : Type 0 where
 pub record RefusesWhole (text : List ℕ) (fault : Fault) : Type 0 where
   pub keeps_time : Bool
   pub whole : List ℕ
-  pub is : IsWhole text keeps_time whole
-  pub refused : RefusesLine whole fault
+  pub is : IsWithStandardNodes text keeps_time whole
+  pub refused : RefusesNodeFileLine whole fault
 
 -- a bad line of a node file that names namespaces, or of the nodes after it, unless an allocation
 -- failed
 abbrev pub RefusesStandard : List ℕ → Fault → Type 0
-RefusesStandard text fault = (fault ≡ NoMemory) ⊎ RefusesNamespace text fault ⊎ RefusesLine text fault ⊎ RefusesWhole text fault
+RefusesStandard text fault = (fault ≡ NoMemory) ⊎ RefusesNamespace text fault ⊎ RefusesNodeFileLine text fault ⊎ RefusesWhole text fault

@@ -95,22 +95,22 @@ pub record SaysOutcome (number : ℕ) (outcome : Result End ServeFault) (line : 
   pub line_is : line ≡ connection_line number text
 
 -- the text tells the outcome of a connection
-pub record IsOutcome (text : List ℕ) : Type 0 where
+pub record IsOutcomeText (text : List ℕ) : Type 0 where
   pub outcome : Result End ServeFault
   pub text_is : outcome_text outcome ≡ Some text
 
 -- the text for a connection at which an allocation failed, if the next one is served
-abbrev pub no_memory : List ℕ
-no_memory = codes "NoMemory"
+abbrev pub no_memory_text : List ℕ
+no_memory_text = codes "NoMemory"
 
 -- the text for a connection: its outcome, or that an allocation failed at it, if the server goes on
 abbrev pub IsSaid : Bool → List ℕ → Type 0
-IsSaid goes_on text = IsOutcome text ⊎ ((goes_on ≡ true) × (text ≡ no_memory))
+IsSaid goes_on text = IsOutcomeText text ⊎ ((goes_on ≡ true) × (text ≡ no_memory_text))
 
 -- the line of a connection, whatever its outcome
 pub record IsConnectionLine (number : ℕ) (line : List ℕ) : Type 0 where
   pub text : List ℕ
-  pub is : IsOutcome text
+  pub is : IsOutcomeText text
   pub line_is : line ≡ connection_line number text
 
 -- ---- lines of requests
@@ -144,15 +144,15 @@ Prints (Some Memory) line old new = new ≡ old
 Prints (Some (Output error)) line old new = ⊤
 
 -- the same, unless a line before it could not be printed: then no line more is
-abbrev pub PrintsNext : Option Halt → Option Halt → List ℕ → Option (List ℕ) → Option (List ℕ) → Type 0
-PrintsNext None after line old new = Prints after line old new
-PrintsNext (Some halt) after line old new = (after ≡ Some halt) × (new ≡ old)
+abbrev pub PrintsUnlessHalted : Option Halt → Option Halt → List ℕ → Option (List ℕ) → Option (List ℕ) → Type 0
+PrintsUnlessHalted None after line old new = Prints after line old new
+PrintsUnlessHalted (Some halt) after line old new = (after ≡ Some halt) × (new ≡ old)
 
 -- the lines of requests went on by this one, over the same writer
 pub record PrintsRequest {O : Type 0} (contents : O → Option (List ℕ)) (old : RequestLines O) (request : AnsweredRequest) (new : RequestLines O) : Type 0 where
   pub same_writer : new.out.ghost_name ≡ old.out.ghost_name
   pub same_number : new.number ≡ old.number
-  pub printed : PrintsNext old.halt new.halt (request_line old.number request) (contents old.out.now) (contents new.out.now)
+  pub printed : PrintsUnlessHalted old.halt new.halt (request_line old.number request) (contents old.out.now) (contents new.out.now)
 
 -- the lines of some requests of a connection are appended; of none if they are not wanted
 pub record HasTold (requests : Bool) (number : ℕ) (old new : Option (List ℕ)) : Type 0 where

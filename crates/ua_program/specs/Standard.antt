@@ -12,7 +12,7 @@ use Rattle.ua_program.specs.declared.time_keeper.TimeKeeper.{TimeKeeper}
 
 -- the lines of a text define nodes and name namespaces, and this is the text with the standard's
 -- nodes that they lack; the server keeps its time if CurrentTime is one of these
-pub record IsWhole (text : List ℕ) (keeps_time : Bool) (whole : List ℕ) : Type 0 where
+pub record IsWithStandardNodes (text : List ℕ) (keeps_time : Bool) (whole : List ℕ) : Type 0 where
   pub nodes : Nodes
   pub written : WriteNodes (node_lines text) nodes
   pub uris : List (List ℕ)
@@ -24,7 +24,7 @@ pub record IsWhole (text : List ℕ) (keeps_time : Bool) (whole : List ℕ) : Ty
 -- standard that they lack
 pub record BeginsStandard (text : List ℕ) (port : ℕ) (keeps_time : Bool) (services : State) : Type 0 where
   pub whole : List ℕ
-  pub is : IsWhole text keeps_time whole
+  pub is : IsWithStandardNodes text keeps_time whole
   pub begins : BeginsWith whole port services
 
 -- CurrentTime was set to a time, which is its source timestamp too, and nothing else has changed

@@ -2,9 +2,9 @@
 
 ghost use Rattle.std.specs.Prelude.{◌≡◌, true, [], cond, codes, string_bytes, IfOk, IfSome};
 ghost use Rattle.ua_nodes.specs.TypeName.{type_denoted};
-ghost use Rattle.ua_session.specs.Words.{NamesNone};
-ghost use Rattle.ua_program.specs.Blamed.{form_of, plain_form, value_told};
-ghost use Rattle.ua_program.specs.Reasons.{StopsAt};
+ghost use Rattle.ua_session.specs.Words.{NamesNoNode};
+ghost use Rattle.ua_program.specs.Blamed.{form_text_of, plain_form, value_told};
+ghost use Rattle.ua_program.specs.Reasons.{StopsForFault};
 ghost use Rattle.ua_program.specs.declared.fault.Fault.TheVariants.{Words};
 
 use crate::arguments::{ReadNodes, WriteNode};
@@ -17,14 +17,14 @@ use ua_session::WordFault;
 
 /// Whether a word names no NodeId.
 fn is_no_node(alloc: Global, word: &str) -> Result<bool, AllocError>
-    ensures { IfOk result (λ none. none ≡ true → NamesNone word.now) }
+    ensures { IfOk result (λ none. none ≡ true → NamesNoNode word.now) }
 {
     Ok(!names_node(alloc, word)?)
 }
 
 /// The first of these words that names no NodeId.
 fn bad_node<'a>(alloc: Global, words: &[&'a str]) -> Result<Option<&'a str>, AllocError>
-    ensures { IfOk result (λ found. IfSome found (λ word. NamesNone word.now)) }
+    ensures { IfOk result (λ found. IfSome found (λ word. NamesNoNode word.now)) }
 {
     for word in words {
         if is_no_node(alloc, word)? {
@@ -36,7 +36,7 @@ fn bad_node<'a>(alloc: Global, words: &[&'a str]) -> Result<Option<&'a str>, All
 
 /// A fault of the words of `ua read`, with the one that is to blame.
 pub fn blame_read<'a>(alloc: Global, asked: &ReadNodes<'a>, fault: WordFault) -> Stop<'a>
-    ensures { StopsAt (Words fault) result }
+    ensures { StopsForFault (Words fault) result }
 {
     let told = Fault::Words(fault);
     match (fault, asked.range) {
@@ -53,7 +53,7 @@ pub fn blame_read<'a>(alloc: Global, asked: &ReadNodes<'a>, fault: WordFault) ->
 
 /// A fault of the words of `ua write`, with the one that is to blame.
 pub fn blame_write<'a>(alloc: Global, asked: &WriteNode<'a>, fault: WordFault) -> Stop<'a>
-    ensures { StopsAt (Words fault) result }
+    ensures { StopsForFault (Words fault) result }
 {
     let told = Fault::Words(fault);
     match fault {
@@ -110,7 +110,7 @@ fn plain_form(kind: u8) -> &'static str
 
 /// What a type takes, by its number (OPC 10000-6, 5.1.2).
 fn form_of(kind: u8) -> &'static str
-    ensures { result.now ≡ form_of kind }
+    ensures { result.now ≡ form_text_of kind }
 {
     match kind {
         1 => "true or false",

@@ -2,7 +2,7 @@
 
 ghost use Rattle.std.specs.Prelude.{◌≡◌, ◌++◌, [], ℕ, List, true, false};
 ghost use Rattle.std.specs.List.{position};
-ghost use Rattle.ua_program.specs.Digits.{digits_before, is_no_digit, GoesOn, IsPlaceIn};
+ghost use Rattle.ua_program.specs.Digits.{digits_before, is_no_digit, GoesOnHexadecimal, IsPlaceIn};
 ghost use Rattle.ua_program.specs.declared.reason.Reason.TheVariants.{HalfPair, NoDigit};
 
 use crate::reason::Reason;
@@ -66,7 +66,7 @@ impl DigitPlace {
     /// Goes on by a piece.
     fn advance(&mut self, piece: &[u8])
         ensures kept { self.old.found ≡ true → self.new ≡ self.old }
-        ensures next { self.old.found ≡ false → GoesOn self.old.count piece.now self.new }
+        ensures next { self.old.found ≡ false → GoesOnHexadecimal self.old.count piece.now self.new }
     {
         if !self.found {
             let before = digits_before(piece);

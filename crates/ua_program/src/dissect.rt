@@ -8,7 +8,7 @@ ghost use Rattle.ua_pair.specs.declared.options.DissectOptions.{DissectOptions};
 ghost use Rattle.ua_session.specs.declared.verdict.Verdict.TheVariants.{AllGood, SomeBad};
 ghost use Rattle.ua_program.specs.Digits.{HoldsNone, HoldsNever, HoldsOctets, HoldsSoFar};
 ghost use Rattle.ua_program.specs.Dissects.{DissectsAll, EndsFile, HasBegunDissecting, IsJudged, PrintsNext};
-ghost use Rattle.ua_program.specs.Dissects.{Reads, StopsLast, StopsNext, StopsReading, TellsPiece, ToldSoFar};
+ghost use Rattle.ua_program.specs.Dissects.{ReadsIntoFragment, StopsLast, StopsNext, StopsReading, TellsPiece, ToldSoFar};
 ghost use Rattle.ua_program.specs.declared.fault.Fault.TheVariants.{CannotRead, NoMemory, NotHexadecimal};
 ghost use Rattle.ua_program.specs.Reasons.{StopsWriting};
 ghost use Rattle.ua_program.specs.declared.output.Stop.TheVariants as stop;
@@ -86,7 +86,7 @@ fn read_piece<'a, I: Read>(
     source: &mut I,
     piece: &mut [u8],
 ) -> Result<Option<usize>, Fault<'a>>
-    ensures read { IfOk result (λ n. Reads n (I.remaining source.old) (I.remaining source.new) piece.new) }
+    ensures read { IfOk result (λ n. ReadsIntoFragment n (I.remaining source.old) (I.remaining source.new) piece.new) }
     ensures faults { IfErr result (λ fault. (fault ≡ NoMemory) ⊎ (fault ≡ CannotRead file.entry)) }
 {
     match source.read(piece) {

@@ -2,7 +2,7 @@
 
 ghost use Rattle.std.specs.Prelude.{◌≡◌, IfOk, IfErr, IfSome, string_bytes};
 ghost use Rattle.ua_nodes.specs.NodeFile.{WriteNodes, node_lines};
-ghost use Rattle.ua_nodes.specs.Sound.{IsSound};
+ghost use Rattle.ua_nodes.specs.Sound.{AreNodesSound};
 ghost use Rattle.ua_program.specs.Reasons.{StopsAtFile, StopsAtNodes};
 ghost use Rattle.ua_program.specs.Refused.{RefusesNodes};
 ghost use Rattle.ua_program.specs.Words.{form_given};
@@ -130,7 +130,7 @@ pub fn read_nodes<'a, R: Files + AllocGlobal, I: Read>(
 /// The nodes that the lines of a text write.
 pub fn parse_nodes<'a>(alloc: Global, text: &str) -> Result<NodeTable, Fault<'a>>
     ensures nodes { IfOk result (λ nodes. WriteNodes (node_lines text.now) nodes) }
-    ensures sound { IfOk result (λ nodes. IsSound nodes) }
+    ensures sound { IfOk result (λ nodes. AreNodesSound nodes) }
     ensures faults { IfErr result (λ fault. RefusesNodes text.now fault) }
 {
     match NodeTable::load(alloc, text) {
@@ -144,7 +144,7 @@ pub fn parse_nodes<'a>(alloc: Global, text: &str) -> Result<NodeTable, Fault<'a>
 #[tactic(auto, using(crate::proofs::Stops::stops_at_nodes))]
 pub fn load_nodes<'a>(alloc: Global, text: &str) -> Result<NodeTable, Stop<'a>>
     ensures nodes { IfOk result (λ nodes. WriteNodes (node_lines text.now) nodes) }
-    ensures sound { IfOk result (λ nodes. IsSound nodes) }
+    ensures sound { IfOk result (λ nodes. AreNodesSound nodes) }
     ensures faults { IfErr result (λ stop. StopsAtNodes text.now stop) }
 {
     match parse_nodes(alloc, text) {

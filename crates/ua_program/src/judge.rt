@@ -2,8 +2,8 @@
 
 ghost use Rattle.std.specs.Prelude.{◌≡◌, ◌++◌, ◌⊎◌, true, string_bytes, IfErr, IfOk, OnOk};
 ghost use Rattle.ua_session.specs.declared.verdict.Verdict.TheVariants.{SomeBad};
-ghost use Rattle.ua_program.specs.Judges.{AreVerdicts, HasJudged, IsPlaceOf, code_of};
-ghost use Rattle.ua_program.specs.Judges.{code_text, is_break, verdict_line, verdict_words};
+ghost use Rattle.ua_program.specs.Judges.{AreVerdicts, HasJudged, IsPlaceOf, code_of_verdict};
+ghost use Rattle.ua_program.specs.Judges.{colon_code_text, is_break, verdict_line, verdict_words};
 ghost use Rattle.ua_program.specs.Reasons.{StopsWriting};
 
 use crate::arguments::JudgeRecord;
@@ -138,7 +138,7 @@ fn place_of(octets: &[u8], verdict: &Judged) -> usize
 
 /// The StatusCode of a verdict that has one.
 fn code_of(verdict: &Judged) -> Option<StatusCode>
-    ensures { result ≡ code_of verdict.now }
+    ensures { result ≡ code_of_verdict verdict.now }
 {
     match verdict {
         Judged::Breaks { code, .. } | Judged::Refuses { code, .. } => Some(*code),
@@ -148,7 +148,7 @@ fn code_of(verdict: &Judged) -> Option<StatusCode>
 
 /// Appends a StatusCode after a colon, if there is one.
 fn push_code(out: &mut String, names: bool, code: Option<StatusCode>) -> Result<(), AllocError>
-    ensures { OnOk result (string_bytes out.new ≡ string_bytes out.old ++ code_text names code) }
+    ensures { OnOk result (string_bytes out.new ≡ string_bytes out.old ++ colon_code_text names code) }
 {
     match code {
         Some(code) => {

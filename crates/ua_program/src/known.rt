@@ -1,7 +1,7 @@
 //! What is known of a status code in a fault: its name in the standard, and what helps.
 
 ghost use Rattle.std.specs.Prelude.{◌≡◌, ◌++◌, option_map, string_bytes, OnOk};
-ghost use Rattle.ua_program.specs.Known.{code_in, hint_of, known_line, named_or_not};
+ghost use Rattle.ua_program.specs.Known.{code_in_fault, hint_of, known_line, named_or_not};
 ghost use Rattle.ua_texts.specs.Names.{name_of_code};
 
 use crate::fault::Fault;
@@ -13,7 +13,7 @@ use ua_texts::{code_name, push_escaped};
 
 /// The status code in a fault, if it has one.
 pub fn code_of(fault: &Fault<'_>) -> Option<StatusCode>
-    ensures { result ≡ code_in fault.now }
+    ensures { result ≡ code_in_fault fault.now }
 {
     match fault {
         Fault::Asking(QuestionFault::Service(code)) => Some(*code),

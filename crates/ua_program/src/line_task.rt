@@ -1,7 +1,7 @@
 //! The lines of `ua ask`.
 
 ghost use Rattle.std.specs.Prelude.{◌≡◌, IfOk, IfErr, IfSome};
-ghost use Rattle.ua_program.specs.LineTask.{GivesOwn, IsBare, IsPause, IsQuestionOf, IsTaskOf, RefusesLine, Requests};
+ghost use Rattle.ua_program.specs.LineTask.{GivesOwn, IsBare, IsPause, IsQuestionOf, IsTaskOf, RefusesTaskLine, Requests};
 ghost use Rattle.ua_texts.specs.declared.script.Step.TheVariants.{Read};
 
 use crate::number::parse_size;
@@ -87,7 +87,7 @@ fn own_task(words: &str) -> Option<Result<LineTask, LoopFault>>
 /// loop`. A line that asks for nothing has the fault `ScriptLine`, with its number 1.
 pub fn parse_task(alloc: Global, line: &str) -> Result<LineTask, LoopFault>
     ensures task { IfOk result (Requests line.now) }
-    ensures fault { IfErr result (RefusesLine line.now) }
+    ensures fault { IfErr result (RefusesTaskLine line.now) }
 {
     if let Some(task) = own_task(bare(line)) {
         return task;

@@ -1,11 +1,11 @@
 //! The node file of `ua serve --live`.
 
 ghost use Rattle.std.specs.Prelude.{◌≡◌, ◌++◌, ◌∷◌, [], OnOk, OnErr, map};
-ghost use Rattle.ua_nodes.specs.Sound.{IsSound, IsSoundNode};
+ghost use Rattle.ua_nodes.specs.Sound.{AreNodesSound, IsSoundNode};
 ghost use Rattle.ua_nodes.specs.Table.{variable_of};
 ghost use Rattle.ua_server.specs.State.{with_nodes};
 ghost use Rattle.ua_node_files.specs.Changed.{entry_of, with_all_changed, with_changed};
-ghost use Rattle.ua_program.specs.Live.{FollowsFile, TakesSome};
+ghost use Rattle.ua_program.specs.Live.{FollowsFile, TakesSomeNodes};
 
 use crate::fault::Fault;
 use crate::input::read_lines;
@@ -180,10 +180,10 @@ fn take_reading<'f, 'a, F: Files + Clock + AllocGlobal>(
 
 /// Gives the nodes that changed to the services, in order.
 fn put_all(services: &mut Services, nodes: Vec<Node>, moment: DateTime) -> Result<(), AllocError>
-    requires sound { IsSound (map entry_of nodes.items) }
+    requires sound { AreNodesSound (map entry_of nodes.items) }
     ensures all { OnOk result
         (services.new ≡ with_nodes services.old (with_all_changed moment nodes.items services.old.nodes)) }
-    ensures some { OnErr result (TakesSome moment nodes.items services.old services.new) }
+    ensures some { OnErr result (TakesSomeNodes moment nodes.items services.old services.new) }
 {
     for node in nodes {
         put(services, node, moment)?;

@@ -4,7 +4,7 @@ ghost use Rattle.std.specs.Prelude.{◌≡◌, ◌⊎◌, [], true, false, None,
 ghost use Rattle.ua_program.specs.Looped.{HasLooped, HasLoopedUntil, RefusesScript, RunsScript};
 ghost use Rattle.ua_program.specs.Reasons.{StopsWriting};
 ghost use Rattle.ua_session.specs.declared.verdict.Verdict.TheVariants.{SomeBad};
-ghost use Rattle.ua_nodes.specs.Sound.{IsSound};
+ghost use Rattle.ua_nodes.specs.Sound.{AreNodesSound};
 ghost use Rattle.ua_server.specs.declared.step.End.TheVariants.{Closed};
 
 use crate::arguments::Loop;
@@ -117,7 +117,7 @@ pub fn run_script(
     names: bool,
     plain: bool,
 ) -> Result<Looped, LoopFault>
-    requires sound { IsSound nodes }
+    requires sound { AreNodesSound nodes }
     ensures ran { IfOk result (λ looped. RunsScript plain names nodes script.now looped) }
     ensures refused { IfErr result (λ fault. RefusesScript script.now fault) }
 {
@@ -134,7 +134,7 @@ fn run_text<'a>(
     names: bool,
     plain: bool,
 ) -> Result<Looped, Stop<'a>>
-    requires sound { IsSound nodes }
+    requires sound { AreNodesSound nodes }
     ensures ran { IfOk result (λ looped. RunsScript plain names nodes script.now looped) }
 {
     match run_script(alloc, nodes, script, cut, names, plain) {

@@ -1,9 +1,9 @@
 //! The reason of a fault beside its own text.
 
 ghost use Rattle.std.specs.Prelude.{◌≡◌, ◌++◌, false, option_map, string_bytes, IfOk, IfSome, OnOk};
-ghost use Rattle.ua_session.specs.Words.{NamesNone};
-ghost use Rattle.ua_program.specs.Known.{code_in, known_text, reason_line, word_line};
-ghost use Rattle.ua_program.specs.Reasons.{StopsAt, StopsAtFile};
+ghost use Rattle.ua_session.specs.Words.{NamesNoNode};
+ghost use Rattle.ua_program.specs.Known.{code_in_fault, known_text, reason_line, word_line};
+ghost use Rattle.ua_program.specs.Reasons.{StopsForFault, StopsAtFile};
 ghost use Rattle.ua_program.specs.declared.fault.Fault.TheVariants.{CannotConnect, CannotListen, Looping};
 
 use crate::fault::Fault;
@@ -43,7 +43,7 @@ pub fn cannot_read<'a>(file: &'a str, error: io::Error) -> Stop<'a>
 
 /// The fault of a record's file that cannot be written, with the system's error.
 pub fn cannot_record<'a>(fault: Fault<'a>, error: io::Error) -> Stop<'a>
-    ensures { StopsAt fault.entry result }
+    ensures { StopsForFault fault.entry result }
 {
     match error.kind() {
         io::ErrorKind::OutOfMemory => Stop::Fault(Fault::NoMemory),
@@ -53,14 +53,14 @@ pub fn cannot_record<'a>(fault: Fault<'a>, error: io::Error) -> Stop<'a>
 
 /// The fault of a port that cannot be listened on, or gives no connection, with the system's error.
 pub fn cannot_listen<'a>(error: io::Error) -> Stop<'a>
-    ensures { StopsAt CannotListen result }
+    ensures { StopsForFault CannotListen result }
 {
     Stop::Because(Fault::CannotListen, Reason::System(error))
 }
 
 /// The fault of a port that accepts no connection, with the system's error.
 pub fn cannot_connect<'a>(error: io::Error) -> Stop<'a>
-    ensures { StopsAt CannotConnect result }
+    ensures { StopsForFault CannotConnect result }
 {
     Stop::Because(Fault::CannotConnect, Reason::System(error))
 }
@@ -86,7 +86,7 @@ pub fn push_known(
     fault: &Fault<'_>,
     reason: Option<&Reason>,
 ) -> Result<(), AllocError>
-    ensures { IfSome (known_text (code_in fault.now) (option_map (λ r. r.now) reason.entry))
+    ensures { IfSome (known_text (code_in_fault fault.now) (option_map (λ r. r.now) reason.entry))
         (λ line. OnOk result (string_bytes out.new ≡ string_bytes out.old ++ line)) }
 {
     match (code_of(fault), reason) {
@@ -108,7 +108,7 @@ pub fn push_word(out: &mut String, word: &str) -> Result<(), AllocError>
 
 /// A fault with the text that is blamed for it.
 pub fn blame<'a>(alloc: Global, fault: Fault<'a>, text: &str) -> Stop<'a>
-    ensures { StopsAt fault.entry result }
+    ensures { StopsForFault fault.entry result }
 {
     match String::from_str(alloc, text) {
         Ok(text) => Stop::Because(fault, Reason::Text(text)),
@@ -119,7 +119,7 @@ pub fn blame<'a>(alloc: Global, fault: Fault<'a>, text: &str) -> Stop<'a>
 /// A fault of a node file with this text: that of a bad line with the field that its reason is
 /// against.
 pub fn blame_line<'a>(alloc: Global, text: &str, fault: Fault<'a>) -> Stop<'a>
-    ensures { StopsAt fault.entry result }
+    ensures { StopsForFault fault.entry result }
 {
     let (Fault::Line { line, reason } | Fault::NodesLine { line, reason }) = fault else {
         return Stop::Fault(fault);
@@ -130,7 +130,7 @@ pub fn blame_line<'a>(alloc: Global, text: &str, fault: Fault<'a>) -> Stop<'a>
 /// A fault of a script with this text: that of a bad line with the field, or the line, that is to
 /// blame.
 pub fn blame_step<'a>(alloc: Global, text: &str, fault: LoopFault) -> Stop<'a>
-    ensures { StopsAt (Looping fault) result }
+    ensures { StopsForFault (Looping fault) result }
 {
     let LoopFault::ScriptLine(number) = fault else {
         return Stop::Fault(Fault::Looping(fault));
@@ -140,7 +140,7 @@ pub fn blame_step<'a>(alloc: Global, text: &str, fault: LoopFault) -> Stop<'a>
 
 /// The same, where the line is known.
 pub fn blame_text<'a>(alloc: Global, line: &str, fault: LoopFault) -> Stop<'a>
-    ensures { StopsAt (Looping fault) result }
+    ensures { StopsForFault (Looping fault) result }
 {
     match bad_field(alloc, line) {
         Ok(field) => blame(alloc, Fault::Looping(fault), field),
@@ -196,7 +196,7 @@ fn is_node(alloc: Global, text: &str) -> Result<bool, AllocError> {
 
 /// Whether a text names a NodeId.
 pub fn names_node(alloc: Global, text: &str) -> Result<bool, AllocError>
-    ensures { IfOk result (λ named. named ≡ false → NamesNone text.now) }
+    ensures { IfOk result (λ named. named ≡ false → NamesNoNode text.now) }
 {
     match NodeId::parse_text(alloc, text) {
         Ok(node) => {

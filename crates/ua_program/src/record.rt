@@ -1,7 +1,7 @@
 //! `--record`: files of the bytes that went over a connection.
 
 ghost use Rattle.std.specs.Prelude.{IfErr};
-ghost use Rattle.ua_program.specs.Reasons.{StopsAt, StopsRecording};
+ghost use Rattle.ua_program.specs.Reasons.{StopsForFault, StopsRecording};
 
 use crate::fault::Fault;
 use crate::output::Stop;
@@ -34,7 +34,7 @@ fn write_octets<'a, R: Files + AllocGlobal>(
     octets: &[u8],
     fault: Fault<'a>,
 ) -> Result<(), Stop<'a>>
-    ensures { IfErr result (λ stop. StopsAt fault.entry stop) }
+    ensures { IfErr result (λ stop. StopsForFault fault.entry stop) }
 {
     match fs::write(rt, file, octets) {
         Ok(()) => Ok(()),

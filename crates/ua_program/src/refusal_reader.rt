@@ -3,7 +3,7 @@
 ghost use Rattle.std.specs.Prelude.{◌≡◌, ◌⊎◌, Some, IfOk, IfSome};
 ghost use Rattle.ua_frame.specs.Messages.{error};
 ghost use Rattle.ua_frame.specs.Whole.{whole_of};
-ghost use Rattle.ua_program.specs.Known.{IsRefusal};
+ghost use Rattle.ua_program.specs.Known.{IsErrorFrame};
 
 use std::alloc::{AllocError, Global};
 use ua_builtin::Wire;
@@ -64,7 +64,7 @@ impl RefusalReader {
 
     /// Keeps the Error of an ERR frame, after which no frames are read.
     fn note(&mut self, frame: &Frame)
-        ensures { IfSome self.new.refusal (λ e. (self.old.refusal ≡ Some e) ⊎ IsRefusal frame.now e) }
+        ensures { IfSome self.new.refusal (λ e. (self.old.refusal ≡ Some e) ⊎ IsErrorFrame frame.now e) }
     {
         if frame.kind != Kind::Err {
             return;

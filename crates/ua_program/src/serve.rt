@@ -10,8 +10,8 @@ ghost use Rattle.ua_program.specs.AtOnce.{ServesAsked, ServesSomeAsked};
 ghost use Rattle.ua_program.specs.Served.{AddsOutcome, BeginsWith, HasServed, HasServedSome, HasTold};
 ghost use Rattle.ua_program.specs.Served.{IsConnectionLine, IsLimitedTo, Prints, SaysOutcome, ServesOne, TellsOf};
 ghost use Rattle.ua_program.specs.Served.{connection_line, encoding_part, endpoint_on, is_of_connection};
-ghost use Rattle.ua_program.specs.Served.{kind_name, limited_to, listening_line, no_memory, request_line};
-ghost use Rattle.ua_program.specs.Reasons.{EndsServing, NeverAccepts, StopsAt};
+ghost use Rattle.ua_program.specs.Served.{kind_name, limited_to, listening_line, no_memory_text, request_line};
+ghost use Rattle.ua_program.specs.Reasons.{EndsServing, NeverAccepts, StopsForFault};
 ghost use Rattle.ua_program.specs.Reasons.{StopsConnection, StopsWriting, is_starved};
 ghost use Rattle.ua_program.specs.declared.fault.Fault.TheVariants.{CannotListen};
 
@@ -416,7 +416,7 @@ fn next_stream<'a, R: Net + Clock, E: Write>(
     err: &mut E,
 ) -> Result<R::Stream, Stop<'a>>
     ensures quiet { telling.aloud ≡ false → err.new ≡ err.old }
-    ensures stopped { IfErr result (StopsAt CannotListen) }
+    ensures stopped { IfErr result (StopsForFault CannotListen) }
     ensures lasts { goes_on ≡ true → IfErr result NeverAccepts }
 {
     for _tries in 0..u64::MAX {
@@ -437,7 +437,7 @@ fn next_stream<'a, R: Net + Clock, E: Write>(
 
 /// Prints that an allocation failed at a connection. The function allocates nothing.
 pub fn say_no_memory<'a, O: Write>(number: u32, out: &mut O) -> Result<(), Stop<'a>>
-    ensures said { OnOk result (Appends (O.contents out.old) (O.contents out.new) (connection_line number no_memory)) }
+    ensures said { OnOk result (Appends (O.contents out.old) (O.contents out.new) (connection_line number no_memory_text)) }
     ensures failed { IfErr result (λ stop. StopsWriting stop) }
 {
     match write_no_memory(number, out) {
@@ -448,7 +448,7 @@ pub fn say_no_memory<'a, O: Write>(number: u32, out: &mut O) -> Result<(), Stop<
 
 /// Writes the line of a connection at which an allocation failed, and flushes it.
 pub fn write_no_memory<O: Write>(number: u32, out: &mut O) -> io::Result<()>
-    ensures { OnOk result (Appends (O.contents out.old) (O.contents out.new) (connection_line number no_memory)) }
+    ensures { OnOk result (Appends (O.contents out.old) (O.contents out.new) (connection_line number no_memory_text)) }
 {
     write!(out, "connection {number} NoMemory\n")?;
     out.flush()
@@ -490,7 +490,7 @@ fn outlive<'a, O: Write>(
     out: &mut O,
 ) -> Result<(), Stop<'a>>
     ensures said { OnOk result ((goes_on ≡ true) × (is_starved stop.entry ≡ true)
-        × Appends (O.contents out.old) (O.contents out.new) (connection_line number no_memory)) }
+        × Appends (O.contents out.old) (O.contents out.new) (connection_line number no_memory_text)) }
     ensures stopped { IfErr result (λ why. StopsWriting why ⊎ ((why ≡ stop.entry) × (out.new ≡ out.old))) }
     ensures lasts { goes_on ≡ true → StopsConnection stop.entry → IfErr result StopsWriting }
 {

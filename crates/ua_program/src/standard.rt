@@ -3,7 +3,7 @@
 ghost use Rattle.std.specs.Prelude.{◌≡◌, ◌⊎◌, IfOk, IfErr, map, string_bytes};
 ghost use Rattle.ua_node_files.specs.Namespaces.{AreNamed, namespace_lines};
 ghost use Rattle.ua_program.specs.Refused.{RefusesNamespace, RefusesStandard};
-ghost use Rattle.ua_program.specs.Standard.{BeginsStandard, IsWhole};
+ghost use Rattle.ua_program.specs.Standard.{BeginsStandard, IsWithStandardNodes};
 ghost use Rattle.ua_program.specs.declared.fault.Fault.TheVariants.{NoMemory};
 
 use crate::fault::Fault;
@@ -54,7 +54,7 @@ struct WholeFile {
 
 /// The text of a node file with the standard nodes that it lacks after it.
 fn whole_of<'a>(alloc: Global, text: &str) -> Result<WholeFile, Fault<'a>>
-    ensures whole { IfOk result (λ whole. IsWhole text.now whole.keeps_time (string_bytes whole.text)) }
+    ensures whole { IfOk result (λ whole. IsWithStandardNodes text.now whole.keeps_time (string_bytes whole.text)) }
     ensures faults { IfErr result (λ fault. RefusesStandard text.now fault) }
 {
     let uris = named(alloc, text)?;

@@ -1,7 +1,7 @@
 //! Sources whose failures are kept, and where they stop being hexadecimal.
 
 ghost use Rattle.std.specs.Prelude.{◌≡◌};
-ghost use Rattle.ua_program.specs.Reasons.{StopsAt};
+ghost use Rattle.ua_program.specs.Reasons.{StopsForFault};
 
 use crate::digit_place::DigitPlace;
 use crate::fault::Fault;
@@ -33,7 +33,7 @@ impl<I> Watched<I> {
     /// The fault, with the system's error of the last read where the fault is that the source
     /// cannot be read, or with the place where its digits end where it is not hexadecimal.
     pub fn blame<'a>(&self, fault: Fault<'a>) -> Stop<'a>
-        ensures { StopsAt fault.entry result }
+        ensures { StopsForFault fault.entry result }
     {
         match (fault, self.failed) {
             (Fault::CannotRead(_), Some(error)) => Stop::Because(fault, Reason::System(error)),

@@ -14,7 +14,7 @@ use Rattle.ua_server.specs.Requests.{request_at, requests_of, with_first}
 use Rattle.ua_server.specs.Said.{Course, is_answered, start, used_in}
 use Rattle.ua_server.specs.ServingOver.{Acts, ActsFirst, IsSilent, has_acted, requests_over}
 use Rattle.ua_server.specs.State.{State, with_nodes}
-use Rattle.ua_server.specs.Stepping.{Stops, given_up, times_of_answers}
+use Rattle.ua_server.specs.Stepping.{StepStops, given_up, times_of_answers}
 use Rattle.ua_server.specs.declared.watch.AnsweredRequest.{AnsweredRequest}
 use Rattle.ua_server.proofs.Histories.{course-after}
 use Rattle.ua_server.proofs.RequestsInParts.{first-append}
@@ -102,7 +102,7 @@ quiet-silent m (id ∷ ids) more h = (refl, quiet-silent m ids more h)
 
 -- one thing at most, behind which the step stops
 pub acting-one : (new : ServerChannel) (octets piece : List ℕ) (n : ℕ) (out : List ℕ) (told more : List Told) (m : DateTime)
-    → Stops new octets piece n out told more → ActsFirst true (heard_at m more)
+    → StepStops new octets piece n out told more → ActsFirst true (heard_at m more)
 acting-one new octets piece n out told [] m h = tt
 acting-one new octets piece n out told (t ∷ []) m h = (λ e. refl, tt)
 acting-one new octets piece n out told (t ∷ (u ∷ more)) m h = absurd h
@@ -143,7 +143,7 @@ requests-behind x octets hs first before m ids more s =
 
 -- at most one thing is told at a moment
 pub one-request : (channel : ℕ) (s : State) (n : ℕ) (a : Option Agreement) (m : DateTime) (new : ServerChannel) (octets piece : List ℕ) (k : ℕ) (out : List ℕ)
-    (told more : List Told) → Stops new octets piece k out told more
+    (told more : List Told) → StepStops new octets piece k out told more
     → requests_over channel (course s n [] a) (heard_at m more) ≡ requests_of channel (standing s n a more m) more
 one-request channel s n a m new octets piece k out told [] h = refl
 one-request channel s n a m new octets piece k out told (t ∷ []) h = refl

@@ -30,9 +30,9 @@ use Rattle.ua_server.specs.Said.{say, start, Course, last_words, state_after, us
 use Rattle.ua_server.specs.Served.{channel_in}
 use Rattle.ua_server.specs.Serving.{moments_in, AreAsked, IsUsedUp, Answer, Refusal}
 use Rattle.ua_server.specs.ServingOver.{ActsFirst, IsSilent, LastSaid, has_acted, Acts, requests_over}
-use Rattle.ua_server.specs.ServingParts.{Keeps, AdvancesTo, FailsTelling, Owes, IsKept, Ends, is_there, noted}
+use Rattle.ua_server.specs.ServingParts.{OwesNothing, AdvancesTo, FailsTelling, Owes, IsTimeKept, EndsOwing, is_there, noted}
 use Rattle.ua_server.specs.State.{State}
-use Rattle.ua_server.specs.Stepping.{given_up, times_of_answers, Stops}
+use Rattle.ua_server.specs.Stepping.{given_up, times_of_answers, StepStops}
 use Rattle.ua_server.specs.declared.server.Server.{Server}
 use Rattle.ua_server.specs.declared.serving.Serving.{Serving}
 use Rattle.ua_server.specs.declared.step.End.{End as Ending}
@@ -87,7 +87,7 @@ module _ {A : Type 0} (changes : A → State → A → State → Type 0) (x : Se
     (given ts : List Event) (first : State × A) (now0 now1 : State) (app : A) (some : 0 < length piece)
     (lim : limits_of (channel_in server) ≡ limits_of (channel_in x.server)) (chan : channel_of (channel_in server) ≡ channel_of (channel_in x.server))
     (asked : listed x.moment ++ moments_in ts ≡ m ∷ [])
-    (o : Keeps changes x (limits_of (channel_in x.server)) (channel_of (channel_in x.server)) first read written given (now0, app))
+    (o : OwesNothing changes x (limits_of (channel_in x.server)) (channel_of (channel_in x.server)) first read written given (now0, app))
     (acted : has_acted false o.history ≡ true) where
   abbrev l : Limits
   l = limits_of (channel_in x.server)
@@ -191,7 +191,7 @@ module _ {A : Type 0} (changes : A → State → A → State → Type 0) (x : Se
 
   -- they are asked for so
   asked-here : (octets : List ℕ) (q : List ℕ) (more : List Told) (kept : Option DateTime) → moments_in (given ++ ts) ≡ moments_of (behind q more) ++ listed kept
-      → IsKept l c octets kept
+      → IsTimeKept l c octets kept
       → AreAsked l c octets (told_in (behind q more)) (moments_in (given ++ ts))
   asked-here octets q more kept are k =
       subst (λ (ms : List DateTime). AreAsked l c octets (told_in (behind q more)) ms) (sym are)
@@ -223,7 +223,7 @@ module _ {A : Type 0} (changes : A → State → A → State → Type 0) (x : Se
       (last-on l c first.0 read (take n piece) [] written hs (heard_at m (given_up q ++ more)) (quiet-silent m q more quiet) o.last)
 
   -- nothing is answered
-  on-silent : (n : ℕ) (out q : List ℕ) (more : List Told) → noted_in ts ≡ [] → false ≡ has_some more → Stops ch read piece n out (told_in hs ++ given_up q) more
+  on-silent : (n : ℕ) (out q : List ℕ) (more : List Told) → noted_in ts ≡ [] → false ≡ has_some more → StepStops ch read piece n out (told_in hs ++ given_up q) more
       → StandsOver ch (read ++ take n piece) (behind q more) first.0 now1 → output_over c s0 (behind q more) ≡ output_over c s0 hs ++ out
       → Owes changes y l c first (read ++ take n piece) out written (given ++ ts) (now1, app)
   on-silent n out q [] no_request none stops stands said = record {
@@ -248,7 +248,7 @@ module _ {A : Type 0} (changes : A → State → A → State → Type 0) (x : Se
 
   -- something is answered
   on-saying : (request : Option AnsweredRequest) (n : ℕ) (out q : List ℕ) (more : List Told) → noted_in ts ≡ listed request → true ≡ has_some more
-      → Stops ch read piece n out (told_in hs ++ given_up q) more
+      → StepStops ch read piece n out (told_in hs ++ given_up q) more
       → StandsOver ch (read ++ take n piece) (behind q more) first.0 now1 → output_over c s0 (behind q more) ≡ output_over c s0 hs ++ out
       → listed request ≡ requests_of c (standing now0 (next_of (channel_in x.server)) (agreed_by (told_in hs)) more m) more
       → Owes changes (noted y) l c first (read ++ take n piece) out written (given ++ ts) (now1, app)
@@ -321,7 +321,7 @@ module _ {A : Type 0} (changes : A → State → A → State → Type 0) (x : Se
   -- the connection ends
   on-end : noted_in ts ≡ [] → (end : Ending) (n : ℕ) (out : List ℕ)
       → NowBy c (next_of (channel_in x.server)) m piece (Some end) n out ch read (told_in hs) now0 now1
-      → Ends changes y end l c first (read ++ take n piece) out written (given ++ ts) (now1, app)
+      → EndsOwing changes y end l c first (read ++ take n piece) out written (given ++ ts) (now1, app)
   on-end no_request ending.Closed n out s =
       let q = s.0.quiet in
       let closed = s.0.closed in

@@ -34,7 +34,7 @@ use Rattle.ua_variant.specs.Data.{VariantData, DataValueData}
 use Rattle.ua_variant.specs.View.{data_value_of, data_fields_of, value_within}
 use Rattle.ua_variant.specs.declared.values.DataValue.{DataValue}
 use Rattle.ua_server.specs.Attributes.{value_from, data_value_with}
-use Rattle.ua_server.specs.Endpoint.{description_of, Fits}
+use Rattle.ua_server.specs.Endpoint.{description_of, IsEndpointEncodable}
 use Rattle.ua_server.specs.Sessions.{endpoints_for}
 use Rattle.ua_server.specs.Answer.{unless}
 use Rattle.ua_server.specs.State.{State, session_id, session_token}
@@ -46,12 +46,12 @@ fault_fits m h = response-encodable Fault m ∙ h
 
 -- ---- GetEndpoints
 
-given_fit : (t : Bool) (e : Endpoint) → Fits e → IsTrue ((array endpoint_description).encodable (Some (endpoints_for t (description_of e))))
+given_fit : (t : Bool) (e : Endpoint) → IsEndpointEncodable e → IsTrue ((array endpoint_description).encodable (Some (endpoints_for t (description_of e))))
 unfolding array
 given_fit true e w = one_fits endpoint_description (description_of e) (description_fits e w)
 given_fit false e w = refl
 
-pub endpoints_fit : (t : Bool) (e : Endpoint) (header : ResponseHeader) → Fits e → IsTrue (response_header.encodable header)
+pub endpoints_fit : (t : Bool) (e : Endpoint) (header : ResponseHeader) → IsEndpointEncodable e → IsTrue (response_header.encodable header)
     → IsTrue (response.encodable (GetEndpointsMessage (record { response_header = header; endpoints = Some (endpoints_for t (description_of e)) })))
 unfolding get_endpoints_response
 endpoints_fit t e header w h =
@@ -67,7 +67,7 @@ signature_fits : IsTrue (signature_data.encodable null_signature)
 unfolding signature_data
 signature_fits = both_are (string.encodable None) _ no_text no_octets
 
-pub session_fits : (n most : ℕ) (timeout : DoubleBits) (e : Endpoint) (header : ResponseHeader) → n < 2 ^ 32 → most < 2 ^ 32 → timeout.bits < 2 ^ 64 → Fits e
+pub session_fits : (n most : ℕ) (timeout : DoubleBits) (e : Endpoint) (header : ResponseHeader) → n < 2 ^ 32 → most < 2 ^ 32 → timeout.bits < 2 ^ 64 → IsEndpointEncodable e
     → IsTrue (response_header.encodable header)
     → IsTrue (response.encodable (CreateSessionMessage (session_of header (session_id n) (session_token n) timeout (Some (description_of e ∷ [])) most)))
 unfolding create_session_response

@@ -13,7 +13,7 @@ use Rattle.ua_wire.proofs.Readers.{both_true}
 use Rattle.ua_opening.specs.Array.{array}
 use Rattle.ua_structures.specs.Discovery.{application_description, user_token_policy, endpoint_description}
 use Rattle.ua_opening.specs.Field.{byte_string, int32, string}
-use Rattle.ua_server.specs.Endpoint.{none_policy, transport_profile, anonymous, description_of, Fits}
+use Rattle.ua_server.specs.Endpoint.{none_security_policy, transport_profile, anonymous, description_of, IsEndpointEncodable}
 use Rattle.ua_server.specs.declared.endpoint.Endpoint.{Endpoint}
 
 pub no_text : IsTrue (string.encodable None)
@@ -58,7 +58,7 @@ unfolding localized_text
 name_fits None h = refl
 name_fits (Some name) h = h
 
-application_fits : (e : Endpoint) → Fits e → IsTrue (application_description.encodable (description_of e).server)
+application_fits : (e : Endpoint) → IsEndpointEncodable e → IsTrue (application_description.encodable (description_of e).server)
 unfolding application_description
 application_fits e w =
     both_are (string.encodable e.application_uri) _ w.application_uri
@@ -67,12 +67,12 @@ application_fits e w =
     (both_are (string.encodable None) _ no_text
     (both_are (string.encodable None) _ no_text (one_fits string e.url w.url)))))
 
-pub description_fits : (e : Endpoint) → Fits e → IsTrue (endpoint_description.encodable (description_of e))
+pub description_fits : (e : Endpoint) → IsEndpointEncodable e → IsTrue (endpoint_description.encodable (description_of e))
 unfolding endpoint_description
 description_fits e w =
     both_are (string.encodable e.url) _ w.url
     (both_are (application_description.encodable (description_of e).server) _ (application_fits e w)
     (both_are (byte_string.encodable None) _ no_octets
-    (both_are (string.encodable (Some none_policy)) _ (word_fits none_policy refl refl)
+    (both_are (string.encodable (Some none_security_policy)) _ (word_fits none_security_policy refl refl)
     (both_are ((array user_token_policy).encodable (Some (anonymous ∷ []))) _ (one_fits user_token_policy anonymous anonymous_fits)
     (both_are (string.encodable (Some transport_profile)) _ (word_fits transport_profile refl refl) refl)))))

@@ -27,7 +27,7 @@ use Rattle.ua_server.specs.Said.{start}
 use Rattle.ua_server.specs.Served.{channel_in}
 use Rattle.ua_server.specs.Serving.{moments_in, AreAsked, greatest, MovesTraffic, coming_now}
 use Rattle.ua_server.specs.ServingOver.{ActsFirst, Acts, AllAnswered, FramesAnswered, ServesApplication, ServesOver, EndedOver, FailedOver}
-use Rattle.ua_server.specs.ServingParts.{Keeps, Exchanged, FailsTelling, Turns, TurnsTo, EndsTelling, Finishes, Handles, Reads}
+use Rattle.ua_server.specs.ServingParts.{OwesNothing, Exchanged, FailsTelling, Turns, TurnsTo, EndsTelling, Finishes, Handles, ReadsToEnd}
 use Rattle.ua_server.specs.State.{State}
 use Rattle.ua_server.specs.declared.serve_fault.ServeFault.{ServeFault}
 use Rattle.ua_server.specs.declared.serving.Serving.{Serving}
@@ -87,16 +87,16 @@ module _ {A : Type 0} (changes : A → State → A → State → Type 0) (limits
     -- so many octets of the piece are answered, and it goes on
     abbrev pub Handled : ℕ → M → Option Traffic → Serving → State × A → List ℕ → List ℕ → List Event → Type 0
     Handled taken m lb y now read written given =
-        Exchanged gives m0 m [] la lb (λ more ts. Keeps changes y limits channel first (read ++ take taken piece) (written ++ more) (given ++ ts) now)
+        Exchanged gives m0 m [] la lb (λ more ts. OwesNothing changes y limits channel first (read ++ take taken piece) (written ++ more) (given ++ ts) now)
 
-    pub handled-nothing : (read written : List ℕ) (given : List Event) → Keeps changes x limits channel first read written given now0
+    pub handled-nothing : (read written : List ℕ) (given : List Event) → OwesNothing changes x limits channel first read written given now0
         → Handled 0 m0 la x now0 read written given
     handled-nothing read written given k = record {
       written = [];
       ticks = [];
       moved = told-nothing la;
       given = refl;
-      holds = moved-to (λ r w t. Keeps changes x limits channel first r w t now0) read (read ++ []) written (written ++ []) given (given ++ [])
+      holds = moved-to (λ r w t. OwesNothing changes x limits channel first r w t now0) read (read ++ []) written (written ++ []) given (given ++ [])
           (sym (append-nil read)) (sym (append-nil written)) (sym (append-nil given)) k;
     }
 
@@ -111,11 +111,11 @@ module _ {A : Type 0} (changes : A → State → A → State → Type 0) (limits
           ((written ++ so_far.written) ++ more) ((given ++ so_far.ticks) ++ ts) now')
           → Handled (taken + n) m' lc y now' read written given
       handled-more n end is f =
-          exchanged-then gives m0 m m' [] [] la lb lc (λ more ts. Keeps changes mid limits channel first there (written ++ more) (given ++ ts) now)
+          exchanged-then gives m0 m m' [] [] la lb lc (λ more ts. OwesNothing changes mid limits channel first there (written ++ more) (given ++ ts) now)
           (λ more ts. Turns changes (Ok (record { size = n; outcome = end })) y limits channel first (rest_of piece taken) there
           ((written ++ so_far.written) ++ more) ((given ++ so_far.ticks) ++ ts) now')
-          (λ more ts. Keeps changes y limits channel first (read ++ take (taken + n) piece) (written ++ more) (given ++ ts) now') so_far f
-          (λ w ts h. moved-to (λ r u t. Keeps changes y limits channel first r u t now') (there ++ take n (rest_of piece taken))
+          (λ more ts. OwesNothing changes y limits channel first (read ++ take (taken + n) piece) (written ++ more) (given ++ ts) now') so_far f
+          (λ w ts h. moved-to (λ r u t. OwesNothing changes y limits channel first r u t now') (there ++ take n (rest_of piece taken))
           (read ++ take (taken + n) piece)
           ((written ++ so_far.written) ++ w) (written ++ (so_far.written ++ w)) ((given ++ so_far.ticks) ++ ts) (given ++ (so_far.ticks ++ ts))
           (joined read piece taken n) (append_assoc written so_far.written w) (append_assoc given so_far.ticks ts)
@@ -135,7 +135,7 @@ module _ {A : Type 0} (changes : A → State → A → State → Type 0) (limits
           → Exchanged gives m0 m' [] la lc (λ more ts. Handles changes (Ok (Some e)) y limits channel first (read ++ piece) (written ++ more)
           (given ++ ts) now')
       handled-end n end e is f =
-          exchanged-then gives m0 m m' [] [] la lb lc (λ more ts. Keeps changes mid limits channel first there (written ++ more) (given ++ ts) now)
+          exchanged-then gives m0 m m' [] [] la lb lc (λ more ts. OwesNothing changes mid limits channel first there (written ++ more) (given ++ ts) now)
           (λ more ts. Turns changes (Ok (record { size = n; outcome = end })) y limits channel first (rest_of piece taken) there
           ((written ++ so_far.written) ++ more) ((given ++ so_far.ticks) ++ ts) now')
           (λ more ts. EndsTelling changes e limits channel first (read ++ piece) (written ++ more) (given ++ ts) now') so_far f
@@ -155,7 +155,7 @@ module _ {A : Type 0} (changes : A → State → A → State → Type 0) (limits
           ((given ++ so_far.ticks) ++ ts) now')
           → Exchanged gives m0 m' [] la lc (λ more ts. Handles changes (Err f) y limits channel first (read ++ piece) (written ++ more) (given ++ ts) now')
       handled-fault f t =
-          exchanged-then gives m0 m m' [] [] la lb lc (λ more ts. Keeps changes mid limits channel first there (written ++ more) (given ++ ts) now)
+          exchanged-then gives m0 m m' [] [] la lb lc (λ more ts. OwesNothing changes mid limits channel first there (written ++ more) (given ++ ts) now)
           (λ more ts. Turns changes (Err f) y limits channel first (rest_of piece taken) there ((written ++ so_far.written) ++ more)
           ((given ++ so_far.ticks) ++ ts) now')
           (λ more ts. FailsTelling changes f limits channel first (read ++ piece) (written ++ more) (given ++ ts) now') so_far t
@@ -176,7 +176,7 @@ module _ {A : Type 0} (changes : A → State → A → State → Type 0) (limits
         ticks = so_far.ticks;
         moved = so_far.moved;
         given = so_far.given;
-        holds = subst (λ (p : List ℕ). Keeps changes mid limits channel first (read ++ p) (written ++ so_far.written) (given ++ so_far.ticks) now)
+        holds = subst (λ (p : List ℕ). OwesNothing changes mid limits channel first (read ++ p) (written ++ so_far.written) (given ++ so_far.ticks) now)
             (all-of h k) so_far.holds;
       }
 
@@ -187,7 +187,7 @@ module _ {A : Type 0} (changes : A → State → A → State → Type 0) (limits
 
   -- all that was read is answered
   keeps-answered : (x : Serving) (read written : List ℕ) (given : List Event) (now : State × A)
-      (k : Keeps changes x limits channel first read written given now)
+      (k : OwesNothing changes x limits channel first read written given now)
       → FramesAnswered limits channel first.0 read written (moments_in given) (noted_in given) k.history now.0 k.stands.goes.frames k.stands.goes.rest Going
   keeps-answered x read written given now k =
       let g = k.stands.goes in
@@ -203,7 +203,7 @@ module _ {A : Type 0} (changes : A → State → A → State → Type 0) (limits
             (asked-by limits channel read (told_in k.history) (moments_of k.history) x.moment (moments-count k.history) k.kept_is);
       }
 
-  still-going : (x : Serving) (read written : List ℕ) (given : List Event) (now : State × A) (k : Keeps changes x limits channel first read written given now)
+  still-going : (x : Serving) (read written : List ℕ) (given : List Event) (now : State × A) (k : OwesNothing changes x limits channel first read written given now)
       → AllAnswered limits channel first.0 read written (moments_in given) (noted_in given) k.history now.0 Going
   still-going x read written given now k = record { frames = k.stands.goes.frames; rest = k.stands.goes.rest; to = keeps-answered x read written given now k }
 
@@ -216,7 +216,7 @@ module _ {A : Type 0} (changes : A → State → A → State → Type 0) (limits
 
   -- the input ended
   pub finished : (x : Serving) (end : Ending) (read written : List ℕ) (given : List Event) (now : State × A) (coming : List ℕ)
-      → Keeps changes x limits channel first read written given now
+      → OwesNothing changes x limits channel first read written given now
       → ((octets : List ℕ) (frames : List Frame) (rest : List ℕ) → Holds (channel_in x.server) octets frames rest → Finishes end frames rest) → coming ≡ []
       → ComesTo (Ok end) read written given now coming
   finished x end read written given now coming k by none =
@@ -331,17 +331,17 @@ module _ {A : Type 0} (changes : A → State → A → State → Type 0) (limits
 
     -- so many reads are answered, and it goes on
     abbrev pub Served : Option Traffic → ℕ → M × W → Option Traffic → Serving → State × A → Type 0
-    Served la reads m lb x now = Reads step m0 m la lb reads (λ read written ts. Keeps changes x limits channel first read written ts now)
+    Served la reads m lb x now = ReadsToEnd step m0 m la lb reads (λ read written ts. OwesNothing changes x limits channel first read written ts now)
 
-    pub served-nothing : (la : Option Traffic) (x : Serving) (now : State × A) → Keeps changes x limits channel first [] [] [] now → Served la 0 m0 la x now
+    pub served-nothing : (la : Option Traffic) (x : Serving) (now : State × A) → OwesNothing changes x limits channel first [] [] [] now → Served la 0 m0 la x now
     served-nothing la x now k =
         record { read = []; enough = omega arith; exchanged = record { written = []; ticks = []; moved = told-nothing la; given = refl; holds = k } }
 
     -- nothing was read, for want of memory
-    pub serves-nothing : (la : Option Traffic) (x : Serving) (now : State × A) → Keeps changes x limits channel first [] [] [] now
+    pub serves-nothing : (la : Option Traffic) (x : Serving) (now : State × A) → OwesNothing changes x limits channel first [] [] [] now
         → ServesApplication limits channel gives notes changes first m0 (Err fault.OutOfMemory) now m0 la la
     serves-nothing la x now k =
-        served m0 [] la la (Err fault.OutOfMemory) now (λ w ts. Keeps changes x limits channel first [] w ts now)
+        served m0 [] la la (Err fault.OutOfMemory) now (λ w ts. OwesNothing changes x limits channel first [] w ts now)
         (record { written = []; ticks = []; moved = told-nothing la; given = refl; holds = k })
         (λ w ts h. record {
           history = h.history;
@@ -361,7 +361,7 @@ module _ {A : Type 0} (changes : A → State → A → State → Type 0) (limits
     -- a read is handed out
     read-on : (la lb lc : Option Traffic) (reads : ℕ) (m : M × W) (x : Serving) (now : State × A) (n : ℕ) (buffer : List ℕ) (s : Served la reads m lb x now)
         → IfTrafficKnown (MovesTraffic (take n buffer) []) lb lc
-        → Exchanged step m0 m (s.read ++ take n buffer) la lc (λ written ts. Keeps changes x limits channel first s.read written ts now)
+        → Exchanged step m0 m (s.read ++ take n buffer) la lc (λ written ts. OwesNothing changes x limits channel first s.read written ts now)
     read-on la lb lc reads m x now n buffer s moved = record {
       written = s.exchanged.written;
       ticks = s.exchanged.ticks;
@@ -375,8 +375,8 @@ module _ {A : Type 0} (changes : A → State → A → State → Type 0) (limits
         → Served la reads m lb x now → IfTrafficKnown (HandsOut (Err f) buffer) lb lc
         → ServesApplication limits channel gives notes changes first m0 (Err fault.Read) now m la lc
     read-failed la lb lc reads m x now f buffer s h =
-        served m s.read la lc (Err fault.Read) now (λ written ts. Keeps changes x limits channel first s.read written ts now)
-        (subst (λ (r : List ℕ). Exchanged step m0 m r la lc (λ written ts. Keeps changes x limits channel first s.read written ts now)) (append-nil s.read)
+        served m s.read la lc (Err fault.Read) now (λ written ts. OwesNothing changes x limits channel first s.read written ts now)
+        (subst (λ (r : List ℕ). Exchanged step m0 m r la lc (λ written ts. OwesNothing changes x limits channel first s.read written ts now)) (append-nil s.read)
         (read-on la lb lc reads m x now 0 [] s (not-handed f buffer lb lc h)))
         (λ w ts k. record { history = k.history; acted = k.acted; acts_first = k.acts_first; over = still-going x s.read w ts now k })
 
@@ -385,8 +385,8 @@ module _ {A : Type 0} (changes : A → State → A → State → Type 0) (limits
         → ((octets : List ℕ) (frames : List Frame) (rest : List ℕ) → Holds (channel_in x.server) octets frames rest → Finishes end frames rest)
         → ServesApplication limits channel gives notes changes first m0 (Ok end) now m la lc
     read-ended la lb lc reads m x now n buffer end s h zero room by =
-        served m s.read la lc (Ok end) now (λ written ts. Keeps changes x limits channel first s.read written ts now)
-        (subst (λ (r : List ℕ). Exchanged step m0 m r la lc (λ written ts. Keeps changes x limits channel first s.read written ts now))
+        served m s.read la lc (Ok end) now (λ written ts. OwesNothing changes x limits channel first s.read written ts now)
+        (subst (λ (r : List ℕ). Exchanged step m0 m r la lc (λ written ts. OwesNothing changes x limits channel first s.read written ts now))
         (ap (λ (k : ℕ). s.read ++ take k buffer) zero ∙ append-nil s.read)
         (read-on la lb lc reads m x now n buffer s (handed n buffer lb lc h)))
         (λ w ts k. finished x end s.read w ts now (coming_now lc) k by (ended n buffer lb lc h zero room))
@@ -394,7 +394,7 @@ module _ {A : Type 0} (changes : A → State → A → State → Type 0) (limits
     pub read-too-long : (la lb : Option Traffic) (reads : ℕ) (m : M × W) (x : Serving) (now : State × A) → greatest ≤ reads → Served la reads m lb x now
         → ServesApplication limits channel gives notes changes first m0 (Err fault.TooLong) now m la lb
     read-too-long la lb reads m x now h s =
-        served m s.read la lb (Err fault.TooLong) now (λ written ts. Keeps changes x limits channel first s.read written ts now) s.exchanged
+        served m s.read la lb (Err fault.TooLong) now (λ written ts. OwesNothing changes x limits channel first s.read written ts now) s.exchanged
         (λ w ts k.
         record {
           history = k.history;

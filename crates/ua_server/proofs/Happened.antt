@@ -5,7 +5,7 @@ use Rattle.std.proofs.lemmas.List.{map-append}
 use Rattle.ua_builtin.specs.declared.date_time.DateTime.{DateTime}
 use Rattle.ua_frame.specs.declared.limits.Limits.{Limits}
 use Rattle.ua_channel.specs.Line.{Traffic}
-use Rattle.ua_channel.specs.Moments.{Gives}
+use Rattle.ua_channel.specs.Moments.{GivesTimes}
 use Rattle.ua_channel.specs.Received.{listed}
 use Rattle.ua_server.specs.Happening.{Event, Given, Noted, ticks_in, noted_in, Leads, Happens, IsTold, WasTold}
 use Rattle.ua_server.specs.Serving.{moment_of, moments_in, Serves, ServesTelling}
@@ -49,7 +49,7 @@ meeting-noted (t ∷ ts) o = meeting-noted ts o
 
 pub meeting-led : {M W : Type 0} (gives : M → ℤ → M → Type 0) (notes : W → AnsweredRequest → W → Type 0) (m m' : M) (w w' : W) (ts : List ℤ)
     (o : Option AnsweredRequest)
-    → Gives gives m ts m' → IsTold notes w o w' → Leads (Happens gives notes) (m, w) (meeting ts o) (m', w')
+    → GivesTimes gives m ts m' → IsTold notes w o w' → Leads (Happens gives notes) (m, w) (meeting ts o) (m', w')
 meeting-led {M = M} {W = W} gives notes m m' w w' [] None g h = let both : M → W → M × W = λ x y. (x, y) in ap (λ (x : M). both x w) g ∙ ap (both m') (sym h)
 meeting-led {M = M} {W = W} gives notes m m' w w' [] (Some r) g h =
     let both : M → W → M × W = λ x y. (x, y) in
@@ -75,10 +75,10 @@ told-more notes w v u l m = (l.0 ++ m.0, leads-then notes w v u l.0 m.0 l.1 m.1)
 -- ---- the moments alone
 
 pub given-led : {M W : Type 0} (gives : M → ℤ → M → Type 0) (notes : W → AnsweredRequest → W → Type 0) (a b : M × W) (es : List Event)
-    → Leads (Happens gives notes) a es b → Gives gives a.0 (ticks_in es) b.0
+    → Leads (Happens gives notes) a es b → GivesTimes gives a.0 (ticks_in es) b.0
 given-led {M = M} {W = W} gives notes a b [] l = ap (λ (x : M × W). x.0) l
 given-led gives notes a b (Given t ∷ es) l = (l.0.0, l.1.0, given-led gives notes l.0 b es l.2)
-given-led {M = M} gives notes a b (Noted r ∷ es) l = subst (λ (m : M). Gives gives m (ticks_in es) b.0) l.1.1 (given-led gives notes l.0 b es l.2)
+given-led {M = M} gives notes a b (Noted r ∷ es) l = subst (λ (m : M). GivesTimes gives m (ticks_in es) b.0) l.1.1 (given-led gives notes l.0 b es l.2)
 
 -- what is served, without a word on who is told of requests
 pub serves-plain : {M W : Type 0} (limits : Limits) (channel : ℕ) (gives : M → ℤ → M → Type 0) (notes : W → AnsweredRequest → W → Type 0) (first : State)

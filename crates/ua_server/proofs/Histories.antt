@@ -18,7 +18,7 @@ use Rattle.ua_server.specs.Said.{Course, last_words, state_after, course_after, 
 use Rattle.ua_server.specs.State.{State, with_session}
 use Rattle.ua_server.specs.declared.endpoint.Endpoint.{Endpoint}
 use Rattle.ua_server.specs.declared.session.Session.{Session}
-use Rattle.ua_server.specs.Stepping.{ServerStands, StepBreaks, Stops, given_up}
+use Rattle.ua_server.specs.Stepping.{ServerStands, StepBreaks, StepStops, given_up}
 use Rattle.ua_server.specs.declared.step.End.{End as Ending}
 use Rattle.ua_server.specs.declared.step.Step.{Step}
 use Rattle.ua_server.specs.declared.step.StepFault.{StepFault}
@@ -112,21 +112,21 @@ quiet-output channel s n a moment (id ∷ ids) more = quiet-output channel s n a
 
 -- at most one thing is told at a moment
 one-output : (channel : ℕ) (s : State) (n : ℕ) (a : Option Agreement) (moment : DateTime) (new : ServerChannel) (octets piece : List ℕ) (k : ℕ) (out : List ℕ)
-    (told more : List Told) → Stops new octets piece k out told more
+    (told more : List Told) → StepStops new octets piece k out told more
     → output_over channel (course s n [] a) (heard_at moment more) ≡ said_of channel (standing s n a more moment) more
 one-output channel s n a moment new octets piece k out told [] h = refl
 one-output channel s n a moment new octets piece k out told (t ∷ []) h = refl
 one-output channel s n a moment new octets piece k out told (t ∷ (u ∷ more)) h = absurd h
 
 one-state : (channel : ℕ) (s : State) (n : ℕ) (a : Option Agreement) (moment : DateTime) (new : ServerChannel) (octets piece : List ℕ) (k : ℕ) (out : List ℕ)
-    (told more : List Told) → Stops new octets piece k out told more
+    (told more : List Told) → StepStops new octets piece k out told more
     → (course_over channel (course s n [] a) (heard_at moment more)).state ≡ (course_after channel (standing s n a more moment) more).state
 one-state channel s n a moment new octets piece k out told [] h = refl
 one-state channel s n a moment new octets piece k out told (t ∷ []) h = refl
 one-state channel s n a moment new octets piece k out told (t ∷ (u ∷ more)) h = absurd h
 
 one-number : (channel : ℕ) (s : State) (n : ℕ) (a : Option Agreement) (moment : DateTime) (new : ServerChannel) (octets piece : List ℕ) (k : ℕ) (out : List ℕ)
-    (told more : List Told) → Stops new octets piece k out told more
+    (told more : List Told) → StepStops new octets piece k out told more
     → (course_over channel (course s n [] a) (heard_at moment more)).number ≡ (course_after channel (standing s n a more moment) more).number
 one-number channel s n a moment new octets piece k out told [] h = refl
 one-number channel s n a moment new octets piece k out told (t ∷ []) h = refl

@@ -13,17 +13,17 @@ use Rattle.ua_builtin.specs.NodeId.{null_id}
 use Rattle.ua_structures.specs.Session.{anonymous_identity_token}
 use Rattle.ua_structures.specs.declared.session.AnonymousIdentityToken.{AnonymousIdentityToken}
 use Rattle.ua_structures.proofs.SessionLawful.{lawful_anonymous_identity_token}
-use Rattle.ua_services.specs.Identity.{Carries, CarriesNone}
+use Rattle.ua_services.specs.Identity.{CarriesToken, CarriesNone}
 use Rattle.ua_opening.specs.Message.{IsBody, body_of, standard, standard_number}
 use Rattle.ua_opening.proofs.BodyRead.{body_found, body_is}
-use Rattle.ua_server.specs.Sessions.{is_token, is_anonymous_by, is_anonymous}
+use Rattle.ua_server.specs.Sessions.{is_token, is_anonymous_by, is_anonymous_token}
 
 token_found : (token : AnonymousIdentityToken) (octets : List ℕ) → IsBody anonymous_identity_token token octets → is_token (Some octets) ≡ true
 token_found token octets h = ap (λ (o : Option AnonymousIdentityToken). not (is_none o))
     (body_found anonymous_identity_token lawful_anonymous_identity_token octets token h)
 
-pub carried : (object : ExtensionObject) (token : AnonymousIdentityToken) → Carries object token → true ≡ is_anonymous object
-carried object token h = sym (ap is_anonymous h.1 ∙ token_found token h.0 h.2)
+pub carried : (object : ExtensionObject) (token : AnonymousIdentityToken) → CarriesToken object token → true ≡ is_anonymous_token object
+carried object token h = sym (ap is_anonymous_token h.1 ∙ token_found token h.0 h.2)
 
 -- the NodeId of the standard's namespace with this number
 standard_is : (id : NodeId) (n : ℕ) → standard_number id ≡ Some n → id ≡ standard n
@@ -51,7 +51,7 @@ no_token id octets (Some token) e same none =
     ))
 
 not_carried_by : (id : NodeId) (body : ExtensionBody) → (id ≡ null_id → ⊥) → CarriesNone (record { type_id = id; body = body })
-    → is_anonymous (record { type_id = id; body = body }) ≡ false
+    → is_anonymous_token (record { type_id = id; body = body }) ≡ false
 not_carried_by id body other none = by (standard_number id) body refl none
   where
     zero : (n : ℕ) (t : Bool) → nat_eq n 0 ≡ t → standard_number id ≡ Some n → t ≡ false
@@ -70,5 +70,5 @@ not_carried_by id body other none = by (standard_number id) body refl none
     by (Some n) (ByteString (Some octets)) e c = held n octets (nat_eq n 321) refl e c
     by (Some n) (Xml x) e c = refl
 
-pub not_carried : (object : ExtensionObject) → (object.type_id ≡ null_id → ⊥) → CarriesNone object → false ≡ is_anonymous object
+pub not_carried : (object : ExtensionObject) → (object.type_id ≡ null_id → ⊥) → CarriesNone object → false ≡ is_anonymous_token object
 not_carried object other none = sym (not_carried_by object.type_id object.body other none)

@@ -15,7 +15,7 @@ use Rattle.ua_server.specs.Said.{start}
 use Rattle.ua_server.specs.Served.{channel_in}
 use Rattle.ua_server.specs.Serving.{Nothing, told_at}
 use Rattle.ua_server.specs.ServingOver.{IsSilent, LastSaid, has_acted, requests_over}
-use Rattle.ua_server.specs.ServingParts.{Begins, Keeps, IsKept, is_there}
+use Rattle.ua_server.specs.ServingParts.{BeginsServing, OwesNothing, IsTimeKept, is_there}
 use Rattle.ua_server.specs.State.{State, with_nodes}
 use Rattle.ua_server.specs.declared.serving.Serving.{Serving}
 
@@ -68,8 +68,8 @@ module _ (limits : Limits) (channel : ℕ) (first : State) where
 
 module _ {A : Type 0} (changes : A → State → A → State → Type 0) where
   -- before any octet
-  pub keeps-first : (x : Serving) (limits : Limits) (channel : ℕ) (first : State × A) → Begins x limits channel
-      → Keeps changes x limits channel first [] [] [] first
+  pub keeps-first : (x : Serving) (limits : Limits) (channel : ℕ) (first : State × A) → BeginsServing x limits channel
+      → OwesNothing changes x limits channel first [] [] [] first
   keeps-first x limits channel first b = record {
     limits_is = b.limits_is;
     channel_is = b.channel_is;
@@ -78,7 +78,7 @@ module _ {A : Type 0} (changes : A → State → A → State → Type 0) where
     acts_first = tt;
     moments_are = sym (ap listed b.none_kept);
     stands = b.stands first.0;
-    kept_is = subst (λ (m : Option DateTime). IsKept limits channel [] m) (sym b.none_kept) (inl refl);
+    kept_is = subst (λ (m : Option DateTime). IsTimeKept limits channel [] m) (sym b.none_kept) (inl refl);
     greeted_is = b.not_greeted;
     count_is = b.none_written;
     said_is = refl;
@@ -103,7 +103,7 @@ module _ {A : Type 0} (changes : A → State → A → State → Type 0) where
 
   -- the application acted
   module _ (x : Serving) (limits : Limits) (channel : ℕ) (first : State × A) (read written : List ℕ) (ticks : List Event) (before after : State) (a b : A)
-      (k : Keeps changes x limits channel first read written ticks (before, a))
+      (k : OwesNothing changes x limits channel first read written ticks (before, a))
       (did : changes a before b after) (alone : after ≡ with_nodes before after.nodes) where
     told-same : told_in (k.history ++ Became after.nodes before.made ∷ []) ≡ told_in k.history
     told-same = told_in-append k.history (Became after.nodes before.made ∷ []) ∙ append-nil (told_in k.history)
@@ -111,7 +111,7 @@ module _ {A : Type 0} (changes : A → State → A → State → Type 0) where
     state-there : (course_over channel (start first.0 []) k.history).state ≡ before
     state-there = ap (λ (n : ℕ). (course_over n (start first.0 []) k.history).state) (sym k.channel_is) ∙ k.stands.state_is
 
-    pub acted : (j : Keeps changes x limits channel first read written ticks (after, b)) × (has_acted false j.history ≡ true)
+    pub acted : (j : OwesNothing changes x limits channel first read written ticks (after, b)) × (has_acted false j.history ≡ true)
     acted = (
       record {
         limits_is = k.limits_is;

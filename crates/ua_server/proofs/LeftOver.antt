@@ -18,7 +18,7 @@ use Rattle.ua_channel.specs.ServerTold.{Told, Agreed, Opened, Asked, GaveUp, Clo
 use Rattle.ua_server.proofs.SaidInParts.{used_in-append}
 use Rattle.ua_server.specs.Said.{is_answered, used_in, times_used_by}
 use Rattle.ua_server.specs.Serving.{AreAsked, EndsAnswered, EndsRefused, IsUsedUp}
-use Rattle.ua_server.specs.ServingParts.{IsKept}
+use Rattle.ua_server.specs.ServingParts.{IsTimeKept}
 
 -- ---- lists
 
@@ -139,7 +139,7 @@ module _ (limits : Limits) (channel : ℕ) where
   -- the moment that is kept behind an answer
   pub answer-kept : (greeted : Bool) (t : Told) (m : DateTime) (octets : List ℕ) (frames : List Frame) (frame : Frame) → IsTrue (is_answered t)
       → (greeted ≡ false → (a : Agreement) × (t ≡ Agreed a)) → (greeted ≡ true → (a : Agreement) → t ≡ Agreed a → ⊥)
-      → Run rules octets (frames ++ frame ∷ []) [] Going → rules.tells frames frame ≡ t ∷ [] → IsKept limits channel octets (cond greeted None (Some m))
+      → Run rules octets (frames ++ frame ∷ []) [] Going → rules.tells frames frame ≡ t ∷ [] → IsTimeKept limits channel octets (cond greeted None (Some m))
   answer-kept false (Agreed a) m octets frames frame h first later run tells = unused-left octets frames frame run (ap used_in tells)
   answer-kept true (Agreed a) m octets frames frame h first later run tells = absurd (later refl a refl)
   answer-kept false (Opened id handle token lifetime) m octets frames frame h first later run tells = let e = (first refl).1 in absurd cc
@@ -154,7 +154,7 @@ module _ (limits : Limits) (channel : ℕ) where
   -- ---- how many are asked for
 
   pub asked-by : (octets : List ℕ) (told : List Told) (used : List DateTime) (kept : Option DateTime) → length used ≡ used_in told
-      → IsKept limits channel octets kept → AreAsked limits channel octets told (used ++ listed kept)
+      → IsTimeKept limits channel octets kept → AreAsked limits channel octets told (used ++ listed kept)
   asked-by octets told used None e k = inl (k, ap length (append-nil used) ∙ e)
   asked-by octets told used (Some m) e k = inr (k, length-append used (m ∷ []) ∙ ap (λ (n : ℕ). n + 1) e)
 

@@ -12,7 +12,7 @@ use Rattle.ua_server.specs.Now.{AdvanceNow, AdvanceNowBy, NowBy, StepNow, standi
 use Rattle.ua_server.specs.Requests.{request_at, requests_of, with_first}
 use Rattle.ua_server.specs.Said.{last_words, course_after, said_of, say}
 use Rattle.ua_server.specs.State.{State}
-use Rattle.ua_server.specs.Stepping.{AdvanceBy, Advances, ServerStands, StepAnswers, StepBy, StepCloses, StepGoes, StepRefuses, Stops, Tells, given_up}
+use Rattle.ua_server.specs.Stepping.{AdvanceBy, Advances, ServerStands, StepAnswers, StepBy, StepCloses, StepGoes, StepRefuses, StepStops, StepTells, given_up}
 use Rattle.ua_server.specs.declared.step.Advanced.{Advanced}
 use Rattle.ua_server.specs.declared.step.End.{End as Ending}
 use Rattle.ua_server.specs.declared.step.End.TheVariants as ending
@@ -30,7 +30,7 @@ listed-is (Some x) (Some y) e = cc
 
 module _ (old new : ServerChannel) (moment : DateTime) (piece octets : List ℕ) (told : List Told) (first : State) (ms : List DateTime) (before now : State)
     (s : ServerStands old octets told first ms before) (same : channel_of new ≡ channel_of old) where
-  goes-by : (n : ℕ) (out quiet : List ℕ) (more : List Told) → Stops new octets piece n out (told ++ given_up quiet) more
+  goes-by : (n : ℕ) (out quiet : List ℕ) (more : List Told) → StepStops new octets piece n out (told ++ given_up quiet) more
       → Goes new (octets ++ take n piece) ((told ++ given_up quiet) ++ more)
       → out ≡ said_of (channel_of old) (standing before (next_of old) (agreed_by told) more moment) more
       → now ≡ (course_after (channel_of old) (standing before (next_of old) (agreed_by told) more moment) more).state
@@ -55,22 +55,22 @@ module _ (old new : ServerChannel) (moment : DateTime) (piece octets : List ℕ)
 
   -- with whether something was answered, and which request
   tells-by : (n : ℕ) (out quiet : List ℕ) (more : List Told) (answered : Bool) (request : Option AnsweredRequest)
-      → Stops new octets piece n out (told ++ given_up quiet) more → Goes new (octets ++ take n piece) ((told ++ given_up quiet) ++ more)
+      → StepStops new octets piece n out (told ++ given_up quiet) more → Goes new (octets ++ take n piece) ((told ++ given_up quiet) ++ more)
       → out ≡ said_of (channel_of old) (standing before (next_of old) (agreed_by told) more moment) more
       → now ≡ (course_after (channel_of old) (standing before (next_of old) (agreed_by told) more moment) more).state
       → next_of new ≡ (course_after (channel_of old) (standing before (next_of old) (agreed_by told) more moment) more).number
       → answered ≡ has_some more → listed request ≡ requests_of (channel_of old) (standing before (next_of old) (agreed_by told) more moment) more
-      → Tells answered request (channel_of old) moment piece n out new octets told first ms now
+      → StepTells answered request (channel_of old) moment piece n out new octets told first ms now
   tells-by n out quiet [] answered request stops goes said state number a r =
-      subst (λ (b : Bool). Tells b request (channel_of old) moment piece n out new octets told first ms now) (sym a)
-      (subst (λ (q : Option AnsweredRequest). Tells false q (channel_of old) moment piece n out new octets told first ms now) (sym (listed-is request None r))
-      (subst (λ (o : List ℕ). Tells false None (channel_of old) moment piece n o new octets told first ms now) (sym said)
-      (subst (λ (t : State). Tells false None (channel_of old) moment piece n [] new octets told first ms t) (sym state)
+      subst (λ (b : Bool). StepTells b request (channel_of old) moment piece n out new octets told first ms now) (sym a)
+      (subst (λ (q : Option AnsweredRequest). StepTells false q (channel_of old) moment piece n out new octets told first ms now) (sym (listed-is request None r))
+      (subst (λ (o : List ℕ). StepTells false None (channel_of old) moment piece n o new octets told first ms now) (sym said)
+      (subst (λ (t : State). StepTells false None (channel_of old) moment piece n [] new octets told first ms t) (sym state)
       (goes-silent old new moment piece n octets told first ms before quiet s same stops.0
       (subst (λ (t : List Told). Goes new (octets ++ take n piece) t) (append-nil (told ++ given_up quiet)) goes) number))))
   tells-by n out quiet (t ∷ []) answered request stops goes said state number a r =
       let c = standing before (next_of old) (agreed_by told) (t ∷ []) moment in
-      subst (λ (b : Bool). Tells b request (channel_of old) moment piece n out new octets told first ms now) (sym a)
+      subst (λ (b : Bool). StepTells b request (channel_of old) moment piece n out new octets told first ms now) (sym a)
       (goes-saying old new moment piece n octets told first ms before quiet s same request t out now (stops.0, stops.1) stops.3
       (record {
         out_is = sym (said ∙ append-nil (say (channel_of old) c t).0);

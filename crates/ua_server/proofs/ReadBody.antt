@@ -7,7 +7,7 @@ use Rattle.ua_builtin.specs.NodeId.{node_id}
 use Rattle.ua_builtin.specs.Number.{number_octets}
 use Rattle.ua_builtin.specs.declared.date_time.DateTime.{DateTime}
 use Rattle.ua_builtin.specs.Format.{Format}
-use Rattle.ua_nodes.specs.Read.{answer_octets, read_answer}
+use Rattle.ua_nodes.specs.Read.{result_octets, read_answer}
 use Rattle.ua_nodes.specs.Table.{Nodes, node_at}
 use Rattle.ua_nodes.specs.Within.{IsWithin}
 use Rattle.ua_nodes.specs.declared.stamps.Stamps.{Stamps}
@@ -19,7 +19,7 @@ use Rattle.ua_services.specs.declared.response.ResponseKind.TheVariants.{Read}
 use Rattle.ua_opening.specs.Array.{array}
 use Rattle.ua_structures.specs.Attribute.{read_response}
 use Rattle.ua_opening.specs.Header.{response_header}
-use Rattle.ua_structures.specs.Plain.{values_of}
+use Rattle.ua_structures.specs.Plain.{read_response_of}
 use Rattle.ua_structures.specs.Results.{AddsResponse}
 use Rattle.ua_structures.specs.declared.attribute.ReadValueId.{ReadValueId}
 use Rattle.ua_opening.specs.declared.header.ResponseHeader.{ResponseHeader}
@@ -43,7 +43,7 @@ unfolding array
 array_octets values = refl
 
 no_diagnostics : (header : ResponseHeader) (values : List DataValue)
-    → read_response.canonical (values_of header values) ≡ response_header.canonical header
+    → read_response.canonical (read_response_of header values) ≡ response_header.canonical header
     ++ ((array data_value_format).canonical (Some values) ++ number_octets 4 null_count)
 unfolding read_response array
 no_diagnostics header values = refl
@@ -56,10 +56,10 @@ value_octets (bare f) = refl
 value_octets (valued v f) = refl
 
 results_octets : (nodes : Nodes) (items : List ReadValueId) (stamps : Stamps) (moment : DateTime)
-    → flat_map (answer_octets nodes stamps moment) items ≡ flat_map data_value_format.canonical (read_answers nodes items stamps moment)
+    → flat_map (result_octets nodes stamps moment) items ≡ flat_map data_value_format.canonical (read_answers nodes items stamps moment)
 results_octets nodes [] stamps moment = refl
 results_octets nodes (item ∷ items) stamps moment =
-    ap (λ (b : List ℕ). b ++ flat_map (answer_octets nodes stamps moment) items) (value_octets (read_answer (node_at nodes item.node_id) item stamps moment))
+    ap (λ (b : List ℕ). b ++ flat_map (result_octets nodes stamps moment) items) (value_octets (read_answer (node_at nodes item.node_id) item stamps moment))
     ∙ ap (λ (b : List ℕ). data_value_format.canonical (value_from (read_answer (node_at nodes item.node_id) item stamps moment)) ++ b)
     (results_octets nodes items stamps moment)
 
@@ -79,8 +79,8 @@ regrouped id header count values last =
     ∙ ap (λ (b : List ℕ). id ++ (header ++ b)) (sym (append_assoc count values last))
 
 written_whole : (header : ResponseHeader) (nodes : Nodes) (items : List ReadValueId) (stamps : Stamps) (moment : DateTime)
-    → (front header (length items) ++ flat_map (answer_octets nodes stamps moment) items) ++ number_octets 4 null_count
-    ≡ response.canonical (ReadMessage (values_of header (read_answers nodes items stamps moment)))
+    → (front header (length items) ++ flat_map (result_octets nodes stamps moment) items) ++ number_octets 4 null_count
+    ≡ response.canonical (ReadMessage (read_response_of header (read_answers nodes items stamps moment)))
 written_whole header nodes items stamps moment =
     let values = read_answers nodes items stamps moment in
     ap (λ (b : List ℕ). (front header (length items) ++ b) ++ number_octets 4 null_count) (results_octets nodes items stamps moment)
@@ -90,7 +90,7 @@ written_whole header nodes items stamps moment =
     ∙ ap (λ (b : List ℕ). node_id.canonical (standard 634) ++ (response_header.canonical header ++ (b ++ number_octets 4 null_count)))
     (sym (array_octets values))
     ∙ ap (λ (b : List ℕ). node_id.canonical (standard 634) ++ b) (sym (no_diagnostics header values))
-    ∙ sym (response-canonical Read (values_of header values))
+    ∙ sym (response-canonical Read (read_response_of header values))
 
 -- the front, as it is written: the NodeId and the header, and behind them the count
 front-parts : (header : ResponseHeader) (results : ℕ) → (node_id.canonical (standard 634) ++ response_header.canonical header) ++ number_octets 4 results
@@ -109,11 +109,11 @@ null_fits {A = A} format items is = subst (λ (o : Option (List A)). IsTrue ((ar
 pub written_parts : (most : Option ℕ) (header : ResponseHeader) (nodes : Nodes) (items : List ReadValueId) (stamps : Stamps) (moment : DateTime)
     (id body : List ℕ)
     → id ≡ node_id.canonical (standard 634)
-    → AddsResponse (λ old new. IsWithin most (answer_octets nodes stamps moment) items (old ++ number_octets 4 (length items)) new) header None id body
-    → (results : List ℕ) × IsWithin most (answer_octets nodes stamps moment) items (front header (length items)) results
+    → AddsResponse (λ old new. IsWithin most (result_octets nodes stamps moment) items (old ++ number_octets 4 (length items)) new) header None id body
+    → (results : List ℕ) × IsWithin most (result_octets nodes stamps moment) items (front header (length items)) results
     × (body ≡ results ++ number_octets 4 null_count)
 written_parts most header nodes items stamps moment id body is adds =
-    let named = λ (b : List ℕ). IsWithin most (answer_octets nodes stamps moment) items b adds.behind in (
+    let named = λ (b : List ℕ). IsWithin most (result_octets nodes stamps moment) items b adds.behind in (
       adds.behind,
       subst named (front-parts header (length items))
           (subst (λ (i : List ℕ). named ((i ++ response_header.canonical header) ++ number_octets 4 (length items))) is adds.results),
@@ -123,12 +123,12 @@ written_parts most header nodes items stamps moment id body is adds =
 -- the body that is written, which may have been given up
 pub written_within : (most : Option ℕ) (header : ResponseHeader) (nodes : Nodes) (items : List ReadValueId) (stamps : Stamps) (moment : DateTime)
     (results body : List ℕ)
-    → IsWithin most (answer_octets nodes stamps moment) items (front header (length items)) results → body ≡ results ++ number_octets 4 null_count
-    → IsBodyWithin most (response.canonical (ReadMessage (values_of header (read_answers nodes items stamps moment)))) body
+    → IsWithin most (result_octets nodes stamps moment) items (front header (length items)) results → body ≡ results ++ number_octets 4 null_count
+    → IsBodyWithin most (response.canonical (ReadMessage (read_response_of header (read_answers nodes items stamps moment)))) body
 written_within most header nodes items stamps moment results body within is =
-    let all = front header (length items) ++ flat_map (answer_octets nodes stamps moment) items in
-    let whole = response.canonical (ReadMessage (values_of header (read_answers nodes items stamps moment))) in
-    elim (whole_or_past most (answer_octets nodes stamps moment) items (front header (length items)) results within) [
+    let all = front header (length items) ++ flat_map (result_octets nodes stamps moment) items in
+    let whole = response.canonical (ReadMessage (read_response_of header (read_answers nodes items stamps moment))) in
+    elim (whole_or_past most (result_octets nodes stamps moment) items (front header (length items)) results within) [
       | inl e ↦ inl (is ∙ ap (λ (b : List ℕ). b ++ number_octets 4 null_count) e ∙ written_whole header nodes items stamps moment)
       | inr p ↦
           let few : length body ≡ length results + length (number_octets 4 null_count) = ap length is ∙ length-append results (number_octets 4 null_count) in

@@ -11,8 +11,8 @@ use Rattle.ua_nodes.specs.Table.{Nodes}
 use Rattle.ua_server.specs.History.{ConnectionEvent, Heard, Became, EndedAt, EndsOver, IsHandled, OverBy, ResultOver, StandsOver}
 use Rattle.ua_server.specs.History.{StepOver, course_over, event_answer, heard_at, output_over, told_in, with_changes}
 use Rattle.ua_server.specs.Sharing.{SharedEvent, At, Changed, Own, SharedState, AmongBy, EndsAmong, OthersStand, ResultAmong, StandsAmong, StepAmong}
-use Rattle.ua_server.specs.Sharing.{answer_at, at_moment, course_at, opened, seen_as, seen_by, sent_at, sent_to, shared_by, shared_over, told_by, with_course}
-use Rattle.ua_server.specs.Said.{Course, first_of, last_words, say, start}
+use Rattle.ua_server.specs.Sharing.{answer_at, at_moment, course_at, opened, seen_as, seen_by, sent_for_event, sent_to, shared_by, shared_over, told_by, with_course}
+use Rattle.ua_server.specs.Said.{Course, first_time, last_words, say, start}
 use Rattle.ua_server.specs.State.{State, begun, with_nodes, with_session}
 use Rattle.ua_server.specs.Stepping.{times_of_answers}
 use Rattle.ua_server.specs.declared.endpoint.Endpoint.{Endpoint}
@@ -47,7 +47,7 @@ Stays s t = (t.endpoint ≡ s.endpoint) × (t.memory_limit ≡ s.memory_limit)
 say-stays : (channel : ℕ) (c : Course) (t : Told) → Stays c.state (say channel c t).1.state
 say-stays channel c (Agreed agreement) = (refl, refl)
 say-stays channel c (Opened id handle token lifetime) = (refl, refl)
-say-stays channel c (Asked id token octets) = (answered-stays c.state (first_of c.moments) octets, answered-limit c.state (first_of c.moments) octets)
+say-stays channel c (Asked id token octets) = (answered-stays c.state (first_time c.moments) octets, answered-limit c.state (first_time c.moments) octets)
 say-stays channel c (GaveUp id) = (refl, refl)
 say-stays channel c Closed = (refl, refl)
 
@@ -104,7 +104,7 @@ course-other p j k c apart =
 abbrev SeesOne : (ℕ → ℕ) → ℕ → SharedState → SharedEvent → Type 0
 SeesOne channels k p e =
     (course_at (shared_by channels p e) k ≡ (event_answer (channels k) (course_at p k) (seen_as channels k p e)).1)
-    × (sent_at channels k p e ≡ (event_answer (channels k) (course_at p k) (seen_as channels k p e)).0)
+    × (sent_for_event channels k p e ≡ (event_answer (channels k) (course_at p k) (seen_as channels k p e)).0)
 
 sees-one : (channels : ℕ → ℕ) (k : ℕ) (p : SharedState) (e : SharedEvent) → SeesOne channels k p e
 sees-one channels k p (Changed nodes) = (refl, refl)
@@ -145,7 +145,7 @@ pub sent-seen : (channels : ℕ → ℕ) (k : ℕ) (p : SharedState) (es : List 
     → sent_to channels k p es ≡ output_over (channels k) (course_at p k) (seen_by channels k p es)
 sent-seen channels k p [] = refl
 sent-seen channels k p (e ∷ es) =
-    ap (λ (o : List ℕ). sent_at channels k p e ++ o) (sent-seen channels k (shared_by channels p e) es
+    ap (λ (o : List ℕ). sent_for_event channels k p e ++ o) (sent-seen channels k (shared_by channels p e) es
     ∙ ap (λ (c : Course). output_over (channels k) c (seen_by channels k (shared_by channels p e) es)) (sees-one channels k p e).0)
     ∙ ap (λ (o : List ℕ). o ++ output_over (channels k) (event_answer (channels k) (course_at p k) (seen_as channels k p e)).1
     (seen_by channels k (shared_by channels p e) es)) (sees-one channels k p e).1
@@ -182,8 +182,8 @@ pub sent-append : (channels : ℕ → ℕ) (k : ℕ) (p : SharedState) (a b : Li
     ++ sent_to channels k (shared_over channels p a) b
 sent-append channels k p [] b = refl
 sent-append channels k p (e ∷ a) b =
-    ap (λ (o : List ℕ). sent_at channels k p e ++ o) (sent-append channels k (shared_by channels p e) a b)
-    ∙ sym (append_assoc (sent_at channels k p e) (sent_to channels k (shared_by channels p e) a)
+    ap (λ (o : List ℕ). sent_for_event channels k p e ++ o) (sent-append channels k (shared_by channels p e) a b)
+    ∙ sym (append_assoc (sent_for_event channels k p e) (sent_to channels k (shared_by channels p e) a)
     (sent_to channels k (shared_over channels (shared_by channels p e) a) b))
 
 pub told-append : (k : ℕ) (a b : List SharedEvent) → told_by k (a ++ b) ≡ told_by k a ++ told_by k b

@@ -19,7 +19,7 @@ use Rattle.ua_structures.specs.Discovery.{application_description, get_endpoints
 use Rattle.ua_opening.specs.Field.{byte_string, string, uint32}
 use Rattle.ua_opening.specs.Header.{request_header, response_header, service_fault}
 use Rattle.ua_opening.specs.Plain.{service_fault_of}
-use Rattle.ua_structures.specs.Plain.{statuses_of, values_of}
+use Rattle.ua_structures.specs.Plain.{write_response_of, read_response_of}
 use Rattle.ua_structures.specs.Session.{activate_session_request, close_session_request, close_session_response, create_session_request}
 use Rattle.ua_structures.specs.declared.attribute.ReadRequest.{ReadRequest}
 use Rattle.ua_structures.specs.declared.attribute.ReadValueId.{ReadValueId}
@@ -31,8 +31,8 @@ use Rattle.ua_structures.specs.declared.session.CloseSessionRequest.{CloseSessio
 use Rattle.ua_structures.specs.declared.session.CreateSessionRequest.{CreateSessionRequest}
 use Rattle.ua_opening.proofs.PlainFits.{response_header_fits}
 use Rattle.ua_structures.proofs.PlainFits.{read_response_fits, write_response_fits}
-use Rattle.ua_services.specs.Request.{request, kind_of}
-use Rattle.ua_services.specs.Response.{Answers, own_answer, response, kind_of as kind_of_response}
+use Rattle.ua_services.specs.Request.{request, kind_of_request}
+use Rattle.ua_services.specs.Response.{Answers, own_answer, response, kind_of_response}
 use Rattle.ua_services.specs.declared.request.Request.{Request}
 use Rattle.ua_services.specs.declared.request.Request.TheVariants.{GetEndpoints, CreateSession, ActivateSession, CloseSession, Read, Write}
 use Rattle.ua_services.specs.declared.request.RequestKind.{RequestKind}
@@ -41,7 +41,7 @@ use Rattle.ua_services.specs.declared.response.Response.{Response}
 use Rattle.ua_services.specs.declared.response.ResponseKind.TheVariants as answer_kind
 use Rattle.ua_services.proofs.ByKind.{request-encodable, response-encodable}
 use Rattle.ua_nodes.specs.Read.{read_answer, stamps_numbered}
-use Rattle.ua_nodes.specs.Sound.{IsSound}
+use Rattle.ua_nodes.specs.Sound.{AreNodesSound}
 use Rattle.ua_nodes.specs.Table.{Nodes, node_at}
 use Rattle.ua_nodes.specs.declared.stamps.Stamps.{Stamps}
 use Rattle.ua_nodes.specs.Limit.{limited_answers, roomy_items}
@@ -69,7 +69,7 @@ unless_answers : (k : RequestKind) (reason : Option ℕ) (s : State) (moment : D
 unless_answers k None s moment asking given own = inl own
 unless_answers k (Some code) s moment asking given own = inr refl
 
-pub answer_kind_is : (s : State) (moment : DateTime) (m : Request) → Answers (kind_of_response (answer s moment m).1) (kind_of m)
+pub answer_kind_is : (s : State) (moment : DateTime) (m : Request) → Answers (kind_of_response (answer s moment m).1) (kind_of_request m)
 answer_kind_is s moment (GetEndpoints m) = inl refl
 answer_kind_is s moment (CreateSession m) = unless_answers kind.CreateSession (first_reason (create_reasons s)) s moment m.request_header
     (with_next_session s, session_given s moment m) refl
@@ -243,7 +243,7 @@ unfolding data_value_format
 value_fits (bare f) h = h
 value_fits (valued v f) h = h
 
-answers_read : (nodes : Nodes) (items : List ReadValueId) (stamps : Stamps) (moment : DateTime) → IsTrue (date_time.encodable moment) → IsSound nodes
+answers_read : (nodes : Nodes) (items : List ReadValueId) (stamps : Stamps) (moment : DateTime) → IsTrue (date_time.encodable moment) → AreNodesSound nodes
     → IsTrue (list_all data_value_format.encodable (read_answers nodes items stamps moment))
 answers_read nodes [] stamps moment dated sound = refl
 answers_read nodes (item ∷ items) stamps moment dated sound =
@@ -289,7 +289,7 @@ answer_fits s moment (Read m) h dated fits =
     (λ free.
     let few = few_read s m free in
     let count = results_count s.nodes items stamps moment in
-    values_fit (values_of (good_header moment m.request_header) (read_answers s.nodes items stamps moment))
+    values_fit (read_response_of (good_header moment m.request_header) (read_answers s.nodes items stamps moment))
     (read_response_fits (good_header moment m.request_header) (read_answers s.nodes items stamps moment) (good_fits moment m.request_header dated small)
     (omega (arith, few, count))
     (answers_read s.nodes items stamps moment dated h.nodes)))
@@ -302,6 +302,6 @@ answer_fits s moment (Write m) h dated fits =
     let few = few_written s m free in
     let limit = s.memory_limit in
     let count = answers_count limit s.nodes items in
-    statuses_fit (statuses_of (good_header moment m.request_header) (limited_answers limit s.nodes items))
+    statuses_fit (write_response_of (good_header moment m.request_header) (limited_answers limit s.nodes items))
     (write_response_fits (good_header moment m.request_header) (limited_answers limit s.nodes items) (good_fits moment m.request_header dated small)
     (omega (arith, few, count)) (answers_fit limit s.nodes items)))

@@ -6,7 +6,7 @@ use Rattle.ua_builtin.specs.Reasons.{first_reason}
 use Rattle.ua_builtin.specs.Status.{status_code}
 use Rattle.ua_builtin.specs.declared.status_code.StatusCode.{StatusCode}
 use Rattle.ua_nodes.proofs.Fits.{both_are}
-use Rattle.ua_nodes.specs.Limit.{answer_within, answers_within, limited_answers, outgrows, room_after, room_of}
+use Rattle.ua_nodes.specs.Limit.{answer_within, answers_within, limited_answers, outgrows, room_after, room_left}
 use Rattle.ua_nodes.specs.Status.{bad_attribute_id_invalid, bad_not_writable, bad_out_of_memory, bad_write_not_supported, bad_type_mismatch}
 use Rattle.ua_nodes.specs.Table.{Nodes, node_at}
 use Rattle.ua_nodes.specs.Write.{good_or, write_item_reasons, write_answer, write_answers}
@@ -72,8 +72,8 @@ within_count room nodes (item ∷ items) = ap suc (within_count (room_after room
 
 pub answers_fit : (most : Option ℕ) (nodes : Nodes) (items : List WriteValue) → IsTrue (list_all status_code.encodable (limited_answers most nodes items))
 answers_fit None nodes items = all_fit nodes items
-answers_fit (Some most) nodes items = within_fit (room_of most nodes) nodes items
+answers_fit (Some most) nodes items = within_fit (room_left most nodes) nodes items
 
 pub answers_count : (most : Option ℕ) (nodes : Nodes) (items : List WriteValue) → length (limited_answers most nodes items) ≡ length items
 answers_count None nodes items = all_count nodes items
-answers_count (Some most) nodes items = within_count (room_of most nodes) nodes items
+answers_count (Some most) nodes items = within_count (room_left most nodes) nodes items

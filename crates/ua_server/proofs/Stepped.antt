@@ -14,7 +14,7 @@ use Rattle.ua_server.specs.Now.{AdvanceNowBy, AdvanceNow}
 use Rattle.ua_server.specs.Served.{channel_in}
 use Rattle.ua_server.specs.Serving.{moment_of, moments_in}
 use Rattle.ua_server.specs.ServingOver.{has_acted}
-use Rattle.ua_server.specs.ServingParts.{Asked, Keeps, AdvancesTo, FailsTelling, OfEventsBetween, Steps, noted}
+use Rattle.ua_server.specs.ServingParts.{Asked, OwesNothing, AdvancesTo, FailsTelling, OfEventsBetween, Steps, noted}
 use Rattle.ua_server.specs.State.{State}
 use Rattle.ua_server.specs.declared.server.Server.{Server}
 use Rattle.ua_server.specs.declared.serving.Serving.{Serving}
@@ -45,7 +45,7 @@ module _ {M W A : Type 0} (changes : A → State → A → State → Type 0) (gi
     (answers : (octets : List ℕ) (told : List Told) → Goes (channel_in mid.server) octets told
     → AdvanceNow (limits_of (channel_in mid.server)) (channel_of (channel_in mid.server)) (next_of (channel_in mid.server)) mom piece result
     (channel_in server) octets told now0 now1)
-    (k : Keeps changes x limits channel first read written given (now0, app)) (acted : has_acted false k.history ≡ true) where
+    (k : OwesNothing changes x limits channel first read written given (now0, app)) (acted : has_acted false k.history ≡ true) where
   abbrev l : Limits
   l = limits_of (channel_in x.server)
 
@@ -62,10 +62,10 @@ module _ {M W A : Type 0} (changes : A → State → A → State → Type 0) (gi
   chan-here = chan ∙ ap (λ (s : Server). channel_of (channel_in s)) same
 
   -- at its own limits and channel
-  own : (j : Keeps changes x l c first read written given (now0, app)) × (has_acted false j.history ≡ true)
+  own : (j : OwesNothing changes x l c first read written given (now0, app)) × (has_acted false j.history ≡ true)
   own =
-      subst (λ (v : Limits). (j : Keeps changes x v c first read written given (now0, app)) × (has_acted false j.history ≡ true)) (sym k.limits_is)
-      (subst (λ (n : ℕ). (j : Keeps changes x limits n first read written given (now0, app)) × (has_acted false j.history ≡ true)) (sym k.channel_is)
+      subst (λ (v : Limits). (j : OwesNothing changes x v c first read written given (now0, app)) × (has_acted false j.history ≡ true)) (sym k.limits_is)
+      (subst (λ (n : ℕ). (j : OwesNothing changes x limits n first read written given (now0, app)) × (has_acted false j.history ≡ true)) (sym k.channel_is)
       (k, acted))
 
   advanced : AdvanceNow l c (next_of (channel_in x.server)) mom piece result (channel_in server) read (told_in own.0.history) now0 now1

@@ -16,8 +16,8 @@ use Rattle.ua_channel.specs.declared.server.ServerChannel.{ServerChannel}
 use Rattle.ua_server.specs.Reply.{answered}
 use Rattle.ua_server.specs.Said.{Course, start, with_more, say, said_of, course_after, last_words, output_of, state_after, used_in, is_answered, lane_at}
 use Rattle.ua_server.specs.State.{State}
-use Rattle.ua_server.specs.Requests.{request_at, request_answered, requests}
-use Rattle.ua_server.specs.Stepping.{IsReplyAt, given_up, ServerStands, times_of_answers, StepCloses, StepRefuses, Tells}
+use Rattle.ua_server.specs.Requests.{request_at, request_answered, requests_answered}
+use Rattle.ua_server.specs.Stepping.{IsReplyAt, given_up, ServerStands, times_of_answers, StepCloses, StepRefuses, StepTells}
 use Rattle.ua_server.specs.declared.watch.AnsweredRequest.{AnsweredRequest}
 use Rattle.ua_server.proofs.RequestsInParts.{requests-silent, requests-one}
 use Rattle.ua_server.proofs.SaidInParts.{used_in-append, left_by-uses, left-append, said-append, left-more, said-more}
@@ -200,15 +200,15 @@ module _ (old new : ServerChannel) (moment : DateTime) (piece : List ℕ) (n : �
 
   -- nothing is answered
   pub goes-silent : n ≡ length piece → Goes new (octets ++ take n piece) (told ++ given_up quiet) → next_of new ≡ next_of old
-      → Tells false None (channel_of old) moment piece n [] new octets told first ms before
+      → StepTells false None (channel_of old) moment piece n [] new octets told first ms before
   goes-silent whole goes next =
       let ts = append-nil (told ++ given_up quiet) in
       let moments = append-nil ms in
       record {
         answered_is = refl;
-        requests_are = ap (λ (x : List DateTime). requests (channel_of old) first ((told ++ given_up quiet) ++ []) x) moments
-            ∙ (ap (λ (x : List Told). requests (channel_of old) first x ms) ts
-            ∙ (requests-silent (channel_of old) first told quiet ms ∙ sym (append-nil (requests (channel_of old) first told ms))));
+        requests_are = ap (λ (x : List DateTime). requests_answered (channel_of old) first ((told ++ given_up quiet) ++ []) x) moments
+            ∙ (ap (λ (x : List Told). requests_answered (channel_of old) first x ms) ts
+            ∙ (requests-silent (channel_of old) first told quiet ms ∙ sym (append-nil (requests_answered (channel_of old) first told ms))));
         goes = record {
           quiet = quiet;
           more = [];
@@ -231,7 +231,7 @@ module _ (old new : ServerChannel) (moment : DateTime) (piece : List ℕ) (n : �
   pub goes-saying : (request : Option AnsweredRequest) (t : Told) (out : List ℕ) (now : State) → (0 < n) × (n ≤ length piece)
       → GoesTelling new (octets ++ take n piece) (told ++ given_up quiet) t
       → Says request (channel_of old) (next_of old) (next_of new) moment before now (agreed_by told) t out
-      → Tells true request (channel_of old) moment piece n out new octets told first ms now
+      → StepTells true request (channel_of old) moment piece n out new octets told first ms now
   goes-saying request t out now counts goes says =
       let extra = times_of_answers (t ∷ []) moment in
       let c = course before (next_of old) [] (agreed_by told) in
@@ -242,7 +242,7 @@ module _ (old new : ServerChannel) (moment : DateTime) (piece : List ℕ) (n : �
         requests_are = requests-one (channel_of old) first (told ++ given_up quiet) t ms extra c behind room
             ∙ (ap (λ (r : List AnsweredRequest). r ++ listed (request_at (channel_of old) (course before (next_of old) extra (agreed_by told)) t))
             (requests-silent (channel_of old) first told quiet ms)
-            ∙ ap (λ (r : Option AnsweredRequest). requests (channel_of old) first told ms ++ listed r) says.request_is);
+            ∙ ap (λ (r : Option AnsweredRequest). requests_answered (channel_of old) first told ms ++ listed r) says.request_is);
         goes = record {
           quiet = quiet;
           more = t ∷ [];

@@ -11,7 +11,7 @@ use Rattle.ua_channel.specs.ServerTold.{Told, Agreed, Opened, Asked, GaveUp, Clo
 use Rattle.ua_channel.specs.declared.server.ServerChannel.{ServerChannel}
 use Rattle.ua_channel.specs.declared.server_event.ServerEvent.TheVariants as event
 use Rattle.ua_nodes.specs.Table.{Nodes, node_at}
-use Rattle.ua_nodes.specs.Limit.{answers_within, items_within, limited_answers, outgrows, room_after, room_of}
+use Rattle.ua_nodes.specs.Limit.{answers_within, items_within, limited_answers, outgrows, room_after, room_left}
 use Rattle.ua_nodes.specs.Status.{bad_out_of_memory}
 use Rattle.ua_nodes.specs.Write.{write_answer, write_answers}
 use Rattle.ua_services.specs.Request.{request_read}
@@ -26,7 +26,7 @@ use Rattle.ua_server.specs.Attributes.{items_of, read_reasons, statuses_given, v
 use Rattle.ua_server.specs.Reply.{answered, answered_by}
 use Rattle.ua_server.specs.State.{State}
 use Rattle.ua_server.specs.Stepping.{AnswersBehind, given_up}
-use Rattle.ua_server.specs.Stored.{begins_good, behind_code, good_items, is_good, items_written, results_of, stored_as, stored_items, stored_of, unless_refused}
+use Rattle.ua_server.specs.Stored.{begins_good, behind_code, good_items, is_good, items_written, results_of, stored_as, stored_items, stored_of, stored_unless_refused}
 use Rattle.ua_server.specs.Storing.{StoresBy, stored_at}
 use Rattle.ua_server.specs.declared.step.End.{End as Ending}
 use Rattle.ua_server.specs.declared.step.Step.{Step}
@@ -59,11 +59,11 @@ good-within room nodes (item ∷ items) =
 
 good-stored : (most : Option ℕ) (nodes : Nodes) (items : List WriteValue) → good_items items (limited_answers most nodes items) ≡ stored_items most nodes items
 good-stored None nodes items = good-all nodes items
-good-stored (Some most) nodes items = good-within (room_of most nodes) nodes items
+good-stored (Some most) nodes items = good-within (room_left most nodes) nodes items
 
 good-unless : (o : Option ℕ) (s : State) (moment : DateTime) (m : WriteRequest)
     → good_items (items_of m.nodes_to_write) (items_of (results_of (unless o s moment m.request_header (with_written s moment m, statuses_given s moment m)).1))
-    ≡ unless_refused o (stored_items s.memory_limit s.nodes (items_of m.nodes_to_write))
+    ≡ stored_unless_refused o (stored_items s.memory_limit s.nodes (items_of m.nodes_to_write))
 good-unless None s moment m = good-stored s.memory_limit s.nodes (items_of m.nodes_to_write)
 good-unless (Some code) s moment m = good_nothing (items_of m.nodes_to_write)
 

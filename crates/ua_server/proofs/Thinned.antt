@@ -9,14 +9,14 @@ use Rattle.ua_builtin.specs.declared.status_code.StatusCode.{StatusCode}
 use Rattle.ua_nodes.specs.Table.{Nodes}
 use Rattle.ua_nodes.specs.Limit.{after_limited, limited_answers}
 use Rattle.ua_nodes.specs.Write.{nodes_take}
-use Rattle.ua_services.specs.Request.{kind_of, thin_read, thin_request}
+use Rattle.ua_services.specs.Request.{kind_of_request, thin_read, thin_request}
 use Rattle.ua_services.specs.declared.fault.RequestFault.{RequestFault}
 use Rattle.ua_services.specs.declared.fault.RequestFault.TheVariants.{OutOfMemory}
 use Rattle.ua_services.specs.declared.request.Request.{Request}
 use Rattle.ua_services.specs.declared.request.Request.TheVariants.{Write}
 use Rattle.ua_services.specs.declared.response.Response.{Response}
 use Rattle.ua_services.specs.declared.response.Response.TheVariants.{Write as WriteAnswer}
-use Rattle.ua_structures.specs.Plain.{statuses_of}
+use Rattle.ua_structures.specs.Plain.{write_response_of}
 use Rattle.ua_structures.specs.Thin.{thinned, thinned_request}
 use Rattle.ua_structures.specs.declared.attribute.WriteRequest.{WriteRequest}
 use Rattle.ua_structures.specs.declared.attribute.WriteValue.{WriteValue}
@@ -43,7 +43,7 @@ pub items_asked-kept : (takes : NodeId → ValueType → Bool) (m : Request) →
 items_asked-kept takes (Write m) = count_kept (thinned takes) m.nodes_to_write
 items_asked-kept takes m = refl
 
-pub kind_of-kept : (takes : NodeId → ValueType → Bool) (m : Request) → kind_of (thin_request takes m) ≡ kind_of m
+pub kind_of-kept : (takes : NodeId → ValueType → Bool) (m : Request) → kind_of_request (thin_request takes m) ≡ kind_of_request m
 kind_of-kept takes (Write m) = refl
 kind_of-kept takes m = refl
 
@@ -69,7 +69,7 @@ refused_alike false m n s moment asking one other = refl
 abbrev answer_with : State → DateTime → RequestHeader → Bool → ℕ → Nodes → List StatusCode → State × Response
 answer_with s moment asking active count nodes codes =
     unless (first_reason (reasons (is_own asking.authentication_token s.session) active count)) s moment asking
-    (with_nodes s nodes, WriteAnswer (statuses_of (good_header moment asking) codes))
+    (with_nodes s nodes, WriteAnswer (write_response_of (good_header moment asking) codes))
 
 answered_alike : (s : State) (moment : DateTime) (m : WriteRequest) (active : Bool) → ChangesNothing s.nodes → is_activated s.session ≡ active
     → write_items s moment (thinned_request (λ id t. active && nodes_take s.nodes id t) m) ≡ write_items s moment m
@@ -94,9 +94,9 @@ answered_alike s moment m false same is =
     ap (λ (active : Bool). answer_with s moment m.request_header active (length kept) (after_limited most kept moment s.nodes)
     (limited_answers most s.nodes kept)) is
     ∙ refused_alike (is_own m.request_header.authentication_token s.session) (length kept) (length items) s moment m.request_header
-    (with_nodes s (after_limited most kept moment s.nodes), WriteAnswer (statuses_of (good_header moment m.request_header) (limited_answers most s.nodes kept))) (
+    (with_nodes s (after_limited most kept moment s.nodes), WriteAnswer (write_response_of (good_header moment m.request_header) (limited_answers most s.nodes kept))) (
       with_nodes s (after_limited most items moment s.nodes),
-      WriteAnswer (statuses_of (good_header moment m.request_header) (limited_answers most s.nodes items)),
+      WriteAnswer (write_response_of (good_header moment m.request_header) (limited_answers most s.nodes items)),
     )
     ∙ sym (ap (λ (active : Bool). answer_with s moment m.request_header active (length items) (after_limited most items moment s.nodes)
     (limited_answers most s.nodes items)) is)
@@ -137,10 +137,10 @@ answer_is s read (Ok kept) same (inr h) = absurd cc
 answer_is s read (Err fault) same h = tt
 
 pub kind_is : (takes : NodeId → ValueType → Bool) (read r : Result Request RequestFault) → Reads r (thin_read takes read)
-    → IfOk r (λ kept. kind_asked read ≡ Some (kind_of kept))
+    → IfOk r (λ kept. kind_asked read ≡ Some (kind_of_request kept))
 kind_is takes read (Ok kept) (inl h) =
     let of = kept_ok takes kept read h in
-    ap kind_asked of.read_is ∙ ap Some (sym (ap kind_of of.kept_is ∙ kind_of-kept takes of.whole))
+    ap kind_asked of.read_is ∙ ap Some (sym (ap kind_of_request of.kept_is ∙ kind_of-kept takes of.whole))
 kind_is takes read (Ok kept) (inr h) = absurd cc
 kind_is takes read (Err fault) h = tt
 

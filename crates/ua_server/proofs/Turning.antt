@@ -14,7 +14,7 @@ use Rattle.ua_server.specs.History.{ConnectionEvent, course_over}
 use Rattle.ua_server.specs.Said.{start}
 use Rattle.ua_server.specs.Serving.{moments_in, greatest, MovesTraffic}
 use Rattle.ua_server.specs.ServingOver.{AreMomentsFor, BrokenOver, requests_over, EndedOver, FailedOver}
-use Rattle.ua_server.specs.ServingParts.{Says, counted, AdvancesTo, Exchanged, FailsTelling, OfEventsBetween, Owes, Steps, Turns, TurnsTo}
+use Rattle.ua_server.specs.ServingParts.{WritesCounted, sum_up_to_greatest, AdvancesTo, Exchanged, FailsTelling, OfEventsBetween, Owes, Steps, Turns, TurnsTo}
 use Rattle.ua_server.specs.State.{State}
 use Rattle.ua_server.specs.declared.serve_fault.ServeFault.{ServeFault}
 use Rattle.ua_server.specs.declared.serving.Serving.{Serving}
@@ -30,10 +30,10 @@ use Rattle.ua_server.specs.declared.serve_fault.ServeFault.TheVariants as fault
 counted-on : (n l k m : ℕ) → n ≡ min l greatest → m ≡ l + k → min (n + k) greatest ≡ min m greatest
 counted-on n l k m e f = omega (arith, e, f)
 
-count-all : (n : ℕ) (written out : List ℕ) → n ≡ min (length written) greatest → counted n (length out) ≡ min (length (written ++ out)) greatest
+count-all : (n : ℕ) (written out : List ℕ) → n ≡ min (length written) greatest → sum_up_to_greatest n (length out) ≡ min (length (written ++ out)) greatest
 count-all n written out e = counted-on n (length written) (length out) (length (written ++ out)) e (length-append written out)
 
-count-some : (n k : ℕ) (written out : List ℕ) → n ≡ min (length written) greatest → k ≤ length out → counted n k ≡ min (length (written ++ take k out)) greatest
+count-some : (n k : ℕ) (written out : List ℕ) → n ≡ min (length written) greatest → k ≤ length out → sum_up_to_greatest n k ≡ min (length (written ++ take k out)) greatest
 count-some n k written out e h = counted-on n (length written) k (length (written ++ take k out)) e (length-append written (take k out)
     ∙ ap (λ (i : ℕ). length written + i) (length-take-le k out h))
 
@@ -45,7 +45,7 @@ module _ {A : Type 0} (changes : A → State → A → State → Type 0) (limits
   -- all is written
   owes-written : (x : Serving) (read out written : List ℕ) (ticks : List Event) (now : State × A)
       → Owes changes x limits channel first read out written ticks now
-      → Owes changes (record x { written = counted x.written (length out) }) limits channel first read [] (written ++ out) ticks now
+      → Owes changes (record x { written = sum_up_to_greatest x.written (length out) }) limits channel first read [] (written ++ out) ticks now
   owes-written x read out written ticks now o = record {
     limits_is = o.limits_is;
     channel_is = o.channel_is;
@@ -65,7 +65,7 @@ module _ {A : Type 0} (changes : A → State → A → State → Type 0) (limits
 
   turned : (end : Option Ending) (x : Serving) (read out written : List ℕ) (ticks : List Event) (now : State × A)
       → AdvancesTo changes end x limits channel first read out written ticks now
-      → TurnsTo changes end (record x { written = counted x.written (length out) }) limits channel first read (written ++ out) ticks now
+      → TurnsTo changes end (record x { written = sum_up_to_greatest x.written (length out) }) limits channel first read (written ++ out) ticks now
   turned None x read out written ticks now o = owes-written x read out written ticks now o
   turned (Some end) x read out written ticks now e = record { history = e.history; acted = e.acted; acts_first = e.acts_first; ends = e.ends }
 
@@ -91,7 +91,7 @@ module _ {A : Type 0} (changes : A → State → A → State → Type 0) (limits
   -- the first of it is written
   unwritten : (end : Option Ending) (x : Serving) (read out written : List ℕ) (ticks : List Event) (now : State × A) (k : ℕ) → k < length out
       → AdvancesTo changes end x limits channel first read out written ticks now
-      → FailsTelling changes (fault.Write (counted x.written k)) limits channel first read (written ++ take k out) ticks now
+      → FailsTelling changes (fault.Write (sum_up_to_greatest x.written k)) limits channel first read (written ++ take k out) ticks now
   unwritten None x read out written ticks now k h o = record {
     history = o.history;
     acted = o.acted;
@@ -180,7 +180,7 @@ module _ {A : Type 0} (changes : A → State → A → State → Type 0) (limits
       (now : State × A) where
     pub turn-said : (step : Step) (y z : Serving)
         → OfEventsBetween gives m0 m1 (λ ts. Steps changes (Ok step) y limits channel first piece read written (given ++ ts) now)
-        → z ≡ record y { written = counted y.written (length step.out.items) } → IfTrafficKnown (MovesTraffic [] step.out.items) la lb
+        → z ≡ record y { written = sum_up_to_greatest y.written (length step.out.items) } → IfTrafficKnown (MovesTraffic [] step.out.items) la lb
         → Exchanged gives m0 m1 [] la lb (λ more ts. Turns changes (Ok (record { size = step.taken; outcome = step.end })) z limits channel first piece read
         (written ++ more) (given ++ ts) now)
     turn-said step y z a same moved = record {
@@ -195,7 +195,7 @@ module _ {A : Type 0} (changes : A → State → A → State → Type 0) (limits
 
     pub turn-unsaid : (step : Step) (y z : Serving) (f : ServeFault)
         → OfEventsBetween gives m0 m1 (λ ts. Steps changes (Ok step) y limits channel first piece read written (given ++ ts) now)
-        → Says step.out.items (Err f) y z la lb
+        → WritesCounted step.out.items (Err f) y z la lb
         → Exchanged gives m0 m1 [] la lb (λ more ts. Turns changes (Err f) z limits channel first piece read (written ++ more) (given ++ ts) now)
     turn-unsaid step y z f a s = record {
       written = take s.0 step.out.items;

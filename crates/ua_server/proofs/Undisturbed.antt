@@ -18,10 +18,10 @@ use Rattle.ua_server.proofs.Steps.{course}
 use Rattle.ua_server.specs.Happening.{noted_in}
 use Rattle.ua_server.specs.History.{ConnectionEvent, Became, course_over, heard_at, output_over, told_in}
 use Rattle.ua_server.specs.History.{Heard, event_answer, with_changes, IsUndisturbed, moments_of, answered_at}
-use Rattle.ua_server.specs.Requests.{with_first, request_at, requests_of, requests}
+use Rattle.ua_server.specs.Requests.{with_first, request_at, requests_of, requests_answered}
 use Rattle.ua_server.specs.Said.{say, start, Course, last_words, said_of, course_after, output_of, state_after, used_in}
 use Rattle.ua_server.specs.Serving.{moments_in, ServesTelling, told_at, end_at, AreAsked, BrokenOff}
-use Rattle.ua_server.specs.Serving.{coming_now, Answered, AnsweredTo, ServesBy, TellsBy, AreUsed}
+use Rattle.ua_server.specs.Serving.{coming_now, AnsweredAllRead, AnsweredTo, ServesBy, TellsBy, AreUsed}
 use Rattle.ua_server.specs.ServingOver.{IsSilent, LastSaid, Acts, AllAnswered, BrokenOver, FramesAnswered, ServesApplication, ServesOver, requests_over}
 use Rattle.ua_server.specs.State.{State, with_nodes}
 use Rattle.ua_server.specs.Stepping.{times_of_answers}
@@ -78,8 +78,8 @@ output-is : (channel : ℕ) (s : State) (told : List Told) (end : End ℕ) (ms :
 unfolding output_of
 output-is channel s told end ms = refl
 
-requests-are : (channel : ℕ) (s : State) (told : List Told) (ms : List DateTime) → requests channel s told ms ≡ requests_of channel (start s ms) told
-unfolding requests
+requests-are : (channel : ℕ) (s : State) (told : List Told) (ms : List DateTime) → requests_answered channel s told ms ≡ requests_of channel (start s ms) told
+unfolding requests_answered
 requests-are channel s told ms = refl
 
 -- silent events leave the course as it was
@@ -168,12 +168,12 @@ module _ {A : Type 0} (changes : A → State → A → State → Type 0) (none :
             ∙ (ap (λ (x : List DateTime). said_of channel (start first x) (told_in (heard_only hs))) (heard-moments hs)
             ∙ ap (λ (t : List Told). said_of channel (start first (moments_of hs)) t) (heard-told hs)))
 
-    plain-requests : requests_over channel (start first []) hs ≡ requests channel first (told_in hs) ms
+    plain-requests : requests_over channel (start first []) hs ≡ requests_answered channel first (told_in hs) ms
     plain-requests =
         by-events
         ∙ (sym (requests-are channel first (told_in hs) (moments_of hs))
         ∙ (sym (requests-more channel first (told_in hs) (moments_of hs) more (enough hs))
-        ∙ ap (λ (x : List DateTime). requests channel first (told_in hs) x) (sym are)))
+        ∙ ap (λ (x : List DateTime). requests_answered channel first (told_in hs) x) (sym are)))
       where
         by-events : requests_over channel (start first []) hs ≡ requests_of channel (start first (moments_of hs)) (told_in hs)
         by-events =
@@ -201,13 +201,13 @@ module _ {A : Type 0} (changes : A → State → A → State → Type 0) (none :
     }
 
     plain-told : (frames : List Frame) (rest : List ℕ) (end : End ℕ) → FramesAnswered limits channel first read written moments requested hs now frames rest end
-        → requested ≡ requests channel first (events (server_rules limits channel) frames) moments
+        → requested ≡ requests_answered channel first (events (server_rules limits channel) frames) moments
     plain-told frames rest end f = f.requests_are
-        ∙ (plain-requests first a b hs moments f.moments_are.0 f.moments_are.1 acts ∙ ap (λ (t : List Told). requests channel first t moments) (sym f.told_is))
+        ∙ (plain-requests first a b hs moments f.moments_are.0 f.moments_are.1 acts ∙ ap (λ (t : List Told). requests_answered channel first t moments) (sym f.told_is))
 
     plain-answered : (end : End ℕ) (w : AllAnswered limits channel first read written moments requested hs now end)
-        → (v : Answered limits channel first read written moments now end)
-        × (requested ≡ requests channel first (events (server_rules limits channel) v.frames) moments)
+        → (v : AnsweredAllRead limits channel first read written moments now end)
+        × (requested ≡ requests_answered channel first (events (server_rules limits channel) v.frames) moments)
     plain-answered end w = (record { frames = w.frames; rest = w.rest; to = plain-frames w.frames w.rest end w.to }, plain-told w.frames w.rest end w.to)
 
     -- it broke off
@@ -286,7 +286,7 @@ module _ {A : Type 0} (changes : A → State → A → State → Type 0) (none :
       }
 
       -- the requests up to the last word, and before it
-      asked-up : requests_over channel (start first []) hs ≡ requests channel first (told_in p.before ++ told_at p.word) moments
+      asked-up : requests_over channel (start first []) hs ≡ requests_answered channel first (told_in p.before ++ told_at p.word) moments
       asked-up =
           ap (λ (h : List ConnectionEvent). requests_over channel (start first []) h) split
           ∙ (requests_over-append channel (start first []) up_to p.later
@@ -294,17 +294,17 @@ module _ {A : Type 0} (changes : A → State → A → State → Type 0) (none :
           (silent-requests channel (course_over channel (start first []) up_to) p.later p.silent)
           ∙ (append-nil (requests_over channel (start first []) up_to)
           ∙ (plain-requests first a acts-up.0 up_to moments (moments_of p.later ++ w.moments_are.0) moments-up acts-up.1
-          ∙ ap (λ (t : List Told). requests channel first t moments) told-up))))
+          ∙ ap (λ (t : List Told). requests_answered channel first t moments) told-up))))
 
-      asked-before : requests_over channel (start first []) p.before ≡ requests channel first (told_in p.before) moments
+      asked-before : requests_over channel (start first []) p.before ≡ requests_answered channel first (told_in p.before) moments
       asked-before = plain-requests first a acts-before.0 p.before moments
           (moments_of (heard_at p.moment (told_at p.word)) ++ (moments_of p.later ++ w.moments_are.0)) moments-before acts-before.1
 
     still-told : (w : BrokenOver limits channel first read written moments hs now)
         → ((w.last.part ≡ []) × (requested ≡ requests_over channel (start first []) w.last.before))
         ⊎ ((w.unwritten ≡ []) × (requested ≡ requests_over channel (start first []) hs))
-        → ((w.last.part ≡ []) × (requested ≡ requests channel first (told_in w.last.before) moments))
-        ⊎ ((w.unwritten ≡ []) × (requested ≡ requests channel first (told_in w.last.before ++ told_at w.last.word) moments))
+        → ((w.last.part ≡ []) × (requested ≡ requests_answered channel first (told_in w.last.before) moments))
+        ⊎ ((w.unwritten ≡ []) × (requested ≡ requests_answered channel first (told_in w.last.before ++ told_at w.last.word) moments))
     still-told w (inl h) = inl (h.0, h.1 ∙ asked-before w)
     still-told w (inr h) = inr (h.0, h.1 ∙ asked-up w)
 

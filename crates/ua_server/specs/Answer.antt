@@ -32,16 +32,16 @@ unless (Some code) s moment asking given = (s, fault_of asking.request_handle co
 -- ---- the services, each with its errors: the state that a request leaves, and the response to it
 
 -- CreateSession (OPC 10000-4, 5.7.2)
-abbrev pub create_session : State → DateTime → CreateSessionRequest → State × Response
-create_session s moment m = unless (first_reason (create_reasons s)) s moment m.request_header (with_next_session s, session_given s moment m)
+abbrev pub answer_create_session : State → DateTime → CreateSessionRequest → State × Response
+answer_create_session s moment m = unless (first_reason (create_reasons s)) s moment m.request_header (with_next_session s, session_given s moment m)
 
 -- ActivateSession (OPC 10000-4, 5.7.3)
-abbrev pub activate_session : State → DateTime → ActivateSessionRequest → State × Response
-activate_session s moment m = unless (first_reason (activate_reasons s m)) s moment m.request_header (with_activated s, activation_given moment m)
+abbrev pub answer_activate_session : State → DateTime → ActivateSessionRequest → State × Response
+answer_activate_session s moment m = unless (first_reason (activate_reasons s m)) s moment m.request_header (with_activated s, activation_given moment m)
 
 -- CloseSession (OPC 10000-4, 5.7.4)
-abbrev pub close_session : State → DateTime → CloseSessionRequest → State × Response
-close_session s moment m = unless (first_reason (close_reasons s m)) s moment m.request_header (begun s, close_given moment m)
+abbrev pub answer_close_session : State → DateTime → CloseSessionRequest → State × Response
+answer_close_session s moment m = unless (first_reason (close_reasons s m)) s moment m.request_header (begun s, close_given moment m)
 
 -- Read (OPC 10000-4, 5.11.2)
 abbrev pub read_items : State → DateTime → ReadRequest → State × Response
@@ -64,8 +64,8 @@ session_header (Write m) = Some m.request_header
 -- the state that a request leaves, and the response to it
 abbrev pub answer : State → DateTime → Request → State × Response
 answer s moment (GetEndpoints m) = (s, endpoints_given s moment m)
-answer s moment (CreateSession m) = create_session s moment m
-answer s moment (ActivateSession m) = activate_session s moment m
-answer s moment (CloseSession m) = close_session s moment m
+answer s moment (CreateSession m) = answer_create_session s moment m
+answer s moment (ActivateSession m) = answer_activate_session s moment m
+answer s moment (CloseSession m) = answer_close_session s moment m
 answer s moment (Read m) = read_items s moment m
 answer s moment (Write m) = write_items s moment m

@@ -10,7 +10,7 @@ use Rattle.ua_nodes.specs.declared.stamps.Stamps.{Stamps}
 use Rattle.ua_nodes.specs.declared.stamps.Stamps.TheVariants.{Neither}
 use Rattle.ua_services.specs.declared.response.Response.{Response}
 use Rattle.ua_services.specs.declared.response.Response.TheVariants.{Read, Write}
-use Rattle.ua_structures.specs.Plain.{values_of, statuses_of}
+use Rattle.ua_structures.specs.Plain.{read_response_of, write_response_of}
 use Rattle.ua_structures.specs.declared.attribute.ReadRequest.{ReadRequest}
 use Rattle.ua_structures.specs.declared.attribute.ReadValueId.{ReadValueId}
 use Rattle.ua_structures.specs.declared.attribute.WriteRequest.{WriteRequest}
@@ -80,7 +80,7 @@ read_answers nodes items stamps moment = map (λ item. value_from (read_answer (
 
 abbrev pub values_given : State → DateTime → ReadRequest → Response
 values_given s moment m =
-    Read (values_of (good_header moment m.request_header)
+    Read (read_response_of (good_header moment m.request_header)
     (read_answers s.nodes (items_of m.nodes_to_read) (stamps_or (stamps_numbered m.timestamps_to_return)) moment))
 
 -- the node that the NodeId names could take a value of the type now: none could before a session is
@@ -98,4 +98,4 @@ abbrev pub with_written : State → DateTime → WriteRequest → State
 with_written s moment m = with_nodes s (after_limited s.memory_limit (items_of m.nodes_to_write) moment s.nodes)
 
 abbrev pub statuses_given : State → DateTime → WriteRequest → Response
-statuses_given s moment m = Write (statuses_of (good_header moment m.request_header) (limited_answers s.memory_limit s.nodes (items_of m.nodes_to_write)))
+statuses_given s moment m = Write (write_response_of (good_header moment m.request_header) (limited_answers s.memory_limit s.nodes (items_of m.nodes_to_write)))

@@ -10,8 +10,8 @@ use Rattle.ua_nodes.specs.Write.{has_none}
 use Rattle.ua_server.specs.declared.endpoint.Endpoint.{Endpoint}
 
 -- the SecurityPolicy None (OPC 10000-7, 6.2)
-abbrev pub none_policy : List ℕ
-none_policy = codes "http://opcfoundation.org/UA/SecurityPolicy#None"
+abbrev pub none_security_policy : List ℕ
+none_security_policy = codes "http://opcfoundation.org/UA/SecurityPolicy#None"
 
 -- UA TCP with secure conversation and binary encoding (OPC 10000-7, 6.6)
 abbrev pub transport_profile : List ℕ
@@ -35,7 +35,7 @@ description_of e = record {
   server = application_of (pos 0) e.application_uri e.name (Some (e.url ∷ []));
   server_certificate = None;
   security_mode = pos 1;
-  security_policy_uri = Some none_policy;
+  security_policy_uri = Some none_security_policy;
   user_identity_tokens = Some (anonymous ∷ []);
   transport_profile_uri = Some transport_profile;
   security_level = 0;
@@ -52,7 +52,7 @@ are_served None = true
 are_served (Some profiles) = has_none profiles || list_any is_served profiles
 
 -- the texts of the endpoint can be encoded
-pub record Fits (e : Endpoint) : Type 0 where
+pub record IsEndpointEncodable (e : Endpoint) : Type 0 where
   pub url : IsTrue (text.encodable e.url)
   pub application_uri : IsTrue (text.encodable e.application_uri)
   pub name : IsTrue (text.encodable e.name)

@@ -10,7 +10,7 @@ use Rattle.ua_channel.specs.ServerTold.{Told, Asked}
 use Rattle.ua_channel.specs.declared.server.ServerChannel.{ServerChannel}
 use Rattle.ua_server.specs.Said.{Course, last_words, say, start}
 use Rattle.ua_server.specs.State.{State}
-use Rattle.ua_server.specs.Stepping.{EndsMessage, given_up, times_of_answers}
+use Rattle.ua_server.specs.Stepping.{EndsWholeMessage, given_up, times_of_answers}
 use Rattle.ua_server.specs.declared.step.End.{End as Ending}
 use Rattle.ua_server.specs.declared.step.End.TheVariants as ending
 use Rattle.ua_server.specs.declared.step.Step.{Step}
@@ -94,7 +94,7 @@ pub record StandsOver (x : ServerChannel) (octets : List ℕ) (hs : List Connect
 abbrev pub IsHandled : Limits → ℕ → List ℕ → List ℕ → List Told → List Told → Type 0
 IsHandled limits channel piece octets told more =
     (more ≡ [])
-    ⊎ ((message : List ℕ) × (ends : EndsMessage limits channel piece octets told message)
+    ⊎ ((message : List ℕ) × (ends : EndsWholeMessage limits channel piece octets told message)
     × (more ≡ given_up ends.quiet ++ Asked ends.id ends.token message ∷ []))
 
 -- how a connection ended after these bytes, which told this: at a CLO, or rejected with this code

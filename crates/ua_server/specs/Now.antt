@@ -16,7 +16,7 @@ use Rattle.ua_channel.specs.declared.server_fault.ChannelFault.{ChannelFault}
 use Rattle.ua_server.specs.Requests.{requests_of}
 use Rattle.ua_server.specs.Said.{Course, last_words, course_after, said_of}
 use Rattle.ua_server.specs.State.{State}
-use Rattle.ua_server.specs.Stepping.{ClosesAt, RefusesAt, StepBreaks, Stops, given_up, times_of_answers}
+use Rattle.ua_server.specs.Stepping.{ClosesAt, RefusesAt, StepBreaks, StepStops, given_up, times_of_answers}
 use Rattle.ua_server.specs.declared.step.Advanced.{Advanced}
 use Rattle.ua_server.specs.declared.step.End.{End as Ending}
 use Rattle.ua_server.specs.declared.step.End.TheVariants as ending
@@ -36,7 +36,7 @@ pub record NowGoes (channel number : ℕ) (moment : DateTime) (piece : List ℕ)
     (before now : State) : Type 0 where
   pub quiet : List ℕ
   pub more : List Told
-  pub stops : Stops new octets piece n out (told ++ given_up quiet) more
+  pub stops : StepStops new octets piece n out (told ++ given_up quiet) more
   pub goes : Goes new (octets ++ take n piece) ((told ++ given_up quiet) ++ more)
   pub out_is : out ≡ said_of channel (standing before number (agreed_by told) more moment) more
   pub state_is : now ≡ (course_after channel (standing before number (agreed_by told) more moment) more).state

@@ -9,9 +9,9 @@ use Rattle.ua_chunk.specs.Cutting.{cut_refusal}
 use Rattle.ua_chunk.specs.declared.fault.CutFault.{CutFault}
 use Rattle.ua_chunk.specs.declared.lane.Lane.{Lane}
 use Rattle.ua_channel.specs.ServerTold.{Told, Agreed, Opened, Asked, GaveUp, Closed}
-use Rattle.ua_opening.specs.Message.{id_of, standard_number}
-use Rattle.ua_services.specs.Request.{kind_of, request_read}
-use Rattle.ua_services.specs.Response.{header_of, response}
+use Rattle.ua_opening.specs.Message.{id_of_body, standard_number}
+use Rattle.ua_services.specs.Request.{kind_of_request, request_read}
+use Rattle.ua_services.specs.Response.{header_of_response, response}
 use Rattle.ua_services.specs.declared.fault.RequestFault.{RequestFault}
 use Rattle.ua_services.specs.declared.request.Request.{Request}
 use Rattle.ua_services.specs.declared.request.Request.TheVariants.{Read, Write}
@@ -19,7 +19,7 @@ use Rattle.ua_services.specs.declared.request.RequestKind.{RequestKind}
 use Rattle.ua_services.specs.declared.response.Response.{Response}
 use Rattle.ua_server.specs.Attributes.{items_of}
 use Rattle.ua_server.specs.Reply.{answered}
-use Rattle.ua_server.specs.Said.{Course, start, first_of, lane_at, say}
+use Rattle.ua_server.specs.Said.{Course, start, first_time, lane_at, say}
 use Rattle.ua_server.specs.State.{State}
 use Rattle.ua_server.specs.Status.{bad_response_too_large}
 use Rattle.ua_server.specs.declared.watch.AnsweredRequest.{AnsweredRequest}
@@ -34,12 +34,12 @@ items_asked m = 0
 
 -- the kind of what bytes are decoded as, if they are a request
 abbrev pub kind_asked : Result Request RequestFault → Option RequestKind
-kind_asked (Ok m) = Some (kind_of m)
+kind_asked (Ok m) = Some (kind_of_request m)
 kind_asked (Err fault) = None
 
 -- the number of the encoding that bytes begin with, if it is one of namespace 0
 abbrev pub encoding_number : List ℕ → Option ℕ
-encoding_number octets = id_of octets >>= standard_number
+encoding_number octets = id_of_body octets >>= standard_number
 
 -- the same if they are no request
 abbrev pub encoding_asked : Result Request RequestFault → List ℕ → Option ℕ
@@ -59,8 +59,8 @@ code_by (Some fault) code = of_code bad_response_too_large
 
 -- the code of a response in this lane
 abbrev pub code_at : Option Lane → Response → StatusCode
-code_at None r = (header_of r).service_result
-code_at (Some lane) r = code_by (cut_refusal lane (response.canonical r)) (header_of r).service_result
+code_at None r = (header_of_response r).service_result
+code_at (Some lane) r = code_by (cut_refusal lane (response.canonical r)) (header_of_response r).service_result
 
 -- what is told of a message with these bytes, which is answered in this lane from this state at
 -- this time
@@ -78,7 +78,7 @@ request_answered lane s moment octets = record {
 abbrev pub request_at : ℕ → Course → Told → Option AnsweredRequest
 request_at channel c (Agreed agreement) = None
 request_at channel c (Opened id handle token lifetime) = None
-request_at channel c (Asked id token octets) = Some (request_answered (lane_at channel token c.agreement) c.state (first_of c.moments) octets)
+request_at channel c (Asked id token octets) = Some (request_answered (lane_at channel token c.agreement) c.state (first_time c.moments) octets)
 request_at channel c (GaveUp id) = None
 request_at channel c Closed = None
 
@@ -93,5 +93,5 @@ requests_of channel c [] = []
 requests_of channel c (t ∷ told) = with_first (request_at channel c t) (requests_of channel (say channel c t).1 told)
 
 -- the requests that a server in this state answers of what it is told, at these times
-unfoldable pub requests : ℕ → State → List Told → List DateTime → List AnsweredRequest
-requests channel s told moments = requests_of channel (start s moments) told
+unfoldable pub requests_answered : ℕ → State → List Told → List DateTime → List AnsweredRequest
+requests_answered channel s told moments = requests_of channel (start s moments) told

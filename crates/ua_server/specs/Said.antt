@@ -26,9 +26,9 @@ pub record Course : Type 0 where
   pub agreement : Option Agreement
 
 -- the first of the timestamps, 0 if there is none
-abbrev pub first_of : List DateTime → DateTime
-first_of [] = record { ticks = pos 0 }
-first_of (moment ∷ moments) = moment
+abbrev pub first_time : List DateTime → DateTime
+first_time [] = record { ticks = pos 0 }
+first_time (moment ∷ moments) = moment
 
 -- the timestamps after the first
 abbrev pub behind_first : List DateTime → List DateTime
@@ -69,10 +69,10 @@ abbrev pub say : ℕ → Course → Told → List ℕ × Course
 say channel c (Agreed agreement) =
     (frame_octets (ack_frame agreement.ack), record { state = c.state; number = c.number; moments = c.moments; agreement = Some agreement })
 say channel c (Opened id handle token lifetime) = (
-  frame_octets (opened_frame channel c.number id handle token lifetime (first_of c.moments)),
+  frame_octets (opened_frame channel c.number id handle token lifetime (first_time c.moments)),
   record { state = c.state; number = next_number c.number; moments = behind_first c.moments; agreement = c.agreement },
 )
-say channel c (Asked id token octets) = reply_with channel token id c (answered c.state (first_of c.moments) octets)
+say channel c (Asked id token octets) = reply_with channel token id c (answered c.state (first_time c.moments) octets)
 say channel c (GaveUp id) = ([], c)
 say channel c Closed = ([], c)
 

@@ -7,13 +7,13 @@ use Rattle.ua_frame.specs.Run.{End, Going, Stopped, Over, Run, events}
 use Rattle.ua_frame.specs.declared.frame.Frame.{Frame}
 use Rattle.ua_frame.specs.declared.limits.Limits.{Limits}
 use Rattle.ua_channel.specs.Line.{Traffic, IfTrafficKnown, one_more}
-use Rattle.ua_channel.specs.Moments.{Gives}
+use Rattle.ua_channel.specs.Moments.{GivesTimes}
 use Rattle.ua_channel.specs.Received.{received}
 use Rattle.ua_channel.specs.ServerRules.{server_rules}
 use Rattle.ua_channel.specs.ServerTold.{Told}
 use Rattle.ua_channel.specs.Stops.{StopsAt}
 use Rattle.ua_server.specs.Happening.{Event, Happens, Leads, noted_in, ticks_in}
-use Rattle.ua_server.specs.Requests.{requests}
+use Rattle.ua_server.specs.Requests.{requests_answered}
 use Rattle.ua_server.specs.Said.{is_answered, state_after, output_of, used_in}
 use Rattle.ua_server.specs.State.{State}
 use Rattle.ua_server.specs.declared.serve_fault.ServeFault.{ServeFault}
@@ -66,7 +66,7 @@ pub record AnsweredTo (limits : Limits) (channel : ℕ) (first : State) (read wr
   pub asked : AreAsked limits channel read (events (server_rules limits channel) frames) moments
 
 -- the same for some frames, after which the connection is in this state
-pub record Answered (limits : Limits) (channel : ℕ) (first : State) (read written : List ℕ) (moments : List DateTime) (now : State) (end : End ℕ) : Type 0 where
+pub record AnsweredAllRead (limits : Limits) (channel : ℕ) (first : State) (read written : List ℕ) (moments : List DateTime) (now : State) (end : End ℕ) : Type 0 where
   pub frames : List Frame
   pub rest : List ℕ
   pub to : AnsweredTo limits channel first read written moments now frames rest end
@@ -157,8 +157,8 @@ greatest = 0xFFFF_FFFF_FFFF_FFFF
 
 -- how a connection ended that its own bytes ended
 abbrev pub EndsBy : Ending → Limits → ℕ → State → List ℕ → List ℕ → List DateTime → State → Type 0
-EndsBy ending.Closed limits channel first read written moments now = Answered limits channel first read written moments now Over
-EndsBy (ending.Refused code) limits channel first read written moments now = Answered limits channel first read written moments now (Stopped code.code)
+EndsBy ending.Closed limits channel first read written moments now = AnsweredAllRead limits channel first read written moments now Over
+EndsBy (ending.Refused code) limits channel first read written moments now = AnsweredAllRead limits channel first read written moments now (Stopped code.code)
 EndsBy ending.NoClose limits channel first read written moments now = ⊥
 EndsBy ending.Cut limits channel first read written moments now = ⊥
 
@@ -182,35 +182,35 @@ ServesBy (Ok (ending.Refused code)) limits channel first read written moments no
 ServesBy (Ok ending.NoClose) limits channel first read written moments now coming = RanOut limits channel first read written moments now coming IsClean
 ServesBy (Ok ending.Cut) limits channel first read written moments now coming = RanOut limits channel first read written moments now coming
     (λ frames rest. IsClean frames rest → ⊥)
-ServesBy (Err fault.Read) limits channel first read written moments now coming = Answered limits channel first read written moments now Going
+ServesBy (Err fault.Read) limits channel first read written moments now coming = AnsweredAllRead limits channel first read written moments now Going
 ServesBy (Err (fault.Write n)) limits channel first read written moments now coming = FailsBy (fault.Write n) limits channel first read written moments now
 ServesBy (Err fault.OutOfMemory) limits channel first read written moments now coming = FailsBy fault.OutOfMemory limits channel first read written moments now
-ServesBy (Err fault.TooLong) limits channel first read written moments now coming = Answered limits channel first read written moments now Going
+ServesBy (Err fault.TooLong) limits channel first read written moments now coming = AnsweredAllRead limits channel first read written moments now Going
     × (greatest ≤ length read)
 
 -- ---- the requests that are told of
 
 -- the requests told are those that are answered of all that was read
 abbrev pub TellsAll : (limits : Limits) (channel : ℕ) (first : State) (moments : List DateTime) → List Frame → List AnsweredRequest → Type 0
-TellsAll limits channel first moments frames told = told ≡ requests channel first (events (server_rules limits channel) frames) moments
+TellsAll limits channel first moments frames told = told ≡ requests_answered channel first (events (server_rules limits channel) frames) moments
 
 -- how a connection ended that its own bytes ended
-abbrev pub EndTells : (end : Ending) (limits : Limits) (channel : ℕ) (first : State) (read written : List ℕ) (moments : List DateTime) (now : State)
+abbrev pub TellsAtEnd : (end : Ending) (limits : Limits) (channel : ℕ) (first : State) (read written : List ℕ) (moments : List DateTime) (now : State)
     → EndsBy end limits channel first read written moments now → List AnsweredRequest → Type 0
-EndTells ending.Closed limits channel first read written moments now a told = TellsAll limits channel first moments a.frames told
-EndTells (ending.Refused code) limits channel first read written moments now a told = TellsAll limits channel first moments a.frames told
-EndTells ending.NoClose limits channel first read written moments now a told = ⊥
-EndTells ending.Cut limits channel first read written moments now a told = ⊥
+TellsAtEnd ending.Closed limits channel first read written moments now a told = TellsAll limits channel first moments a.frames told
+TellsAtEnd (ending.Refused code) limits channel first read written moments now a told = TellsAll limits channel first moments a.frames told
+TellsAtEnd ending.NoClose limits channel first read written moments now a told = ⊥
+TellsAtEnd ending.Cut limits channel first read written moments now a told = ⊥
 
 -- how an answer failed: at a failed write the request of the last answer is told; if an allocation
 -- fails it is told if that answer is written whole, and not if none of it is
 abbrev pub FailTells : (f : ServeFault) (limits : Limits) (channel : ℕ) (first : State) (read written : List ℕ) (moments : List DateTime) (now : State)
     → FailsBy f limits channel first read written moments now → List AnsweredRequest → Type 0
 FailTells fault.Read limits channel first read written moments now b told = ⊥
-FailTells (fault.Write n) limits channel first read written moments now b told = told ≡ requests channel first (b.0.before ++ told_at b.0.word) moments
+FailTells (fault.Write n) limits channel first read written moments now b told = told ≡ requests_answered channel first (b.0.before ++ told_at b.0.word) moments
 FailTells fault.OutOfMemory limits channel first read written moments now b told =
-    ((b.0.part ≡ []) × (told ≡ requests channel first b.0.before moments))
-    ⊎ ((b.0.unwritten ≡ []) × (told ≡ requests channel first (b.0.before ++ told_at b.0.word) moments))
+    ((b.0.part ≡ []) × (told ≡ requests_answered channel first b.0.before moments))
+    ⊎ ((b.0.unwritten ≡ []) × (told ≡ requests_answered channel first (b.0.before ++ told_at b.0.word) moments))
 FailTells fault.TooLong limits channel first read written moments now b told = ⊥
 
 -- which requests are told, by the outcome of serving: those that are answered of all that was read,
@@ -243,7 +243,7 @@ pub record Serves {M : Type 0} (limits : Limits) (channel : ℕ) (gives : M → 
   pub written : List ℕ
   pub ticks : List ℤ
   pub moved : IfTrafficKnown (MovesTraffic read written) before after
-  pub given : Gives gives moments ticks later
+  pub given : GivesTimes gives moments ticks later
   pub comes_to : ServesBy result limits channel first read written (map moment_of ticks) now (coming_now after)
 
 -- the same with a watcher of requests: timestamps were given and requests told in turn

@@ -5,7 +5,7 @@ use Rattle.ua_frame.specs.declared.frame.Frame.{Frame}
 use Rattle.ua_frame.specs.declared.limits.Limits.{Limits}
 use Rattle.ua_channel.specs.Agreement.{Agreement}
 use Rattle.ua_channel.specs.Line.{Traffic, IfTrafficKnown}
-use Rattle.ua_channel.specs.Moments.{Gives}
+use Rattle.ua_channel.specs.Moments.{GivesTimes}
 use Rattle.ua_channel.specs.Received.{listed}
 use Rattle.ua_channel.specs.ServerPlaces.{agreed_by}
 use Rattle.ua_channel.specs.ServerStands.{limits_of, channel_of}
@@ -44,14 +44,14 @@ most_at_once = 4096
 -- ---- what is written
 
 -- the sum of this many bytes and this many more, up to the greatest number
-abbrev pub counted : ℕ → ℕ → ℕ
-counted n more = min (n + more) greatest
+abbrev pub sum_up_to_greatest : ℕ → ℕ → ℕ
+sum_up_to_greatest n more = min (n + more) greatest
 
 -- bytes were written and counted, all of them, or not the last
-abbrev pub Says : List ℕ → Result (Unit {0}) ServeFault → Serving → Serving → Option Traffic → Option Traffic → Type 0
-Says octets (Ok u) old new before after = (new ≡ record old { written = counted old.written (length octets) })
+abbrev pub WritesCounted : List ℕ → Result (Unit {0}) ServeFault → Serving → Serving → Option Traffic → Option Traffic → Type 0
+WritesCounted octets (Ok u) old new before after = (new ≡ record old { written = sum_up_to_greatest old.written (length octets) })
     × IfTrafficKnown (MovesTraffic [] octets) before after
-Says octets (Err f) old new before after = (n : ℕ) × (f ≡ fault.Write (counted old.written n)) × (n < length octets)
+WritesCounted octets (Err f) old new before after = (n : ℕ) × (f ≡ fault.Write (sum_up_to_greatest old.written n)) × (n < length octets)
     × IfTrafficKnown (MovesTraffic [] (take n octets)) before after
 
 -- an answer was made: the first one is the ACK, and those after it use the timestamp that is kept
@@ -66,16 +66,16 @@ is_there None = false
 is_there (Some a) = true
 
 -- a timestamp is kept exactly if one that was requested is left over after these bytes
-abbrev pub IsKept : Limits → ℕ → List ℕ → Option DateTime → Type 0
-IsKept limits channel read None = IsUsedUp limits channel read
-IsKept limits channel read (Some moment) = IsUsedUp limits channel read → ⊥
+abbrev pub IsTimeKept : Limits → ℕ → List ℕ → Option DateTime → Type 0
+IsTimeKept limits channel read None = IsUsedUp limits channel read
+IsTimeKept limits channel read (Some moment) = IsUsedUp limits channel read → ⊥
 
 -- if something is to be written, these timestamps were requested up to the last answer
 abbrev pub AreAskedBy : List ℕ → Limits → ℕ → List ℕ → List Told → List DateTime → Type 0
 AreAskedBy out limits channel front told moments = 0 < length out → AreAsked limits channel front told moments
 
 -- a connection is served from its beginning
-pub record Begins (x : Serving) (limits : Limits) (channel : ℕ) : Type 0 where
+pub record BeginsServing (x : Serving) (limits : Limits) (channel : ℕ) : Type 0 where
   pub limits_is : limits_of (channel_in x.server) ≡ limits
   pub channel_is : channel_of (channel_in x.server) ≡ channel
   pub stands : (first : State) → StandsOver (channel_in x.server) [] [] first first
@@ -95,7 +95,7 @@ pub record Owes {A : Type 0} (changes : A → State → A → State → Type 0) 
   pub acts_first : ActsFirst false history
   pub moments_are : moments_in ticks ≡ moments_of history ++ listed x.moment
   pub stands : StandsOver (channel_in x.server) read history first.0 now.0
-  pub kept_is : IsKept limits channel read x.moment
+  pub kept_is : IsTimeKept limits channel read x.moment
   pub greeted_is : x.greeted ≡ is_there (agreed_by (told_in history))
   pub count_is : x.written ≡ min (length written) greatest
   pub said_is : output_over channel (start first.0 []) history ≡ written ++ out
@@ -104,11 +104,11 @@ pub record Owes {A : Type 0} (changes : A → State → A → State → Type 0) 
   pub asked : AreAskedBy out limits channel last.front (told_in last.before ++ told_at last.word) (moments_in ticks)
 
 -- all of the output is written
-abbrev pub Keeps : {A : Type 0} → (A → State → A → State → Type 0) → Serving → Limits → ℕ → State × A → List ℕ → List ℕ → List Event → State × A → Type 0
-Keeps changes x limits channel first read written ticks now = Owes changes x limits channel first read [] written ticks now
+abbrev pub OwesNothing : {A : Type 0} → (A → State → A → State → Type 0) → Serving → Limits → ℕ → State × A → List ℕ → List ℕ → List Event → State × A → Type 0
+OwesNothing changes x limits channel first read written ticks now = Owes changes x limits channel first read [] written ticks now
 
 -- the connection ended, and of the output these bytes are not written yet
-pub record Ends {A : Type 0} (changes : A → State → A → State → Type 0) (x : Serving) (end : Ending) (limits : Limits) (channel : ℕ) (first : State × A)
+pub record EndsOwing {A : Type 0} (changes : A → State → A → State → Type 0) (x : Serving) (end : Ending) (limits : Limits) (channel : ℕ) (first : State × A)
     (read out written : List ℕ) (ticks : List Event) (now : State × A) : Type 0 where
   pub count_is : x.written ≡ min (length written) greatest
   pub history : List ConnectionEvent
@@ -139,7 +139,7 @@ pub record FailsTelling {A : Type 0} (changes : A → State → A → State → 
 abbrev pub AdvancesTo : {A : Type 0} → (A → State → A → State → Type 0) → Option Ending → Serving → Limits → ℕ → State × A → List ℕ → List ℕ → List ℕ
     → List Event → State × A → Type 0
 AdvancesTo changes None x limits channel first read out written ticks now = Owes changes x limits channel first read out written ticks now
-AdvancesTo changes (Some end) x limits channel first read out written ticks now = Ends changes x end limits channel first read out written ticks now
+AdvancesTo changes (Some end) x limits channel first read out written ticks now = EndsOwing changes x end limits channel first read out written ticks now
 
 -- a step, whose answer is not written yet
 abbrev pub Steps : {A : Type 0} → (A → State → A → State → Type 0) → Result Step StepFault → Serving → Limits → ℕ → State × A → List ℕ → List ℕ → List ℕ
@@ -152,7 +152,7 @@ Steps changes (Err f) x limits channel first piece read written ticks now = Fail
 -- the same by how the connection ended, once the answer is written
 abbrev pub TurnsTo : {A : Type 0} → (A → State → A → State → Type 0) → Option Ending → Serving → Limits → ℕ → State × A → List ℕ → List ℕ → List Event
     → State × A → Type 0
-TurnsTo changes None x limits channel first read written ticks now = Keeps changes x limits channel first read written ticks now
+TurnsTo changes None x limits channel first read written ticks now = OwesNothing changes x limits channel first read written ticks now
 TurnsTo changes (Some end) x limits channel first read written ticks now = EndsTelling changes end limits channel first read written ticks now
 
 -- a step and its response
@@ -182,7 +182,7 @@ pub record Exchanged {M : Type 0} (gives : M → Event → M → Type 0) (moment
 -- timestamps were given, with this property
 pub record Asked {M : Type 0} (gives : M → ℤ → M → Type 0) (moments later : M) (P : List ℤ → Type 0) : Type 0 where
   pub ticks : List ℤ
-  pub given : Gives gives moments ticks later
+  pub given : GivesTimes gives moments ticks later
   pub holds : P ticks
 
 -- timestamps were given and requests told, with this property
@@ -192,7 +192,7 @@ pub record OfEventsBetween {M : Type 0} (step : M → Event → M → Type 0) (b
   pub holds : P ticks
 
 -- a transport is read up to its end: this many reads returned this, and it is answered
-pub record Reads {M : Type 0} (gives : M → Event → M → Type 0) (moments later : M) (before after : Option Traffic) (reads : ℕ) (P : List ℕ → List ℕ → List Event
+pub record ReadsToEnd {M : Type 0} (gives : M → Event → M → Type 0) (moments later : M) (before after : Option Traffic) (reads : ℕ) (P : List ℕ → List ℕ → List Event
     → Type 0) : Type 0 where
   pub read : List ℕ
   pub enough : reads ≤ length read

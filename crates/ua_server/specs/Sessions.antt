@@ -81,13 +81,13 @@ is_anonymous_by (Some n) Absent = nat_eq n 0
 is_anonymous_by (Some n) (ByteString octets) = nat_eq n 321 && is_token octets
 is_anonymous_by (Some n) (Xml text) = false
 
-abbrev pub is_anonymous : ExtensionObject → Bool
-is_anonymous object = is_anonymous_by (standard_number object.type_id) object.body
+abbrev pub is_anonymous_token : ExtensionObject → Bool
+is_anonymous_token object = is_anonymous_by (standard_number object.type_id) object.body
 
 -- why a session is not activated, in the order in which it is judged: for the token, and for an
 -- identity that is neither none nor anonymous
 abbrev pub activate_reasons : State → ActivateSessionRequest → List (ℕ × Bool)
-activate_reasons s m = token_reasons s m.request_header ++ ((bad_identity_token_rejected, not (is_anonymous m.user_identity_token)) ∷ [])
+activate_reasons s m = token_reasons s m.request_header ++ ((bad_identity_token_rejected, not (is_anonymous_token m.user_identity_token)) ∷ [])
 
 -- the state with its session activated
 abbrev pub with_activated : State → State

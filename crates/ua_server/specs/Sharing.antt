@@ -73,14 +73,14 @@ shared_over channels p (e ∷ es) = shared_over channels (shared_by channels p e
 
 -- what is sent to a connection for an event: the answer to what its own frame tells, nothing for
 -- the events of others
-abbrev pub sent_at : (ℕ → ℕ) → ℕ → SharedState → SharedEvent → List ℕ
-sent_at channels k p (At j t moment) = cond (nat_eq k j) (answer_at channels p j t moment).0 []
-sent_at channels k p (Changed nodes) = []
+abbrev pub sent_for_event : (ℕ → ℕ) → ℕ → SharedState → SharedEvent → List ℕ
+sent_for_event channels k p (At j t moment) = cond (nat_eq k j) (answer_at channels p j t moment).0 []
+sent_for_event channels k p (Changed nodes) = []
 
 -- what is sent to a connection over these events, in order
 abbrev pub sent_to : (ℕ → ℕ) → ℕ → SharedState → List SharedEvent → List ℕ
 sent_to channels k p [] = []
-sent_to channels k p (e ∷ es) = sent_at channels k p e ++ sent_to channels k (shared_by channels p e) es
+sent_to channels k p (e ∷ es) = sent_for_event channels k p e ++ sent_to channels k (shared_by channels p e) es
 
 -- ---- the same as one connection sees it
 

@@ -16,7 +16,7 @@ use Rattle.ua_channel.specs.declared.server_event.ServerEvent.{ServerEvent}
 use Rattle.ua_channel.specs.declared.server_event.ServerEvent.TheVariants as event
 use Rattle.ua_channel.specs.declared.server_fault.ChannelFault.{ChannelFault}
 use Rattle.ua_server.specs.Reply.{answered}
-use Rattle.ua_server.specs.Requests.{requests}
+use Rattle.ua_server.specs.Requests.{requests_answered}
 use Rattle.ua_server.specs.Said.{is_answered, lane_at, state_after, replied_at, output_of, used_in}
 use Rattle.ua_server.specs.State.{State}
 use Rattle.ua_server.specs.declared.step.Advanced.{Advanced}
@@ -50,10 +50,10 @@ times_of_answers more moment = replicate (used_in more) moment
 
 -- where a step stops: nothing is answered, and the whole fragment is taken; or the last byte is
 -- that of the frame that is answered
-abbrev pub Stops : ServerChannel → List ℕ → List ℕ → ℕ → List ℕ → List Told → List Told → Type 0
-Stops new octets piece n out before [] = (n ≡ length piece) × (out ≡ [])
-Stops new octets piece n out before (t ∷ []) = (0 < n) × (n ≤ length piece) × IsTrue (is_answered t) × GoesTelling new (octets ++ take n piece) before t
-Stops new octets piece n out before (t ∷ (u ∷ more)) = ⊥
+abbrev pub StepStops : ServerChannel → List ℕ → List ℕ → ℕ → List ℕ → List Told → List Told → Type 0
+StepStops new octets piece n out before [] = (n ≡ length piece) × (out ≡ [])
+StepStops new octets piece n out before (t ∷ []) = (0 < n) × (n ≤ length piece) × IsTrue (is_answered t) × GoesTelling new (octets ++ take n piece) before t
+StepStops new octets piece n out before (t ∷ (u ∷ more)) = ⊥
 
 -- the connection goes on: what was taken told that messages were aborted, and then at most one
 -- thing more, which is answered; what is sent for it is what the server sends
@@ -61,7 +61,7 @@ pub record StepGoes (channel : ℕ) (moment : DateTime) (piece : List ℕ) (n : 
     (first : State) (moments : List DateTime) (now : State) : Type 0 where
   pub quiet : List ℕ
   pub more : List Told
-  pub stops : Stops new octets piece n out (told ++ given_up quiet) more
+  pub stops : StepStops new octets piece n out (told ++ given_up quiet) more
   pub stands : ServerStands new (octets ++ take n piece) ((told ++ given_up quiet) ++ more) first (moments ++ times_of_answers more moment) now
   pub out_is : output_of channel first ((told ++ given_up quiet) ++ more) Going (moments ++ times_of_answers more moment)
       ≡ output_of channel first told Going moments ++ out
@@ -89,7 +89,7 @@ pub record StepRefuses (channel : ℕ) (code : ℕ) (piece : List ℕ) (n : ℕ)
 
 -- within this fragment, after messages that were aborted, ends a frame that tells of this whole
 -- message
-pub record EndsMessage (limits : Limits) (channel : ℕ) (piece : List ℕ) (octets : List ℕ) (told : List Told) (message : List ℕ) : Type 0 where
+pub record EndsWholeMessage (limits : Limits) (channel : ℕ) (piece : List ℕ) (octets : List ℕ) (told : List Told) (message : List ℕ) : Type 0 where
   pub n : ℕ
   pub within : n ≤ length piece
   pub quiet : List ℕ
@@ -105,7 +105,7 @@ pub record EndsMessage (limits : Limits) (channel : ℕ) (piece : List ℕ) (oct
 pub record LeftByMessage (limits : Limits) (channel : ℕ) (moment : DateTime) (piece : List ℕ) (octets : List ℕ) (told : List Told) (before now : State) : Type
     0 where
   pub message : List ℕ
-  pub ends : EndsMessage limits channel piece octets told message
+  pub ends : EndsWholeMessage limits channel piece octets told message
   pub now_is : now ≡ (answered before moment message).0
 
 -- an allocation failed: the state is unchanged, or the one that the first whole message of the
@@ -140,7 +140,7 @@ StepAnswers limits channel moment piece (Err step_fault.Closed) new octets told 
 pub record StandsOn (piece : List ℕ) (n : ℕ) (out : List ℕ) (new : ServerChannel) (octets : List ℕ) (told : List Told) : Type 0 where
   pub quiet : List ℕ
   pub more : List Told
-  pub stops : Stops new octets piece n out (told ++ given_up quiet) more
+  pub stops : StepStops new octets piece n out (told ++ given_up quiet) more
   pub goes : Goes new (octets ++ take n piece) ((told ++ given_up quiet) ++ more)
 
 -- the connection closed at the last byte of a CLO
@@ -192,18 +192,18 @@ pub record AnswersBehind (channel number : ℕ) (moment : DateTime) (piece : Lis
   pub answers : AnswersAt channel number moment piece n answer new octets (before ++ given_up quiet)
 
 -- what is answered is told separately, and which request it is, if it is one
-pub record Tells (answered : Bool) (request : Option AnsweredRequest) (channel : ℕ) (moment : DateTime) (piece : List ℕ) (n : ℕ) (out : List ℕ)
+pub record StepTells (answered : Bool) (request : Option AnsweredRequest) (channel : ℕ) (moment : DateTime) (piece : List ℕ) (n : ℕ) (out : List ℕ)
     (new : ServerChannel) (octets : List ℕ) (told : List Told) (first : State) (moments : List DateTime) (now : State) : Type 0 where
   pub goes : StepGoes channel moment piece n out new octets told first moments now
   pub answered_is : answered ≡ has_some goes.more
-  pub requests_are : requests channel first ((told ++ given_up goes.quiet) ++ goes.more) (moments ++ times_of_answers goes.more moment)
-      ≡ requests channel first told moments ++ listed request
+  pub requests_are : requests_answered channel first ((told ++ given_up goes.quiet) ++ goes.more) (moments ++ times_of_answers goes.more moment)
+      ≡ requests_answered channel first told moments ++ listed request
 
 -- the same by how the connection ended, with whether something was answered, and which request
 abbrev pub AdvanceBy : Bool → Option AnsweredRequest → ℕ → DateTime → List ℕ → Option Ending → ℕ → List ℕ → ServerChannel → List ℕ → List Told → State
     → List DateTime → State → State → Type 0
 AdvanceBy answered request channel moment piece None n out new octets told first moments before now =
-    Tells answered request channel moment piece n out new octets told first moments now
+    StepTells answered request channel moment piece n out new octets told first moments now
 AdvanceBy answered request channel moment piece (Some end) n out new octets told first moments before now =
     StepBy channel moment piece (Some end) n out new octets told first moments before now × (answered ≡ false)
 

@@ -32,13 +32,13 @@ abbrev pub stored_items : Option ℕ → Nodes → List WriteValue → List Writ
 stored_items most nodes items = filter (is_stored nodes) (roomy_items most nodes items)
 
 -- none of a Write that is rejected as a whole
-abbrev pub unless_refused : Option ℕ → List WriteValue → List WriteValue
-unless_refused None items = items
-unless_refused (Some code) items = []
+abbrev pub stored_unless_refused : Option ℕ → List WriteValue → List WriteValue
+stored_unless_refused None items = items
+stored_unless_refused (Some code) items = []
 
 -- what a request stores; none but a Write stores anything
 abbrev pub stored_by : State → Request → List WriteValue
-stored_by s (Write m) = unless_refused (first_reason (write_reasons s m)) (stored_items s.memory_limit s.nodes (items_of m.nodes_to_write))
+stored_by s (Write m) = stored_unless_refused (first_reason (write_reasons s m)) (stored_items s.memory_limit s.nodes (items_of m.nodes_to_write))
 stored_by s m = []
 
 -- what bytes store by what they are decoded as

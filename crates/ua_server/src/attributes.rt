@@ -8,7 +8,7 @@ ghost use Rattle.ua_builtin.specs.NodeId.{node_id};
 ghost use Rattle.ua_builtin.specs.Number.{number_octets};
 ghost use Rattle.ua_builtin.specs.Reasons.{first_reason};
 ghost use Rattle.ua_opening.specs.Message.{standard};
-ghost use Rattle.ua_services.specs.Response.{header_of, response};
+ghost use Rattle.ua_services.specs.Response.{header_of_response, response};
 ghost use Rattle.ua_builtin.specs.Status.{status_code};
 ghost use Rattle.ua_nodes.specs.Read.{read_answer};
 ghost use Rattle.ua_nodes.specs.Table.{node_at};
@@ -91,14 +91,14 @@ struct ReadAnswers<'a> {
 impl ReadResults for ReadAnswers<'_> {
     ghost use Rattle.std.specs.Prelude.{◌≤◌, ◌++◌, length};
     ghost use Rattle.ua_builtin.specs.Number.{number_octets};
-    ghost use Rattle.ua_nodes.specs.Read.{answer_octets};
-    ghost use Rattle.ua_nodes.specs.Sound.{IsSound};
+    ghost use Rattle.ua_nodes.specs.Read.{result_octets};
+    ghost use Rattle.ua_nodes.specs.Sound.{AreNodesSound};
     ghost use Rattle.ua_nodes.specs.Within.{IsWithin};
     ghost use Rattle.ua_server.specs.Attributes.{most_items};
 
-    ghost writable = { λ a. IsSound a.nodes.now × (length a.items.now ≤ most_items) };
+    ghost writable = { λ a. AreNodesSound a.nodes.now × (length a.items.now ≤ most_items) };
 
-    ghost adds = { λ a old new. IsWithin a.most (answer_octets a.nodes.now a.stamps a.moment) a.items.now
+    ghost adds = { λ a old new. IsWithin a.most (result_octets a.nodes.now a.stamps a.moment) a.items.now
         (old ++ number_octets 4 (length a.items.now)) new };
 
     fn append_results(&self, out: &mut Vec<u8>) -> Result<(), AllocError> {
@@ -244,7 +244,7 @@ impl Services {
             (λ told. IsBodyWithin most (response.canonical (read_items self.now moment request.now).1) told.0.items) }
         ensures some { IfOk result (λ told. 0 < length told.0.items) }
         ensures code { IfOk result
-            (λ told. told.1 ≡ (header_of (read_items self.now moment request.now).1).service_result) }
+            (λ told. told.1 ≡ (header_of_response (read_items self.now moment request.now).1).service_result) }
     {
         if let Some(code) = self.read_refusal(request) {
             let handle = request.request_header.request_handle;

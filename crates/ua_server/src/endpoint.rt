@@ -4,7 +4,7 @@ ghost use Rattle.std.specs.Prelude.{◌≡◌, ◌∷◌, [], Some, IfOk};
 ghost use Rattle.std.specs.List.{list_any};
 ghost use Rattle.ua_server.specs.Sessions.{endpoints_for};
 ghost use Rattle.ua_server.specs.Endpoint.{anonymous, description_of, is_served};
-ghost use Rattle.ua_server.specs.Endpoint.{are_served, none_policy, transport_profile};
+ghost use Rattle.ua_server.specs.Endpoint.{are_served, none_security_policy, transport_profile};
 
 use std::alloc::{AllocError, Global};
 use ua_builtin::{UaBytes, UaString};
@@ -94,7 +94,7 @@ impl Endpoint {
     /// The address, the security policy and the transport profile.
     fn texts(&self, alloc: Global) -> Result<(UaString, UaString, UaString), AllocError>
         ensures { IfOk result
-            (λ t. (t.0 ≡ self.now.url) × ((t.1 ≡ Some none_policy) × (t.2 ≡ Some transport_profile))) }
+            (λ t. (t.0 ≡ self.now.url) × ((t.1 ≡ Some none_security_policy) × (t.2 ≡ Some transport_profile))) }
     {
         let url = self.url.try_clone()?;
         let policy = UaString::from_str(alloc, NONE_POLICY)?;

@@ -28,8 +28,8 @@ ghost use Rattle.ua_server.specs.Sharing.{SharedEvent, SharedState, Changed, End
 ghost use Rattle.ua_server.specs.Sharing.{course_at, opened, seen_by, sent_to, shared_over, told_by};
 ghost use Rattle.ua_services.specs.declared.request.Request.{Request};
 ghost use Rattle.ua_opening.specs.declared.header.RequestHeader.{RequestHeader};
-ghost use Rattle.ua_services.specs.Request.{kind_of, request, request_read};
-ghost use Rattle.ua_services.specs.Response.{Answers, kind_of as answer_kind, response};
+ghost use Rattle.ua_services.specs.Request.{kind_of_request, request, request_read};
+ghost use Rattle.ua_services.specs.Response.{Answers, kind_of_response as answer_kind, response};
 ghost use Rattle.ua_services.specs.declared.request.Request.TheVariants as kinds;
 ghost use Rattle.ua_structures.specs.declared.attribute.ReadRequest.{ReadRequest};
 ghost use Rattle.ua_structures.specs.declared.attribute.WriteRequest.{WriteRequest};
@@ -59,7 +59,7 @@ pub fn services_are_sound(services: &Services)
 /// stay sound.
 pub fn each_request_has_its_answer()
     ensures kind { (s : State) (moment : DateTime) (m : Request)
-        → Answers (answer_kind (answer s moment m).1) (kind_of m) }
+        → Answers (answer_kind (answer s moment m).1) (kind_of_request m) }
     ensures encodable { (s : State) (moment : DateTime) (m : Request) → IsSoundState s
         → IsTrue (date_time.encodable moment) → IsTrue (request.encodable m)
         → IsTrue (response.encodable (answer s moment m).1) }

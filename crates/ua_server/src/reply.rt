@@ -2,8 +2,8 @@
 
 ghost use Rattle.std.specs.Prelude.{◌≡◌, ◌<◌, ◌⊎◌, IsTrue, IfErr, IfOk, OnErr, None, Some, Err, length};
 ghost use Rattle.ua_builtin.specs.declared.date_time.DateTime.{DateTime};
-ghost use Rattle.ua_services.specs.Request.{kind_of, request_read};
-ghost use Rattle.ua_services.specs.Response.{header_of, response};
+ghost use Rattle.ua_services.specs.Request.{kind_of_request, request_read};
+ghost use Rattle.ua_services.specs.Response.{header_of_response, response};
 ghost use Rattle.ua_server.specs.Answer.{answer, fault_of};
 ghost use Rattle.ua_server.specs.Reply.{IsBodyWithin, answered};
 ghost use Rattle.ua_server.specs.Requests.{count_asked, encoding_number, items_asked, kind_asked, request_answered};
@@ -101,7 +101,7 @@ impl Services {
     fn read_kept<S: Source>(&self, alloc: Global, src: &mut S) -> Result<Request, RequestFault>
         ensures answer { IfOk result (λ kept. (moment : DateTime)
             → answer self.now moment kept ≡ answered self.now moment (S.octets src.old)) }
-        ensures kind { IfOk result (λ kept. kind_asked (request_read (S.octets src.old)) ≡ Some (kind_of kept)) }
+        ensures kind { IfOk result (λ kept. kind_asked (request_read (S.octets src.old)) ≡ Some (kind_of_request kept)) }
         ensures items { IfOk result (λ kept. count_asked (request_read (S.octets src.old)) ≡ items_asked kept) }
         ensures refused { IfErr result (λ fault. (request_read (S.octets src.old) ≡ Err fault)
             ⊎ (fault ≡ RequestFault.OutOfMemory)) }
@@ -124,10 +124,10 @@ impl Services {
         ensures some { IfOk result (λ told. 0 < length told.body.items) }
         ensures request { IfOk result
             (λ told. told.request ≡ record {
-              kind = Some (kind_of request);
+              kind = Some (kind_of_request request);
               encoding = None;
               items = items_asked request;
-              code = (header_of (answer self.old moment request).1).service_result;
+              code = (header_of_response (answer self.old moment request).1).service_result;
             }) }
         ensures results { IfOk result (λ told. told.results ≡ results_of (answer self.old moment request).1) }
         ensures state { IfOk result (λ told. self.new ≡ (answer self.old moment request).0) }

@@ -3,12 +3,12 @@
 ghost use Rattle.std.specs.Prelude.{◌≡◌, ◌++◌, ◌∷◌, ◌↔◌, [], IsTrue, IsSome, IfOk};
 ghost use Rattle.std.specs.Prelude.{OnOk, OnErr, IsErrOf, MatchResult, None, Some};
 ghost use Rattle.ua_nodes.specs.Set.{after_set, after_set_at, set_refusal, set_refusal_at};
-ghost use Rattle.ua_nodes.specs.Table.{id_at, node_at, variable_of};
-ghost use Rattle.ua_nodes.specs.Sound.{IsSound, is_sound_node};
+ghost use Rattle.ua_nodes.specs.Table.{node_id_at, node_at, variable_of};
+ghost use Rattle.ua_nodes.specs.Sound.{AreNodesSound, is_sound_node};
 ghost use Rattle.ua_nodes.specs.declared.fault.InsertFault.TheVariants as insert_fault;
 ghost use Rattle.ua_services.specs.Response.{response};
 ghost use Rattle.ua_server.specs.Answer.{fault_of, answer};
-ghost use Rattle.ua_server.specs.Endpoint.{Fits};
+ghost use Rattle.ua_server.specs.Endpoint.{IsEndpointEncodable};
 ghost use Rattle.ua_server.specs.Served.{session_in};
 ghost use Rattle.ua_server.specs.State.{fresh, begun, with_memory_limit, with_nodes, with_session};
 
@@ -36,9 +36,9 @@ pub struct Services {
 
 impl Model for Services {
     ghost use Rattle.std.specs.Coded.{codes};
-    ghost use Rattle.ua_nodes.specs.Sound.{IsSound};
+    ghost use Rattle.ua_nodes.specs.Sound.{AreNodesSound};
     ghost use Rattle.ua_nodes.specs.contracts.node.NodeValue as value;
-    ghost use Rattle.ua_server.specs.Endpoint.{Fits};
+    ghost use Rattle.ua_server.specs.Endpoint.{IsEndpointEncodable};
     ghost use Rattle.ua_server.specs.State.{State};
 
     ghost Value = { State };
@@ -53,14 +53,14 @@ impl Model for Services {
       session = s.session;
     } };
 
-    ghost invariant = { λ s. IsSound s.nodes × Fits s.endpoint };
+    ghost invariant = { λ s. AreNodesSound s.nodes × IsEndpointEncodable s.endpoint };
 }
 
 impl Services {
     /// The services over these nodes, under this endpoint, before any session. Allocates nothing.
     pub fn new(nodes: NodeTable, endpoint: Endpoint) -> Services
-        requires sound { IsSound nodes }
-        requires fits { Fits endpoint }
+        requires sound { AreNodesSound nodes }
+        requires fits { IsEndpointEncodable endpoint }
         ensures { result ≡ fresh nodes endpoint }
     {
         Services {
@@ -98,7 +98,7 @@ impl Services {
     /// The nodes as they are.
     pub fn nodes(&self) -> &NodeTable
         ensures is { result.now ≡ self.now.nodes }
-        ensures sound { IsSound result.now }
+        ensures sound { AreNodesSound result.now }
     {
         &self.nodes
     }
@@ -106,7 +106,7 @@ impl Services {
     /// Turns the services into their nodes.
     pub fn into_nodes(self) -> NodeTable
         ensures is { result ≡ self.nodes }
-        ensures sound { IsSound result }
+        ensures sound { AreNodesSound result }
     {
         self.nodes
     }
@@ -124,9 +124,9 @@ impl Services {
     /// Sets what the node at a position holds, as [`NodeTable::set_at`]. Allocates nothing.
     pub fn set_at(&mut self, index: usize, reading: Reading) -> Result<(), SetFault>
         ensures state { self.new ≡ with_nodes self.old
-            (after_set_at (id_at self.old.nodes index) reading self.old.nodes) }
-        ensures answer { MatchResult result (λ _. set_refusal_at (id_at self.old.nodes index) reading self.old.nodes
-            ≡ None) (λ fault. set_refusal_at (id_at self.old.nodes index) reading self.old.nodes ≡ Some fault) }
+            (after_set_at (node_id_at self.old.nodes index) reading self.old.nodes) }
+        ensures answer { MatchResult result (λ _. set_refusal_at (node_id_at self.old.nodes index) reading self.old.nodes
+            ≡ None) (λ fault. set_refusal_at (node_id_at self.old.nodes index) reading self.old.nodes ≡ Some fault) }
         ensures kept { OnErr result (self.new ≡ self.old) }
     {
         self.nodes.set_at(index, reading)

@@ -141,14 +141,14 @@ impl Serving {
     ghost use Rattle.ua_server.specs.Happening.{Event, Happens, WasTold};
     ghost use Rattle.ua_server.specs.Serving.{moment_of, MovesTraffic, LineFailed};
     ghost use Rattle.ua_server.specs.ServingOver.{ServesApplication};
-    ghost use Rattle.ua_server.specs.ServingParts.{Asked, Begins, Exchanged, Finishes, Handles};
-    ghost use Rattle.ua_server.specs.ServingParts.{Keeps, OfEventsBetween, Says, Steps, Turns, noted};
+    ghost use Rattle.ua_server.specs.ServingParts.{Asked, BeginsServing, Exchanged, Finishes, Handles};
+    ghost use Rattle.ua_server.specs.ServingParts.{OwesNothing, OfEventsBetween, WritesCounted, Steps, Turns, noted};
     ghost use Rattle.ua_server.specs.Stepping.{StepTakes};
     ghost use Rattle.ua_server.specs.State.{State};
 
     /// Before the first byte of a client.
     fn new(alloc: Global, limits: Limits, channel_id: u32) -> Serving
-        ensures { Begins result limits channel_id }
+        ensures { BeginsServing result limits channel_id }
     {
         Serving {
             server: Server::new(alloc, limits, channel_id),
@@ -201,7 +201,7 @@ impl Serving {
     ) -> Result<Step, StepFault>
         requires { 0 < length piece.now }
         ensures steps { (limits : Limits) (channel : ℕ) (first : State × A) (read written : List ℕ) (given : List Event)
-            → Keeps A.changes self.old limits channel first read written given (services.old, application.old)
+            → OwesNothing A.changes self.old limits channel first read written given (services.old, application.old)
             → OfEventsBetween (Happens M.gives W.notes) (moments.old, watch.old) (moments.new, watch.new)
             (λ events. Steps A.changes result self.new limits channel first piece.now read written (given ++ events)
             (services.new, application.new)) }
@@ -240,7 +240,7 @@ impl Serving {
 
     /// Writes bytes whole, and counts them.
     fn say<L: Line>(&mut self, line: &mut L, octets: &[u8]) -> Result<(), ServeFault>
-        ensures says { Says octets.now result self.old self.new (L.traffic line.old) (L.traffic line.new) }
+        ensures says { WritesCounted octets.now result self.old self.new (L.traffic line.old) (L.traffic line.new) }
         ensures failed { LineFailed (L.failures line.old) result (L.failures line.new) }
     {
         match write_whole(line, octets) {
@@ -264,7 +264,7 @@ impl Serving {
     ) -> Result<Taken<Option<End>>, ServeFault>
         requires { 0 < length piece.now }
         ensures turns { (limits : Limits) (channel : ℕ) (first : State × A) (read written : List ℕ) (given : List Event)
-            → Keeps A.changes self.old limits channel first read written given (services.old, application.old)
+            → OwesNothing A.changes self.old limits channel first read written given (services.old, application.old)
             → Exchanged (Happens M.gives W.notes) (moments.old, watch.old) (moments.new, watch.new) []
             (L.traffic line.old) (L.traffic line.new)
             (λ more events. Turns A.changes result self.new limits channel first piece.now read (written ++ more)
@@ -298,7 +298,7 @@ impl Serving {
         piece: &[u8],
     ) -> Result<Option<End>, ServeFault>
         ensures handles { (limits : Limits) (channel : ℕ) (first : State × A) (read written : List ℕ)
-            (given : List Event) → Keeps A.changes self.old limits channel first read written given
+            (given : List Event) → OwesNothing A.changes self.old limits channel first read written given
             (services.old, application.old)
             → Exchanged (Happens M.gives W.notes) (moments.old, watch.old) (moments.new, watch.new) []
             (L.traffic line.old) (L.traffic line.new)
@@ -340,7 +340,7 @@ impl Serving {
     ) -> Result<End, ServeFault>
         requires { 0 < length buffer.old }
         ensures serves { (limits : Limits) (channel : ℕ) (first : State × A)
-            → Keeps A.changes self.old limits channel first [] [] [] (services.old, application.old)
+            → OwesNothing A.changes self.old limits channel first [] [] [] (services.old, application.old)
             → ServesApplication limits channel M.gives W.notes A.changes first (moments.old, watch.old) result
             (services.new, application.new) (moments.new, watch.new) (L.traffic line.old) (L.traffic line.new) }
         ensures told { WasTold W.notes watch.old watch.new }

@@ -7,9 +7,9 @@ ghost use Rattle.ua_services.specs.Response.{response};
 ghost use Rattle.ua_builtin.specs.Status.{of_code};
 ghost use Rattle.ua_opening.specs.Header.{response_header};
 ghost use Rattle.ua_opening.specs.Plain.{response_header_of};
-ghost use Rattle.ua_server.specs.Answer.{activate_session, close_session, create_session};
+ghost use Rattle.ua_server.specs.Answer.{answer_activate_session, answer_close_session, answer_create_session};
 ghost use Rattle.ua_server.specs.Sessions.{endpoints_given, session_reasons, create_reasons};
-ghost use Rattle.ua_server.specs.Sessions.{session_given, is_anonymous, activate_reasons};
+ghost use Rattle.ua_server.specs.Sessions.{session_given, is_anonymous_token, activate_reasons};
 ghost use Rattle.ua_server.specs.Sessions.{with_activated, activation_given, close_reasons, close_given};
 ghost use Rattle.ua_server.specs.State.{begun, with_next_session, is_own, is_activated};
 
@@ -42,7 +42,7 @@ fn is_null(id: &NodeId) -> bool
 /// AnonymousIdentityToken.
 #[tactic(auto, using(crate::proofs::Identities::carried, crate::proofs::Identities::not_carried))]
 fn is_nobody(alloc: Global, identity: &ExtensionObject) -> Result<bool, AllocError>
-    ensures { IfOk result (λ b. b ≡ is_anonymous identity.now) }
+    ensures { IfOk result (λ b. b ≡ is_anonymous_token identity.now) }
 {
     if is_null(&identity.type_id) {
         return Ok(matches!(identity.body, ExtensionBody::Absent));
@@ -120,8 +120,8 @@ impl Services {
         request: &CreateSessionRequest,
         moment: DateTime,
     ) -> Result<Response, AllocError>
-        ensures response { IfOk result (λ r. r ≡ (create_session self.old moment request.now).1) }
-        ensures state { IfOk result (λ r. self.new ≡ (create_session self.old moment request.now).0) }
+        ensures response { IfOk result (λ r. r ≡ (answer_create_session self.old moment request.now).1) }
+        ensures state { IfOk result (λ r. self.new ≡ (answer_create_session self.old moment request.now).0) }
         ensures kept { OnErr result (self.new ≡ self.old) }
         ensures encodable { IfOk result (λ r. IsTrue (response.encodable r)) }
     {
@@ -171,8 +171,8 @@ impl Services {
         request: &ActivateSessionRequest,
         moment: DateTime,
     ) -> Result<Response, AllocError>
-        ensures response { IfOk result (λ r. r ≡ (activate_session self.old moment request.now).1) }
-        ensures state { IfOk result (λ r. self.new ≡ (activate_session self.old moment request.now).0) }
+        ensures response { IfOk result (λ r. r ≡ (answer_activate_session self.old moment request.now).1) }
+        ensures state { IfOk result (λ r. self.new ≡ (answer_activate_session self.old moment request.now).0) }
         ensures kept { OnErr result (self.new ≡ self.old) }
         ensures encodable { IfOk result (λ r. IsTrue (response.encodable r)) }
     {
@@ -194,8 +194,8 @@ impl Services {
         request: &CloseSessionRequest,
         moment: DateTime,
     ) -> Response
-        ensures response { result ≡ (close_session self.old moment request.now).1 }
-        ensures state { self.new ≡ (close_session self.old moment request.now).0 }
+        ensures response { result ≡ (answer_close_session self.old moment request.now).1 }
+        ensures state { self.new ≡ (answer_close_session self.old moment request.now).0 }
         ensures encodable { IsTrue (response.encodable result) }
     {
         let header = &request.request_header;

@@ -6,19 +6,19 @@ use Rattle.ua_opening.specs.Message.{standard}
 use Rattle.ua_opening.proofs.MessagesLawful.{canonical-made}
 use Rattle.ua_services.proofs.RequestLawful.{are_requests}
 use Rattle.ua_services.proofs.ResponseLawful.{are_responses}
-use Rattle.ua_services.specs.Request.{request, requests, Structure}
-use Rattle.ua_services.specs.Response.{response, responses, Structure as Held}
+use Rattle.ua_services.specs.Request.{request, requests, RequestStructure}
+use Rattle.ua_services.specs.Response.{response, responses, ResponseStructure as Held}
 use Rattle.ua_services.specs.declared.request.RequestKind.{RequestKind}
 use Rattle.ua_services.specs.declared.request.RequestKind.TheVariants.{Read}
 use Rattle.ua_services.specs.declared.response.ResponseKind.{ResponseKind}
 use Rattle.ua_services.specs.declared.response.ResponseKind.TheVariants.{Read as WasRead}
 
-pub request-encodable : (k : RequestKind) (m : Structure k) → request.encodable (requests.make k m) ≡ (requests.format k).encodable m
+pub request-encodable : (k : RequestKind) (m : RequestStructure k) → request.encodable (requests.make k m) ≡ (requests.format k).encodable m
 unfolding request node_id
 request-encodable Read m = refl
 request-encodable k m = refl
 
-pub request-canonical : (k : RequestKind) (m : Structure k) → request.canonical (requests.make k m) ≡ node_id.canonical (standard (requests.number k))
+pub request-canonical : (k : RequestKind) (m : RequestStructure k) → request.canonical (requests.make k m) ≡ node_id.canonical (standard (requests.number k))
     ++ (requests.format k).canonical m
 unfolding request
 request-canonical = canonical-made requests are_requests

@@ -7,8 +7,8 @@ use Rattle.ua_structures.specs.WrittenBack.{write_unreserved, results_unreserved
 use Rattle.ua_structures.specs.declared.attribute.ReadResponse.{ReadResponse}
 use Rattle.ua_structures.specs.declared.attribute.WriteRequest.{WriteRequest}
 use Rattle.ua_opening.specs.Message.{Kinds, announced, OfKind, message_depth, message_of, IsBody}
-use Rattle.ua_services.specs.Request.{request, requests, request_parts, request_read, kind_of}
-use Rattle.ua_services.specs.Response.{response, responses, response_parts, response_read, kind_of as kind_of_response}
+use Rattle.ua_services.specs.Request.{request, requests, request_parts, request_read, kind_of_request}
+use Rattle.ua_services.specs.Response.{response, responses, response_parts, response_read, kind_of_response}
 use Rattle.ua_services.specs.declared.request.Request.{Request}
 use Rattle.ua_services.specs.declared.request.Request.TheVariants.{Write as WriteMessage}
 use Rattle.ua_services.specs.declared.request.RequestKind.TheVariants.{Write}
@@ -45,7 +45,7 @@ request_holds : (octets : List ℕ) (m : Request) → request_read octets ≡ Ok
 unfolding request
 request_holds octets m e = body_holds requests are_requests m octets ((request_read-found octets m).0 e)
 
-pub request_back : (octets : List ℕ) (m : Request) → request_read octets ≡ Ok m → (kind_of m ≡ Write → ⊥) → request.encodable m ≡ true
+pub request_back : (octets : List ℕ) (m : Request) → request_read octets ≡ Ok m → (kind_of_request m ≡ Write → ⊥) → request.encodable m ≡ true
 request_back octets m e other =
     let p = request_parts m in
     let h = request_holds octets m e in

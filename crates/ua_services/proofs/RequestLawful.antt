@@ -6,7 +6,7 @@ use Rattle.ua_structures.proofs.AttributeLawful.{lawful_write_request}
 use Rattle.ua_structures.proofs.AttributeSound.{sound_read_request}
 use Rattle.ua_structures.proofs.DiscoverySound.{sound_get_endpoints_request}
 use Rattle.ua_structures.proofs.SessionSound.{sound_create_session_request, sound_activate_session_request, sound_close_session_request}
-use Rattle.ua_services.specs.Request.{request, requests, request_parts, Structure}
+use Rattle.ua_services.specs.Request.{request, requests, request_parts, RequestStructure}
 use Rattle.ua_services.specs.declared.request.Request.{Request}
 use Rattle.ua_services.specs.declared.request.Request.TheVariants.{Read as ReadMessage}
 use Rattle.ua_services.specs.declared.request.RequestKind.{RequestKind}
@@ -18,7 +18,7 @@ request_back : (v : Request) → v ≡ requests.make (request_parts v).0 (reques
 request_back (ReadMessage m) = refl
 request_back m = refl
 
-request_forth : (k : RequestKind) (m : Structure k) → request_parts (requests.make k m) ≡ (k, m)
+request_forth : (k : RequestKind) (m : RequestStructure k) → request_parts (requests.make k m) ≡ (k, m)
 request_forth Read m = refl
 request_forth k m = refl
 

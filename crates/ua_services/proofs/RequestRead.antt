@@ -8,8 +8,8 @@ use Rattle.ua_builtin.specs.NodeId.{node_id}
 use Rattle.ua_builtin.specs.declared.node_id.NodeId.{NodeId}
 use Rattle.ua_wire.specs.declared.fault.ReadFault.{ReadFault}
 use Rattle.ua_wire.specs.declared.fault.ReadFault.TheVariants.{NoValue, OutOfMemory as NoMemory}
-use Rattle.ua_opening.specs.Message.{IsBody, IsNoBody, kind_at, if_last, body_of, found_or, id_handle, handle_of, handle_behind, id_of}
-use Rattle.ua_services.specs.Request.{request, requests, request_kind, kind_read, request_read, unread_with, misread_id, misread_kind, AnnouncesNone, Misread}
+use Rattle.ua_opening.specs.Message.{IsBody, IsNoBody, kind_at, if_last, body_of, found_or, id_handle, handle_of, handle_behind, id_of_body}
+use Rattle.ua_services.specs.Request.{request, requests, request_kind, read_as_request, request_read, unread_with, misread_request_id, misread_request_kind, AnnouncesNoRequest, MisreadRequest}
 use Rattle.ua_services.specs.declared.request.Request.{Request}
 use Rattle.ua_services.specs.declared.request.RequestKind.{RequestKind}
 use Rattle.ua_services.specs.declared.fault.RequestFault.{RequestFault}
@@ -31,7 +31,7 @@ unread_is : (head old : List ℕ) (e : ReadFault) (fault : RequestFault) → hea
 unread_is head old e fault same is = subst (λ (t : List ℕ). IsUnread t e fault) same is
 
 fails_by : (k : RequestKind) (old new : List ℕ) (e : ReadFault) (fault : RequestFault) → Gives (kind_at requests most_levels (Some k)) old new (Err e)
-    → IsUnread old e fault → Reads (Err fault) (kind_read k old)
+    → IsUnread old e fault → Reads (Err fault) (read_as_request k old)
 fails_by k old new NoValue fault h (inl is) = inl (ap Err is ∙ sym (ap (λ o. found_or (o >>= λ x. if_last x.0 x.1) (Unreadable (handle_behind old))) h))
 fails_by k old new NoValue fault h (inr is) = inr (ap Err is)
 fails_by k old new NoMemory fault h (inl is) = inr (ap Err is)
@@ -39,26 +39,26 @@ fails_by k old new NoMemory fault h (inr is) = inr (ap Err is)
 
 pub kind_fails : (k : RequestKind) (head old new : List ℕ) (e : ReadFault) (fault : RequestFault) → head ≡ old
     → Gives (kind_at requests most_levels (Some k)) old new (Err e) → IsUnread head e fault
-    → Reads (Err fault) (kind_read k old)
+    → Reads (Err fault) (read_as_request k old)
 kind_fails k head old new e fault same h is = fails_by k old new e fault h (unread_is head old e fault same is)
 
 kind_gives : (k : RequestKind) (old new : List ℕ) (m : Request) → kind_at requests most_levels (Some k) old ≡ Some (m, new)
-    → kind_read k old ≡ found_or (if_last m new) (Unreadable (handle_behind old))
+    → read_as_request k old ≡ found_or (if_last m new) (Unreadable (handle_behind old))
 kind_gives k old new m e = ap (λ o. found_or (o >>= λ x. if_last x.0 x.1) (Unreadable (handle_behind old))) e
 
 left_by : (k : RequestKind) (old new : List ℕ) (m : Request) (fault : RequestFault) → kind_at requests most_levels (Some k) old ≡ Some (m, new) → 0 < length new
-    → IsUnread old NoValue fault → Reads (Err fault) (kind_read k old)
+    → IsUnread old NoValue fault → Reads (Err fault) (read_as_request k old)
 left_by k old new m fault e more (inl is) =
     inl (ap Err is ∙ sym (kind_gives k old new m e ∙ ap (λ o. found_or o (Unreadable (handle_behind old))) (some_left m new more)))
 left_by k old new m fault e more (inr is) = inr (ap Err is)
 
 pub kind_left : (k : RequestKind) (head old new : List ℕ) (m : Request) (fault : RequestFault) → head ≡ old
     → kind_at requests most_levels (Some k) old ≡ Some (m, new) → 0 < length new → IsUnread head NoValue fault
-    → Reads (Err fault) (kind_read k old)
+    → Reads (Err fault) (read_as_request k old)
 kind_left k head old new m fault same e more is = left_by k old new m fault e more (unread_is head old NoValue fault same is)
 
 pub kind_whole : (k : RequestKind) (old new : List ℕ) (m : Request) → kind_at requests most_levels (Some k) old ≡ Some (m, new) → length new ≤ 0
-    → Reads (Ok m) (kind_read k old)
+    → Reads (Ok m) (read_as_request k old)
 kind_whole k old new m e none = inl (sym (kind_gives k old new m e ∙ ap (λ o. found_or o (Unreadable (handle_behind old))) (nothing_left m new none)))
 
 -- ---- the whole body
@@ -66,7 +66,7 @@ kind_whole k old new m e none = inl (sym (kind_gives k old new m e ∙ ap (λ o.
 -- what a body is read as, by the NodeId that was found
 abbrev read_by : Option (NodeId × List ℕ) → Result Request RequestFault
 read_by o = found_or ((o >>= λ x. kind_at requests most_levels (request_kind x.0) x.1) >>= λ x. if_last x.0 x.1)
-    (misread_id (id_handle o) (o >>= λ x. Some x.0))
+    (misread_request_id (id_handle o) (o >>= λ x. Some x.0))
 
 read-by : (old : List ℕ) → request_read old ≡ read_by (node_id.decode old)
 unfolding request request_read
@@ -74,7 +74,7 @@ read-by old = refl
 
 -- what a body is read as behind the NodeId, by the kind that this announces
 abbrev read_kind : List ℕ → Option RequestKind → Result Request RequestFault
-read_kind rest o = found_or (kind_at requests most_levels o rest >>= λ x. if_last x.0 x.1) (misread_kind (handle_behind rest) o)
+read_kind rest o = found_or (kind_at requests most_levels o rest >>= λ x. if_last x.0 x.1) (misread_request_kind (handle_behind rest) o)
 
 pub read-kind : (old rest : List ℕ) (id : NodeId) (o : Option RequestKind) → node_id.decode old ≡ Some (id, rest) → request_kind id ≡ o
     → request_read old ≡ read_kind rest o
@@ -107,13 +107,13 @@ failed fault r (inr h) = inr (ap Err h)
 
 -- ---- what was read, by the relations
 
-no_such_kind : (octets : List ℕ) (id : NodeId) (k : RequestKind) → id_of octets ≡ Some id → request_kind id ≡ Some k → AnnouncesNone octets → ⊥
+no_such_kind : (octets : List ℕ) (id : NodeId) (k : RequestKind) → id_of_body octets ≡ Some id → request_kind id ≡ Some k → AnnouncesNoRequest octets → ⊥
 no_such_kind octets id k e is a =
     let same : id ≡ a.0 = some_is id a.0 (sym e ∙ a.1) in
     let both : Some k ≡ None = sym is ∙ ap request_kind same ∙ a.2 in
     absurd cc
 
-no_such_id : (octets : List ℕ) → id_of octets ≡ None → AnnouncesNone octets → ⊥
+no_such_id : (octets : List ℕ) → id_of_body octets ≡ None → AnnouncesNoRequest octets → ⊥
 no_such_id octets e a =
     let both : None ≡ Some a.0 = sym e ∙ a.1 in
     absurd cc
@@ -122,27 +122,27 @@ pub request_found : (octets : List ℕ) (r : Result Request RequestFault) → (r
     → IfOk r (λ m. IsBody request m octets)
 unfolding request_read
 request_found octets (Ok m) (inl h) =
-    body_is request lawful_request octets m (found_ok (body_of request octets) (misread_id (handle_of octets) (id_of octets)) m h)
+    body_is request lawful_request octets m (found_ok (body_of request octets) (misread_request_id (handle_of octets) (id_of_body octets)) m h)
 request_found octets (Ok m) (inr h) = absurd cc
 request_found octets (Err e) h = tt
 
-misread_by : (octets : List ℕ) (id : NodeId) (o : Option RequestKind) → id_of octets ≡ Some id → request_kind id ≡ o → IsNoBody request octets
-    → Misread octets (misread_kind (handle_of octets) o)
+misread_by : (octets : List ℕ) (id : NodeId) (o : Option RequestKind) → id_of_body octets ≡ Some id → request_kind id ≡ o → IsNoBody request octets
+    → MisreadRequest octets (misread_request_kind (handle_of octets) o)
 misread_by octets id None e is none = ((id, e, is), none, refl)
-misread_by octets id (Some k) e is none = (λ (a : AnnouncesNone octets). no_such_kind octets id k e is a, none, refl)
+misread_by octets id (Some k) e is none = (λ (a : AnnouncesNoRequest octets). no_such_kind octets id k e is a, none, refl)
 
-misread_is : (octets : List ℕ) (o : Option NodeId) → id_of octets ≡ o → IsNoBody request octets → Misread octets (misread_id (handle_of octets) o)
-misread_is octets None e none = (λ (a : AnnouncesNone octets). no_such_id octets e a, none, refl)
+misread_is : (octets : List ℕ) (o : Option NodeId) → id_of_body octets ≡ o → IsNoBody request octets → MisreadRequest octets (misread_request_id (handle_of octets) o)
+misread_is octets None e none = (λ (a : AnnouncesNoRequest octets). no_such_id octets e a, none, refl)
 misread_is octets (Some id) e none = misread_by octets id (request_kind id) e refl none
 
 pub request_refused : (octets : List ℕ) (r : Result Request RequestFault) → (r ≡ request_read octets) ⊎ (r ≡ Err OutOfMemory)
-    → IfErr r (λ fault. Misread octets fault)
+    → IfErr r (λ fault. MisreadRequest octets fault)
 unfolding request_read
 request_refused octets (Ok m) h = tt
 request_refused octets (Err e) (inl h) =
-    let w = found_err (body_of request octets) (misread_id (handle_of octets) (id_of octets)) e h in
-    subst (Misread octets) (sym w.1) (misread_is octets (id_of octets) refl (no_body request lawful_request octets w.0))
-request_refused octets (Err e) (inr h) = subst (Misread octets) (sym (err_is e OutOfMemory h)) tt
+    let w = found_err (body_of request octets) (misread_request_id (handle_of octets) (id_of_body octets)) e h in
+    subst (MisreadRequest octets) (sym w.1) (misread_is octets (id_of_body octets) refl (no_body request lawful_request octets w.0))
+request_refused octets (Err e) (inr h) = subst (MisreadRequest octets) (sym (err_is e OutOfMemory h)) tt
 
 pub request_counted : (octets : List ℕ) (r : Result Request RequestFault) → (r ≡ request_read octets) ⊎ (r ≡ Err OutOfMemory)
     → IfOk r (λ m. request.count m ≤ length octets)
@@ -154,22 +154,22 @@ request_counted octets (Err e) h = tt
 pub request_read-found : (octets : List ℕ) (m : Request) → ((request_read octets ≡ Ok m) ↔ IsBody request m octets)
 unfolding request_read
 request_read-found octets m = (
-  (λ e. body_is request lawful_request octets m (found_ok (body_of request octets) (misread_id (handle_of octets) (id_of octets)) m (sym e))),
-  (λ h. ap (λ o. found_or o (misread_id (handle_of octets) (id_of octets))) (body_found request lawful_request octets m h)),
+  (λ e. body_is request lawful_request octets m (found_ok (body_of request octets) (misread_request_id (handle_of octets) (id_of_body octets)) m (sym e))),
+  (λ h. ap (λ o. found_or o (misread_request_id (handle_of octets) (id_of_body octets))) (body_found request lawful_request octets m h)),
 )
 
-pub request_read-refused : (octets : List ℕ) (fault : RequestFault) → request_read octets ≡ Err fault → Misread octets fault
+pub request_read-refused : (octets : List ℕ) (fault : RequestFault) → request_read octets ≡ Err fault → MisreadRequest octets fault
 request_read-refused octets fault e = request_refused octets (Err fault) (inl (sym e))
 
-kind_memory : (handle : ℕ) (o : Option RequestKind) → misread_kind handle o ≡ OutOfMemory → ⊥
+kind_memory : (handle : ℕ) (o : Option RequestKind) → misread_request_kind handle o ≡ OutOfMemory → ⊥
 kind_memory handle None e = cc
 kind_memory handle (Some k) e = cc
 
-id_memory : (handle : ℕ) (o : Option NodeId) → misread_id handle o ≡ OutOfMemory → ⊥
+id_memory : (handle : ℕ) (o : Option NodeId) → misread_request_id handle o ≡ OutOfMemory → ⊥
 id_memory handle None e = cc
 id_memory handle (Some id) e = kind_memory handle (request_kind id) e
 
 pub request_read-memory : (octets : List ℕ) → request_read octets ≡ Err OutOfMemory → ⊥
 unfolding request_read
 request_read-memory octets e =
-    id_memory (handle_of octets) (id_of octets) (sym (found_err (body_of request octets) (misread_id (handle_of octets) (id_of octets)) OutOfMemory (sym e)).1)
+    id_memory (handle_of octets) (id_of_body octets) (sym (found_err (body_of request octets) (misread_request_id (handle_of octets) (id_of_body octets)) OutOfMemory (sym e)).1)

@@ -7,7 +7,7 @@ use Rattle.ua_wire.specs.declared.fault.ReadFault.{ReadFault}
 use Rattle.ua_wire.specs.declared.fault.ReadFault.TheVariants.{NoValue, OutOfMemory as NoMemory}
 use Rattle.ua_wire.proofs.Readers.{some_is}
 use Rattle.ua_opening.specs.Message.{kind_at}
-use Rattle.ua_services.specs.Request.{requests, kind_of, kind_read, kind_alone, Structure}
+use Rattle.ua_services.specs.Request.{requests, kind_of_request, read_as_request, kind_alone, RequestStructure}
 use Rattle.ua_services.specs.declared.request.Request.{Request}
 use Rattle.ua_services.specs.declared.request.RequestKind.{RequestKind}
 use Rattle.ua_services.specs.declared.fault.RequestFault.{RequestFault}
@@ -57,31 +57,31 @@ skips_made f r old new (Ok done) h = same_skip f (r old) ∙ h
 skips_made f r old new (Err NoValue) h = same_skip f (r old) ∙ h
 skips_made f r old new (Err NoMemory) h = tt
 
-kind_made : (k : RequestKind) (old new : List ℕ) (m : Request) → kind_at requests most_levels (Some k) old ≡ Some (m, new) → kind_of m ≡ k
+kind_made : (k : RequestKind) (old new : List ℕ) (m : Request) → kind_at requests most_levels (Some k) old ≡ Some (m, new) → kind_of_request m ≡ k
 kind_made k old new m e =
     let s = made_of (requests.make k) ((requests.format k).decode most_levels old) m new e in
-    sym (ap kind_of s.2) ∙ ap (λ (p : (j : RequestKind) × Structure j). p.0) ((is_request k).forth s.0)
+    sym (ap kind_of_request s.2) ∙ ap (λ (p : (j : RequestKind) × RequestStructure j). p.0) ((is_request k).forth s.0)
 
 pub skip_fails : (k : RequestKind) (head old new : List ℕ) (e : ReadFault) (fault : RequestFault) → head ≡ old
     → Gives (skipped (kind_at requests most_levels (Some k))) old new (Err e) → IsUnread head e fault
-    → Skips (Err fault) (kind_read k old)
+    → Skips (Err fault) (read_as_request k old)
 skip_fails k head old new e fault same h is =
-    skips (Err fault) (kind_read k old)
+    skips (Err fault) (read_as_request k old)
     (kind_fails k head old new e fault same (image_err (λ (m : Request). tt) (kind_at requests most_levels (Some k)) old new e h) is)
 
 pub skip_left : (k : RequestKind) (head old new : List ℕ) (fault : RequestFault) → head ≡ old → skipped (kind_at requests most_levels (Some k)) old
     ≡ Some (tt, new) → 0 < length new → IsUnread head NoValue fault
-    → Skips (Err fault) (kind_read k old)
+    → Skips (Err fault) (read_as_request k old)
 skip_left k head old new fault same h more is =
     let w = made_of (λ (m : Request). tt) (kind_at requests most_levels (Some k) old) tt new h in
-    skips (Err fault) (kind_read k old) (kind_left k head old new w.0 fault same w.1 more is)
+    skips (Err fault) (read_as_request k old) (kind_left k head old new w.0 fault same w.1 more is)
 
 pub skip_whole : (k : RequestKind) (old new : List ℕ) → skipped (kind_at requests most_levels (Some k)) old ≡ Some (tt, new) → length new ≤ 0
-    → Skips (Ok k) (kind_read k old)
+    → Skips (Ok k) (read_as_request k old)
 skip_whole k old new h none =
     let w = made_of (λ (m : Request). tt) (kind_at requests most_levels (Some k) old) tt new h in
-    subst (λ (j : RequestKind). Skips (Ok j) (kind_read k old)) (kind_made k old new w.0 w.1)
-    (skips (Ok w.0) (kind_read k old) (kind_whole k old new w.0 w.1 none))
+    subst (λ (j : RequestKind). Skips (Ok j) (read_as_request k old)) (kind_made k old new w.0 w.1)
+    (skips (Ok w.0) (read_as_request k old) (kind_whole k old new w.0 w.1 none))
 
 -- ---- the whole body
 

@@ -11,7 +11,7 @@ use Rattle.ua_structures.specs.Thin.{thinned_request}
 use Rattle.ua_structures.specs.declared.attribute.WriteRequest.{WriteRequest}
 use Rattle.ua_structures.specs.declared.thin.ValueType.{ValueType}
 use Rattle.ua_opening.specs.Message.{found_or, handle_behind, if_last}
-use Rattle.ua_services.specs.Request.{kind_read, request_read, requests, thin_read, thin_request}
+use Rattle.ua_services.specs.Request.{read_as_request, request_read, requests, thin_read, thin_request}
 use Rattle.ua_services.specs.declared.fault.RequestFault.{RequestFault}
 use Rattle.ua_services.specs.declared.fault.RequestFault.TheVariants.{Unreadable}
 use Rattle.ua_services.specs.declared.request.Request.{Request}
@@ -41,7 +41,7 @@ found_whole make takes same None fault = refl
 found_whole make takes same (Some x) fault = last_whole takes (make x.0) x.1 fault (same x.0)
 
 -- a request of another kind than Write
-pub kept_whole : (takes : Takes) (k : RequestKind) (octets : List ℕ) → (k ≡ Write → ⊥) → thin_read takes (kind_read k octets) ≡ kind_read k octets
+pub kept_whole : (takes : Takes) (k : RequestKind) (octets : List ℕ) → (k ≡ Write → ⊥) → thin_read takes (read_as_request k octets) ≡ read_as_request k octets
 kept_whole takes Write octets other = absurd (other refl)
 kept_whole takes k octets other = found_whole (requests.make k) takes (λ m. refl) ((requests.format k).decode most_levels octets)
     (Unreadable (handle_behind octets))
@@ -55,18 +55,18 @@ thin_fault takes fault r (inr h) = inr h
 
 pub write_fails : (takes : Takes) (head old new : List ℕ) (e : ReadFault) (fault : RequestFault) → head ≡ old
     → Gives (image_read (thinned_request takes) (write_request.decode most_levels)) old new (Err e) → IsUnread head e fault
-    → Reads (Err fault) (thin_read takes (kind_read Write old))
+    → Reads (Err fault) (thin_read takes (read_as_request Write old))
 write_fails takes head old new e fault same h is =
-    thin_fault takes fault (kind_read Write old) (kind_fails Write head old new e fault same
+    thin_fault takes fault (read_as_request Write old) (kind_fails Write head old new e fault same
     (image_fails WriteMessage (write_request.decode most_levels) old new e (image_err (thinned_request takes) (write_request.decode most_levels) old new e h))
     is)
 
 pub write_left : (takes : Takes) (head old new : List ℕ) (kept : WriteRequest) (fault : RequestFault) → head ≡ old
     → image_read (thinned_request takes) (write_request.decode most_levels) old ≡ Some (kept, new)
-    → 0 < length new → IsUnread head NoValue fault → Reads (Err fault) (thin_read takes (kind_read Write old))
+    → 0 < length new → IsUnread head NoValue fault → Reads (Err fault) (thin_read takes (read_as_request Write old))
 write_left takes head old new kept fault same h more is =
     let whole = made_of (thinned_request takes) (write_request.decode most_levels old) kept new h in
-    thin_fault takes fault (kind_read Write old)
+    thin_fault takes fault (read_as_request Write old)
     (kind_left Write head old new (WriteMessage whole.0) fault same (image_found WriteMessage (write_request.decode most_levels) old new whole.0 whole.1) more
     is)
 
@@ -77,21 +77,21 @@ thin_ok takes m kept r is (inr h) = absurd cc
 
 pub write_whole : (takes : Takes) (old new : List ℕ) (kept : WriteRequest) → image_read (thinned_request takes) (write_request.decode most_levels) old
     ≡ Some (kept, new) → length new ≤ 0
-    → Reads (Ok (WriteMessage kept)) (thin_read takes (kind_read Write old))
+    → Reads (Ok (WriteMessage kept)) (thin_read takes (read_as_request Write old))
 write_whole takes old new kept h none =
     let whole = made_of (thinned_request takes) (write_request.decode most_levels old) kept new h in
-    thin_ok takes whole.0 kept (kind_read Write old) whole.2
+    thin_ok takes whole.0 kept (read_as_request Write old) whole.2
     (kind_whole Write old new (WriteMessage whole.0) (image_found WriteMessage (write_request.decode most_levels) old new whole.0 whole.1) none)
 
 -- ---- the whole body
 
-pub whole_is : (takes : Takes) (k : RequestKind) (octets rest : List ℕ) (r : Result Request RequestFault) → request_read octets ≡ kind_read k rest
-    → (k ≡ Write → ⊥) → Reads r (kind_read k rest)
+pub whole_is : (takes : Takes) (k : RequestKind) (octets rest : List ℕ) (r : Result Request RequestFault) → request_read octets ≡ read_as_request k rest
+    → (k ≡ Write → ⊥) → Reads r (read_as_request k rest)
     → Reads r (thin_read takes (request_read octets))
-whole_is takes k octets rest r is other h = read_behind r (thin_read takes (request_read octets)) (kind_read k rest) (ap (thin_read takes) is
+whole_is takes k octets rest r is other h = read_behind r (thin_read takes (request_read octets)) (read_as_request k rest) (ap (thin_read takes) is
     ∙ kept_whole takes k rest other) h
 
-pub thin_is : (takes : Takes) (octets rest : List ℕ) (r : Result Request RequestFault) → request_read octets ≡ kind_read Write rest
-    → Reads r (thin_read takes (kind_read Write rest))
+pub thin_is : (takes : Takes) (octets rest : List ℕ) (r : Result Request RequestFault) → request_read octets ≡ read_as_request Write rest
+    → Reads r (thin_read takes (read_as_request Write rest))
     → Reads r (thin_read takes (request_read octets))
-thin_is takes octets rest r is h = read_behind r (thin_read takes (request_read octets)) (thin_read takes (kind_read Write rest)) (ap (thin_read takes) is) h
+thin_is takes octets rest r is h = read_behind r (thin_read takes (request_read octets)) (thin_read takes (read_as_request Write rest)) (ap (thin_read takes) is) h

@@ -7,7 +7,7 @@ use Rattle.ua_structures.proofs.AttributeSound.{sound_write_response}
 use Rattle.ua_structures.proofs.DiscoverySound.{sound_get_endpoints_response}
 use Rattle.ua_opening.proofs.HeaderSound.{sound_service_fault}
 use Rattle.ua_structures.proofs.SessionSound.{sound_create_session_response, sound_activate_session_response, sound_close_session_response}
-use Rattle.ua_services.specs.Response.{response, responses, response_parts, Structure}
+use Rattle.ua_services.specs.Response.{response, responses, response_parts, ResponseStructure}
 use Rattle.ua_services.specs.declared.response.Response.{Response}
 use Rattle.ua_services.specs.declared.response.Response.TheVariants.{Read as ReadMessage}
 use Rattle.ua_services.specs.declared.response.ResponseKind.{ResponseKind}
@@ -19,7 +19,7 @@ response_back : (v : Response) → v ≡ responses.make (response_parts v).0 (re
 response_back (ReadMessage m) = refl
 response_back m = refl
 
-response_forth : (k : ResponseKind) (m : Structure k) → response_parts (responses.make k m) ≡ (k, m)
+response_forth : (k : ResponseKind) (m : ResponseStructure k) → response_parts (responses.make k m) ≡ (k, m)
 response_forth Read m = refl
 response_forth k m = refl
 

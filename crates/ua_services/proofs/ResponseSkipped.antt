@@ -7,7 +7,7 @@ use Rattle.ua_builtin.specs.NodeId.{node_id}
 use Rattle.ua_builtin.specs.declared.node_id.NodeId.{NodeId}
 use Rattle.ua_wire.specs.declared.fault.ReadFault.{ReadFault}
 use Rattle.ua_opening.specs.Message.{kind_at}
-use Rattle.ua_services.specs.Response.{responses, response_kind, response_read, response_kind_alone, kind_of, kind_read, unread_by, Structure}
+use Rattle.ua_services.specs.Response.{responses, response_kind, response_read, response_kind_alone, kind_of_response, read_as_response, unread_by, ResponseStructure}
 use Rattle.ua_services.specs.declared.response.Response.{Response}
 use Rattle.ua_services.specs.declared.response.ResponseKind.{ResponseKind}
 use Rattle.ua_services.specs.declared.fault.ResponseFault.{ResponseFault}
@@ -26,28 +26,28 @@ skips r expected (inr h) = inr (ap response_kind_alone h)
 
 -- ---- a response behind its NodeId
 
-kind_made : (k : ResponseKind) (old new : List ℕ) (m : Response) → kind_at responses most_levels (Some k) old ≡ Some (m, new) → kind_of m ≡ k
+kind_made : (k : ResponseKind) (old new : List ℕ) (m : Response) → kind_at responses most_levels (Some k) old ≡ Some (m, new) → kind_of_response m ≡ k
 kind_made k old new m e =
     let s = made_of (responses.make k) ((responses.format k).decode most_levels old) m new e in
-    sym (ap kind_of s.2) ∙ ap (λ (p : (j : ResponseKind) × Structure j). p.0) ((is_response k).forth s.0)
+    sym (ap kind_of_response s.2) ∙ ap (λ (p : (j : ResponseKind) × ResponseStructure j). p.0) ((is_response k).forth s.0)
 
 pub skip_fails : (k : ResponseKind) (old new : List ℕ) (e : ReadFault) → Gives (skipped (kind_at responses most_levels (Some k))) old new (Err e)
-    → Skips (Err (unread_by e)) (kind_read k old)
+    → Skips (Err (unread_by e)) (read_as_response k old)
 skip_fails k old new e h =
-    skips (Err (unread_by e)) (kind_read k old) (kind_fails k old new e (image_err (λ (m : Response). tt) (kind_at responses most_levels (Some k)) old new e h))
+    skips (Err (unread_by e)) (read_as_response k old) (kind_fails k old new e (image_err (λ (m : Response). tt) (kind_at responses most_levels (Some k)) old new e h))
 
 pub skip_left : (k : ResponseKind) (old new : List ℕ) → skipped (kind_at responses most_levels (Some k)) old ≡ Some (tt, new) → 0 < length new
-    → Skips (Err Unreadable) (kind_read k old)
+    → Skips (Err Unreadable) (read_as_response k old)
 skip_left k old new h more =
     let w = made_of (λ (m : Response). tt) (kind_at responses most_levels (Some k) old) tt new h in
-    skips (Err Unreadable) (kind_read k old) (kind_left k old new w.0 w.1 more)
+    skips (Err Unreadable) (read_as_response k old) (kind_left k old new w.0 w.1 more)
 
 pub skip_whole : (k : ResponseKind) (old new : List ℕ) → skipped (kind_at responses most_levels (Some k)) old ≡ Some (tt, new) → length new ≤ 0
-    → Skips (Ok k) (kind_read k old)
+    → Skips (Ok k) (read_as_response k old)
 skip_whole k old new h none =
     let w = made_of (λ (m : Response). tt) (kind_at responses most_levels (Some k) old) tt new h in
-    subst (λ (j : ResponseKind). Skips (Ok j) (kind_read k old)) (kind_made k old new w.0 w.1)
-    (skips (Ok w.0) (kind_read k old) (kind_whole k old new w.0 w.1 none))
+    subst (λ (j : ResponseKind). Skips (Ok j) (read_as_response k old)) (kind_made k old new w.0 w.1)
+    (skips (Ok w.0) (read_as_response k old) (kind_whole k old new w.0 w.1 none))
 
 -- ---- the whole body
 
@@ -58,8 +58,8 @@ pub no_kind : (old rest : List ℕ) (id : NodeId) → node_id.decode old ≡ Som
 no_kind old rest id found is = skips (Err Unknown) (response_read old) (unknown old rest id found is)
 
 pub body_skipped : (k : ResponseKind) (old rest : List ℕ) (id : NodeId) (r : Result ResponseKind ResponseFault) → node_id.decode old ≡ Some (id, rest)
-    → response_kind id ≡ Some k → Skips r (kind_read k rest) → Skips r (response_read old)
+    → response_kind id ≡ Some k → Skips r (read_as_response k rest) → Skips r (response_read old)
 body_skipped k old rest id r found is (inl h) =
     subst (λ (s : Result ResponseKind ResponseFault). Skips s (response_read old)) (sym h)
-    (skips (kind_read k rest) (response_read old) (kind_found k old rest id (kind_read k rest) found is (inl refl)))
+    (skips (read_as_response k rest) (response_read old) (kind_found k old rest id (read_as_response k rest) found is (inl refl)))
 body_skipped k old rest id r found is (inr h) = inr h

@@ -13,9 +13,9 @@ identity_object octets = record { type_id = standard 321; body = ByteString (Som
 
 -- the object holds bytes that are an encoding of the token, with nothing after it (OPC 10000-4,
 -- 7.41.3)
-abbrev pub Carries : ExtensionObject → AnonymousIdentityToken → Type 0
-Carries object token = (octets : List ℕ) × (object ≡ identity_object octets) × IsBody anonymous_identity_token token octets
+abbrev pub CarriesToken : ExtensionObject → AnonymousIdentityToken → Type 0
+CarriesToken object token = (octets : List ℕ) × (object ≡ identity_object octets) × IsBody anonymous_identity_token token octets
 
 -- the object carries no token
 abbrev pub CarriesNone : ExtensionObject → Type 0
-CarriesNone object = (token : AnonymousIdentityToken) → Carries object token → ⊥
+CarriesNone object = (token : AnonymousIdentityToken) → CarriesToken object token → ⊥

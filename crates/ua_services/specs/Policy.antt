@@ -7,9 +7,9 @@ use Rattle.ua_structures.specs.declared.discovery.EndpointDescription.{EndpointD
 use Rattle.ua_structures.specs.declared.discovery.UserTokenPolicy.{UserTokenPolicy}
 
 -- the items of an array, none if it is null
-abbrev pub listed : {A : Type 0} → Option (List A) → List A
-listed None = []
-listed (Some items) = items
+abbrev pub array_items : {A : Type 0} → Option (List A) → List A
+array_items None = []
+array_items (Some items) = items
 
 -- a text that is not null is these bytes
 abbrev pub is_text_of : List ℕ → Option (List ℕ) → Bool
@@ -35,7 +35,7 @@ is_anonymous policy = int_eq policy.token_type (pos 0)
 -- the PolicyId of the first anonymous token policy of an endpoint, which may be null
 abbrev pub anonymous_id_in : Option EndpointDescription → Option (Option (List ℕ))
 anonymous_id_in None = None
-anonymous_id_in (Some endpoint) = option_map (λ (policy : UserTokenPolicy). policy.policy_id) (find is_anonymous (listed endpoint.user_identity_tokens))
+anonymous_id_in (Some endpoint) = option_map (λ (policy : UserTokenPolicy). policy.policy_id) (find is_anonymous (array_items endpoint.user_identity_tokens))
 
 -- an endpoint by which a session can be begun: without security, by UA TCP, and with an anonymous
 -- token policy

@@ -18,7 +18,7 @@ use Rattle.ua_structures.specs.declared.thin.ValueType.{ValueType}
 use Rattle.ua_wire.specs.declared.fault.ReadFault.{ReadFault}
 use Rattle.ua_wire.specs.declared.fault.ReadFault.TheVariants.{NoValue}
 use Rattle.ua_opening.specs.Message.{Kind, Kinds, announced, kind_at, message_of, with_number, IsNoBody}
-use Rattle.ua_opening.specs.Message.{body_of, if_last, id_of, handle_of, handle_behind, found_or}
+use Rattle.ua_opening.specs.Message.{body_of, if_last, id_of_body, handle_of, handle_behind, found_or}
 use Rattle.ua_services.specs.declared.request.Request.{Request}
 use Rattle.ua_services.specs.declared.request.Request.TheVariants as message
 use Rattle.ua_services.specs.declared.request.RequestKind.{RequestKind}
@@ -73,19 +73,19 @@ request_kinds =
     ∷ []
 
 -- the kind of request whose binary encoding has this number, if there is one (OPC 10000-6, A.3)
-abbrev pub numbered : ℕ → Option RequestKind
-numbered n = with_number (λ k. (request_row k).number) n request_kinds
+abbrev pub request_kind_numbered : ℕ → Option RequestKind
+request_kind_numbered n = with_number (λ k. (request_row k).number) n request_kinds
 
 -- the name of a kind of request
 abbrev pub request_kind_name : RequestKind → List ℕ
 request_kind_name k = (request_row k).name
 
 -- the structure of a request of each kind
-abbrev pub Structure : RequestKind → Type 0
-Structure k = (request_row k).structure
+abbrev pub RequestStructure : RequestKind → Type 0
+RequestStructure k = (request_row k).structure
 
 -- the kind and the structure of a request
-abbrev pub request_parts : Request → (k : RequestKind) × Structure k
+abbrev pub request_parts : Request → (k : RequestKind) × RequestStructure k
 request_parts (message.GetEndpoints m) = (kind.GetEndpoints, m)
 request_parts (message.CreateSession m) = (kind.CreateSession, m)
 request_parts (message.ActivateSession m) = (kind.ActivateSession, m)
@@ -96,26 +96,26 @@ request_parts (message.Write m) = (kind.Write, m)
 -- the kinds of request, with the properties of each
 abbrev pub requests : Kinds RequestKind Request
 requests = record {
-  structure = Structure;
+  structure = RequestStructure;
   format = λ k. (request_row k).format;
   number = λ k. (request_row k).number;
-  numbered = numbered;
+  numbered = request_kind_numbered;
   make = λ k. (request_row k).make;
   parts = request_parts;
 }
 
 -- the kind of a request
-abbrev pub kind_of : Request → RequestKind
-kind_of m = (request_parts m).0
+abbrev pub kind_of_request : Request → RequestKind
+kind_of_request m = (request_parts m).0
 
 -- the header of a request of any kind
-abbrev pub header_of : Request → RequestHeader
-header_of (message.GetEndpoints m) = m.request_header
-header_of (message.CreateSession m) = m.request_header
-header_of (message.ActivateSession m) = m.request_header
-header_of (message.CloseSession m) = m.request_header
-header_of (message.Read m) = m.request_header
-header_of (message.Write m) = m.request_header
+abbrev pub header_of_request : Request → RequestHeader
+header_of_request (message.GetEndpoints m) = m.request_header
+header_of_request (message.CreateSession m) = m.request_header
+header_of_request (message.ActivateSession m) = m.request_header
+header_of_request (message.CloseSession m) = m.request_header
+header_of_request (message.Read m) = m.request_header
+header_of_request (message.Write m) = m.request_header
 
 -- the request that a NodeId announces
 abbrev pub request_kind : NodeId → Option RequestKind
@@ -133,38 +133,38 @@ request_of_kind k levels = kind_at requests levels (Some k)
 
 -- the error for bytes that are no request, by the kind that their NodeId announces: Unsupported if
 -- it announces none
-abbrev pub misread_kind : ℕ → Option RequestKind → RequestFault
-misread_kind handle None = Unsupported handle
-misread_kind handle (Some k) = Unreadable handle
+abbrev pub misread_request_kind : ℕ → Option RequestKind → RequestFault
+misread_request_kind handle None = Unsupported handle
+misread_request_kind handle (Some k) = Unreadable handle
 
 -- the same by the NodeId at the start of the bytes, if there is one
-abbrev pub misread_id : ℕ → Option NodeId → RequestFault
-misread_id handle None = Unreadable handle
-misread_id handle (Some id) = misread_kind handle (request_kind id)
+abbrev pub misread_request_id : ℕ → Option NodeId → RequestFault
+misread_request_id handle None = Unreadable handle
+misread_request_id handle (Some id) = misread_request_kind handle (request_kind id)
 
 -- the request whose body the bytes are; otherwise the error that tells why they are none, with
 -- their RequestHandle
 unfoldable pub request_read : List ℕ → Result Request RequestFault
-request_read octets = found_or (body_of request octets) (misread_id (handle_of octets) (id_of octets))
+request_read octets = found_or (body_of request octets) (misread_request_id (handle_of octets) (id_of_body octets))
 
 -- of what was decoded, the kind of the request alone, or the error
 abbrev pub kind_alone : Result Request RequestFault → Result RequestKind RequestFault
-kind_alone (Ok m) = Ok (kind_of m)
+kind_alone (Ok m) = Ok (kind_of_request m)
 kind_alone (Err fault) = Err fault
 
 -- ---- why bytes are no request
 
 -- the bytes begin with a NodeId that announces no request
-abbrev pub AnnouncesNone : List ℕ → Type 0
-AnnouncesNone octets = (id : NodeId) × (id_of octets ≡ Some id) × (request_kind id ≡ None)
+abbrev pub AnnouncesNoRequest : List ℕ → Type 0
+AnnouncesNoRequest octets = (id : NodeId) × (id_of_body octets ≡ Some id) × (request_kind id ≡ None)
 
 -- the error for bytes that are no request: they begin with a NodeId that announces none, or with
 -- one that announces a request that does not follow, or with no NodeId; the number is their
 -- RequestHandle
-abbrev pub Misread : List ℕ → RequestFault → Type 0
-Misread octets (Unsupported handle) = AnnouncesNone octets × IsNoBody request octets × (handle ≡ handle_of octets)
-Misread octets (Unreadable handle) = (AnnouncesNone octets → ⊥) × IsNoBody request octets × (handle ≡ handle_of octets)
-Misread octets OutOfMemory = Unit {0}
+abbrev pub MisreadRequest : List ℕ → RequestFault → Type 0
+MisreadRequest octets (Unsupported handle) = AnnouncesNoRequest octets × IsNoBody request octets × (handle ≡ handle_of octets)
+MisreadRequest octets (Unreadable handle) = (AnnouncesNoRequest octets → ⊥) × IsNoBody request octets × (handle ≡ handle_of octets)
+MisreadRequest octets OutOfMemory = Unit {0}
 
 -- ---- after the NodeId
 
@@ -175,8 +175,8 @@ unread_with handle ReadFault.OutOfMemory = OutOfMemory
 
 -- the request of this kind that bytes are after its NodeId; otherwise the error that tells that
 -- they are none
-abbrev pub kind_read : (k : RequestKind) → List ℕ → Result Request RequestFault
-kind_read k octets = found_or (kind_at requests most_levels (Some k) octets >>= λ x. if_last x.0 x.1) (Unreadable (handle_behind octets))
+abbrev pub read_as_request : (k : RequestKind) → List ℕ → Result Request RequestFault
+read_as_request k octets = found_or (kind_at requests most_levels (Some k) octets >>= λ x. if_last x.0 x.1) (Unreadable (handle_behind octets))
 
 -- ---- what is kept of a request
 

@@ -17,7 +17,7 @@ use Rattle.ua_opening.specs.declared.header.ResponseHeader.{ResponseHeader}
 use Rattle.ua_opening.specs.declared.header.ServiceFault.{ServiceFault}
 use Rattle.ua_wire.specs.declared.fault.ReadFault.{ReadFault}
 use Rattle.ua_wire.specs.declared.fault.ReadFault.TheVariants.{NoValue}
-use Rattle.ua_opening.specs.Message.{Kind, Kinds, announced, message_of, with_number, IsNoBody, body_of, id_of, found_or, kind_at, if_last}
+use Rattle.ua_opening.specs.Message.{Kind, Kinds, announced, message_of, with_number, IsNoBody, body_of, id_of_body, found_or, kind_at, if_last}
 use Rattle.ua_services.specs.declared.request.RequestKind.{RequestKind}
 use Rattle.ua_services.specs.declared.response.Response.{Response}
 use Rattle.ua_services.specs.declared.response.Response.TheVariants as message
@@ -79,19 +79,19 @@ response_kinds =
     ∷ []
 
 -- the kind of response whose binary encoding has this number, if there is one (OPC 10000-6, A.3)
-abbrev pub numbered : ℕ → Option ResponseKind
-numbered n = with_number (λ k. (response_row k).number) n response_kinds
+abbrev pub response_kind_numbered : ℕ → Option ResponseKind
+response_kind_numbered n = with_number (λ k. (response_row k).number) n response_kinds
 
 -- the name of a kind of response
 abbrev pub response_kind_name : ResponseKind → List ℕ
 response_kind_name k = (response_row k).name
 
 -- the structure of a response of each kind
-abbrev pub Structure : ResponseKind → Type 0
-Structure k = (response_row k).structure
+abbrev pub ResponseStructure : ResponseKind → Type 0
+ResponseStructure k = (response_row k).structure
 
 -- the kind and the structure of a response
-abbrev pub response_parts : Response → (k : ResponseKind) × Structure k
+abbrev pub response_parts : Response → (k : ResponseKind) × ResponseStructure k
 response_parts (message.GetEndpoints m) = (kind.GetEndpoints, m)
 response_parts (message.CreateSession m) = (kind.CreateSession, m)
 response_parts (message.ActivateSession m) = (kind.ActivateSession, m)
@@ -103,27 +103,27 @@ response_parts (message.ServiceFault m) = (kind.ServiceFault, m)
 -- the kinds of response, with the properties of each
 abbrev pub responses : Kinds ResponseKind Response
 responses = record {
-  structure = Structure;
+  structure = ResponseStructure;
   format = λ k. (response_row k).format;
   number = λ k. (response_row k).number;
-  numbered = numbered;
+  numbered = response_kind_numbered;
   make = λ k. (response_row k).make;
   parts = response_parts;
 }
 
 -- the kind of a response
-abbrev pub kind_of : Response → ResponseKind
-kind_of m = (response_parts m).0
+abbrev pub kind_of_response : Response → ResponseKind
+kind_of_response m = (response_parts m).0
 
 -- the header of a response of any kind
-abbrev pub header_of : Response → ResponseHeader
-header_of (message.GetEndpoints m) = m.response_header
-header_of (message.CreateSession m) = m.response_header
-header_of (message.ActivateSession m) = m.response_header
-header_of (message.CloseSession m) = m.response_header
-header_of (message.Read m) = m.response_header
-header_of (message.Write m) = m.response_header
-header_of (message.ServiceFault m) = m.response_header
+abbrev pub header_of_response : Response → ResponseHeader
+header_of_response (message.GetEndpoints m) = m.response_header
+header_of_response (message.CreateSession m) = m.response_header
+header_of_response (message.ActivateSession m) = m.response_header
+header_of_response (message.CloseSession m) = m.response_header
+header_of_response (message.Read m) = m.response_header
+header_of_response (message.Write m) = m.response_header
+header_of_response (message.ServiceFault m) = m.response_header
 
 -- the response that a NodeId announces
 abbrev pub response_kind : NodeId → Option ResponseKind
@@ -155,27 +155,27 @@ response_of_kind k levels = kind_at responses levels (Some k)
 
 -- the error for bytes that are no response, by the kind that their NodeId announces: Unknown if it
 -- announces none
-abbrev pub misread_kind : Option ResponseKind → ResponseFault
-misread_kind None = Unknown
-misread_kind (Some k) = Unreadable
+abbrev pub misread_response_kind : Option ResponseKind → ResponseFault
+misread_response_kind None = Unknown
+misread_response_kind (Some k) = Unreadable
 
 -- the same by the NodeId at the start of the bytes, if there is one
-abbrev pub misread_id : Option NodeId → ResponseFault
-misread_id None = Unreadable
-misread_id (Some id) = misread_kind (response_kind id)
+abbrev pub misread_response_id : Option NodeId → ResponseFault
+misread_response_id None = Unreadable
+misread_response_id (Some id) = misread_response_kind (response_kind id)
 
 -- the response whose body the bytes are; otherwise the error that tells why they are none
 unfoldable pub response_read : List ℕ → Result Response ResponseFault
-response_read octets = found_or (body_of response octets) (misread_id (id_of octets))
+response_read octets = found_or (body_of response octets) (misread_response_id (id_of_body octets))
 
 -- the response of this kind that bytes are after its NodeId; otherwise the error that tells that
 -- they are none
-abbrev pub kind_read : (k : ResponseKind) → List ℕ → Result Response ResponseFault
-kind_read k octets = found_or (kind_at responses most_levels (Some k) octets >>= λ x. if_last x.0 x.1) Unreadable
+abbrev pub read_as_response : (k : ResponseKind) → List ℕ → Result Response ResponseFault
+read_as_response k octets = found_or (kind_at responses most_levels (Some k) octets >>= λ x. if_last x.0 x.1) Unreadable
 
 -- of what was decoded, the kind of the response alone, or the error
 abbrev pub response_kind_alone : Result Response ResponseFault → Result ResponseKind ResponseFault
-response_kind_alone (Ok m) = Ok (kind_of m)
+response_kind_alone (Ok m) = Ok (kind_of_response m)
 response_kind_alone (Err fault) = Err fault
 
 -- the error of a response, if decoding it failed
@@ -186,11 +186,11 @@ unread_by ReadFault.OutOfMemory = OutOfMemory
 -- ---- why bytes are no response
 
 -- the bytes begin with a NodeId that announces no response
-abbrev pub AnnouncesNone : List ℕ → Type 0
-AnnouncesNone octets = (id : NodeId) × (id_of octets ≡ Some id) × (response_kind id ≡ None)
+abbrev pub AnnouncesNoResponse : List ℕ → Type 0
+AnnouncesNoResponse octets = (id : NodeId) × (id_of_body octets ≡ Some id) × (response_kind id ≡ None)
 
 -- the error for bytes that are no response, with the same cases as for requests
-abbrev pub Misread : List ℕ → ResponseFault → Type 0
-Misread octets Unknown = AnnouncesNone octets × IsNoBody response octets
-Misread octets Unreadable = (AnnouncesNone octets → ⊥) × IsNoBody response octets
-Misread octets OutOfMemory = Unit {0}
+abbrev pub MisreadResponse : List ℕ → ResponseFault → Type 0
+MisreadResponse octets Unknown = AnnouncesNoResponse octets × IsNoBody response octets
+MisreadResponse octets Unreadable = (AnnouncesNoResponse octets → ⊥) × IsNoBody response octets
+MisreadResponse octets OutOfMemory = Unit {0}

@@ -10,7 +10,7 @@ use Rattle.ua_services.specs.Identity.{identity_object}
 use Rattle.ua_services.specs.declared.request.Request.{Request}
 use Rattle.ua_services.specs.declared.request.Request.TheVariants.{GetEndpoints, CreateSession, ActivateSession, CloseSession, Read, Write}
 use Rattle.ua_opening.specs.Plain.{request_header_of}
-use Rattle.ua_structures.specs.Plain.{application_of, endpoints_of, create_session_of, activate_session_of, read_of, write_of, value_of_node}
+use Rattle.ua_structures.specs.Plain.{application_of, get_endpoints_request_of, create_session_of, activate_session_of, read_of, write_of, value_of_node}
 use Rattle.ua_structures.specs.Session.{anonymous_identity_token}
 use Rattle.ua_structures.specs.declared.attribute.ReadValueId.{ReadValueId}
 use Rattle.ua_structures.specs.declared.attribute.WriteValue.{WriteValue}
@@ -23,7 +23,7 @@ local_url port = codes "opc.tcp://localhost:" ++ decimal port
 
 -- GetEndpoints under no token, for any locale and profile
 abbrev pub get_endpoints : Option (List ℕ) → DateTime → ℕ → Request
-get_endpoints url moment handle = GetEndpoints (endpoints_of (request_header_of null_id moment handle) url)
+get_endpoints url moment handle = GetEndpoints (get_endpoints_request_of (request_header_of null_id moment handle) url)
 
 -- a timeout of 120000 ms, as the bit pattern of a Double
 abbrev pub session_timeout : DoubleBits

@@ -4,7 +4,7 @@ ghost use Rattle.std.specs.Prelude.{◌≡◌, ◌↔◌, IfOk, IsErrOf, IsFalse
 ghost use Rattle.ua_wire.specs.declared.fault.ReadFault.TheVariants.{NoValue};
 ghost use Rattle.ua_wire.specs.declared.fault.WriteFault.TheVariants.{NotWritable};
 ghost use Rattle.ua_structures.specs.Session.{anonymous_identity_token};
-ghost use Rattle.ua_services.specs.Identity.{Carries, CarriesNone, identity_object};
+ghost use Rattle.ua_services.specs.Identity.{CarriesToken, CarriesNone, identity_object};
 
 use std::alloc::Global;
 use ua_builtin::{
@@ -39,7 +39,7 @@ pub fn read_identity(
     alloc: Global,
     object: &ExtensionObject,
 ) -> Result<AnonymousIdentityToken, ReadFault>
-    ensures found { IfOk result (λ token. Carries object.now token) }
+    ensures found { IfOk result (λ token. CarriesToken object.now token) }
     ensures none { IsErrOf result NoValue → CarriesNone object.now }
 {
     if standard_number(&object.type_id) != Some(ANONYMOUS) {

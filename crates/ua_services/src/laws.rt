@@ -4,10 +4,10 @@ ghost use Rattle.std.specs.Prelude.{◌≡◌, ◌≢◌, ◌++◌, ◌↔◌, �
 ghost use Rattle.ua_builtin.specs.NodeId.{node_id};
 ghost use Rattle.ua_opening.specs.Laws.{BodyReadsBack, OneMessage};
 ghost use Rattle.ua_opening.specs.Message.{standard, IsBody};
-ghost use Rattle.ua_services.specs.Request.{request, requests, Structure as RequestStructure};
-ghost use Rattle.ua_services.specs.Request.{kind_of as request_kind, request_read, Misread as MisreadRequest};
-ghost use Rattle.ua_services.specs.Response.{response, responses, Structure as ResponseStructure};
-ghost use Rattle.ua_services.specs.Response.{kind_of as response_kind, response_read, Misread as MisreadResponse};
+ghost use Rattle.ua_services.specs.Request.{request, requests, RequestStructure};
+ghost use Rattle.ua_services.specs.Request.{kind_of_request as request_kind, request_read, MisreadRequest};
+ghost use Rattle.ua_services.specs.Response.{response, responses, ResponseStructure};
+ghost use Rattle.ua_services.specs.Response.{kind_of_response as response_kind, response_read, MisreadResponse};
 ghost use Rattle.ua_services.specs.declared.fault.RequestFault.TheVariants.{OutOfMemory as no_request_memory};
 ghost use Rattle.ua_services.specs.declared.fault.RequestFault.{RequestFault};
 ghost use Rattle.ua_services.specs.declared.fault.ResponseFault.TheVariants.{OutOfMemory as no_response_memory};

@@ -7,7 +7,7 @@ ghost use Rattle.ua_builtin.specs.Format.{most_levels, Gives, StaysBehind};
 ghost use Rattle.ua_wire.specs.declared.fault.WriteFault.TheVariants.{NotWritable};
 ghost use Rattle.ua_opening.specs.Message.{IsBody, handle_behind, kind_at};
 ghost use Rattle.ua_services.specs.Request.{request, requests, request_kind, request_of_kind, unread_with};
-ghost use Rattle.ua_services.specs.Request.{kind_read, kind_alone, request_read, thin_read, Misread};
+ghost use Rattle.ua_services.specs.Request.{read_as_request, kind_alone, request_read, thin_read, MisreadRequest};
 
 use crate::fault::RequestFault;
 use crate::kinds::{kind_of, message_of_kind, name_of, numbered};
@@ -80,7 +80,7 @@ impl Drop for Request {
 
 impl Request {
     ghost use Rattle.std.specs.Prelude.{◌≡◌, ◌≢◌, IfOk, IfErr};
-    ghost use Rattle.ua_services.specs.Request.{kind_of, header_of};
+    ghost use Rattle.ua_services.specs.Request.{kind_of_request, header_of_request};
     ghost use Rattle.ua_services.specs.declared.request.Request.TheVariants.{Read, Write};
     ghost use Rattle.ua_services.specs.declared.request.RequestKind.TheVariants.{Read as ReadKind, Write as WriteKind};
 
@@ -88,7 +88,7 @@ impl Request {
     pub fn into_read(self) -> Result<ReadRequest, Request>
         ensures taken { IfOk result (λ message. self ≡ Read message) }
         ensures same { IfErr result (λ other. other ≡ self) }
-        ensures other { IfErr result (λ other. kind_of other ≢ ReadKind) }
+        ensures other { IfErr result (λ other. kind_of_request other ≢ ReadKind) }
     {
         match self {
             Request::Read(message) => Ok(message),
@@ -100,7 +100,7 @@ impl Request {
     pub fn into_write(self) -> Result<WriteRequest, Request>
         ensures taken { IfOk result (λ message. self ≡ Write message) }
         ensures same { IfErr result (λ other. other ≡ self) }
-        ensures other { IfErr result (λ other. kind_of other ≢ WriteKind) }
+        ensures other { IfErr result (λ other. kind_of_request other ≢ WriteKind) }
     {
         match self {
             Request::Write(message) => Ok(message),
@@ -110,14 +110,14 @@ impl Request {
 
     /// The kind of the request.
     pub fn kind(&self) -> RequestKind
-        ensures { result ≡ kind_of self.now }
+        ensures { result ≡ kind_of_request self.now }
     {
         requests!(kind_of, self)
     }
 
     /// The header, with which requests of every kind begin.
     pub fn header(&self) -> &RequestHeader
-        ensures { result.now ≡ header_of self.now }
+        ensures { result.now ≡ header_of_request self.now }
     {
         requests!(by_kind, self, message, _number => &message.request_header)
     }
@@ -237,7 +237,7 @@ fn unsupported<S: Source>(alloc: Global, src: &mut S) -> RequestFault
 // once. Its header is read again for the handle where it is refused, from a fork.
 #[inline(never)]
 fn read_last<S: Source>(alloc: Global, src: &mut S) -> Result<Request, RequestFault>
-    ensures { (result ≡ kind_read RequestKind.Read (S.octets src.old)) ⊎ (result ≡ Err RequestFault.OutOfMemory) }
+    ensures { (result ≡ read_as_request RequestKind.Read (S.octets src.old)) ⊎ (result ≡ Err RequestFault.OutOfMemory) }
 {
     let mut head = src.fork();
     let mut message = ReadRequest::empty();
@@ -257,7 +257,7 @@ fn read_other<S: Source>(
     src: &mut S,
     kind: RequestKind,
 ) -> Result<Request, RequestFault>
-    ensures { (result ≡ kind_read kind (S.octets src.old)) ⊎ (result ≡ Err RequestFault.OutOfMemory) }
+    ensures { (result ≡ read_as_request kind (S.octets src.old)) ⊎ (result ≡ Err RequestFault.OutOfMemory) }
 {
     let mut head = src.fork();
     let request = match read_kind(alloc, src, MOST_LEVELS, kind) {
@@ -275,7 +275,7 @@ fn read_other<S: Source>(
 // after that.
 #[inline(always)]
 fn body_kind<S: Source>(alloc: Global, src: &mut S) -> Result<RequestKind, RequestFault>
-    ensures found { IfOk result (λ k. request_read (S.octets src.old) ≡ kind_read k (S.octets src.new)) }
+    ensures found { IfOk result (λ k. request_read (S.octets src.old) ≡ read_as_request k (S.octets src.new)) }
     ensures refused { IfErr result (λ fault. (request_read (S.octets src.old) ≡ Err fault)
         ⊎ (fault ≡ RequestFault.OutOfMemory)) }
 {
@@ -307,7 +307,7 @@ pub fn read_request<S: Source>(alloc: Global, src: &mut S) -> Result<Request, Re
     ensures read { (result ≡ request_read (S.octets src.old)) ⊎ (result ≡ Err RequestFault.OutOfMemory) }
     ensures found { IfOk result (λ m. IsBody request m (S.octets src.old)) }
     ensures counted { IfOk result (λ m. request.count m ≤ length (S.octets src.old)) }
-    ensures refused { IfErr result (λ fault. Misread (S.octets src.old) fault) }
+    ensures refused { IfErr result (λ fault. MisreadRequest (S.octets src.old) fault) }
 {
     read_body(alloc, src)
 }
@@ -320,7 +320,7 @@ fn read_thinned<S: Source, T: TakesTypes>(
     src: &mut S,
     types: &T,
 ) -> Result<Request, RequestFault>
-    ensures { (result ≡ thin_read (T.takes types.now) (kind_read RequestKind.Write (S.octets src.old)))
+    ensures { (result ≡ thin_read (T.takes types.now) (read_as_request RequestKind.Write (S.octets src.old)))
         ⊎ (result ≡ Err RequestFault.OutOfMemory) }
 {
     let mut head = src.fork();
@@ -385,7 +385,7 @@ fn skip_last<S: Source>(
     src: &mut S,
     kind: RequestKind,
 ) -> Result<RequestKind, RequestFault>
-    ensures { (result ≡ kind_alone (kind_read kind (S.octets src.old))) ⊎ (result ≡ Err RequestFault.OutOfMemory) }
+    ensures { (result ≡ kind_alone (read_as_request kind (S.octets src.old))) ⊎ (result ≡ Err RequestFault.OutOfMemory) }
 {
     let mut head = src.fork();
     if let Err(fault) = skip_kind(alloc, src, MOST_LEVELS, kind) {

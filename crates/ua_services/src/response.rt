@@ -7,7 +7,7 @@ ghost use Rattle.ua_builtin.specs.Format.{most_levels, Gives, StaysBehind};
 ghost use Rattle.ua_wire.specs.declared.fault.WriteFault.TheVariants.{NotWritable};
 ghost use Rattle.ua_opening.specs.Message.{IsBody, kind_at};
 ghost use Rattle.ua_services.specs.Response.{response, responses, response_kind, response_of_kind, unread_by};
-ghost use Rattle.ua_services.specs.Response.{kind_read, response_kind_alone, own_answer, response_read, Misread};
+ghost use Rattle.ua_services.specs.Response.{read_as_response, response_kind_alone, own_answer, response_read, MisreadResponse};
 
 use crate::fault::ResponseFault;
 use crate::kinds::{kind_of, message_of_kind, name_of, numbered};
@@ -83,7 +83,7 @@ impl Drop for Response {
 
 impl Response {
     ghost use Rattle.std.specs.Prelude.{◌≡◌, ◌≢◌, ◌↔◌, IsTrue, IfOk, IfErr};
-    ghost use Rattle.ua_services.specs.Response.{kind_of, header_of, Answers};
+    ghost use Rattle.ua_services.specs.Response.{kind_of_response, header_of_response, Answers};
     ghost use Rattle.ua_services.specs.declared.response.Response.TheVariants.{CreateSession, Read};
     ghost use Rattle.ua_services.specs.declared.response.ResponseKind.TheVariants.{CreateSession as CreateSessionKind};
     ghost use Rattle.ua_services.specs.declared.response.ResponseKind.TheVariants.{Read as ReadKind};
@@ -93,7 +93,7 @@ impl Response {
     pub fn into_read(self) -> Result<ReadResponse, Response>
         ensures taken { IfOk result (λ message. self ≡ Read message) }
         ensures same { IfErr result (λ other. other ≡ self) }
-        ensures other { IfErr result (λ other. kind_of other ≢ ReadKind) }
+        ensures other { IfErr result (λ other. kind_of_response other ≢ ReadKind) }
     {
         match self {
             Response::Read(message) => Ok(message),
@@ -106,7 +106,7 @@ impl Response {
     pub fn into_create_session(self) -> Result<CreateSessionResponse, Response>
         ensures taken { IfOk result (λ message. self ≡ CreateSession message) }
         ensures same { IfErr result (λ other. other ≡ self) }
-        ensures other { IfErr result (λ other. kind_of other ≢ CreateSessionKind) }
+        ensures other { IfErr result (λ other. kind_of_response other ≢ CreateSessionKind) }
     {
         match self {
             Response::CreateSession(message) => Ok(message),
@@ -116,14 +116,14 @@ impl Response {
 
     /// The kind of the response.
     pub fn kind(&self) -> ResponseKind
-        ensures { result ≡ kind_of self.now }
+        ensures { result ≡ kind_of_response self.now }
     {
         responses!(kind_of, self)
     }
 
     /// The header, with which responses of every kind begin.
     pub fn header(&self) -> &ResponseHeader
-        ensures { result.now ≡ header_of self.now }
+        ensures { result.now ≡ header_of_response self.now }
     {
         responses!(by_kind, self, message, _number => &message.response_header)
     }
@@ -131,7 +131,7 @@ impl Response {
     /// Whether this is a response to a request of that kind: it is of the request's own kind, or a
     /// ServiceFault (OPC 10000-4, 5.3).
     pub fn answers(&self, request: RequestKind) -> bool
-        ensures { IsTrue result ↔ Answers (kind_of self.now) request }
+        ensures { IsTrue result ↔ Answers (kind_of_response self.now) request }
     {
         let kind = self.kind();
         kind == ResponseKind::ServiceFault || kind == own_answer(request)
@@ -235,7 +235,7 @@ fn unreadable(fault: ReadFault) -> ResponseFault
 // once.
 #[inline(never)]
 fn read_last<S: Source>(alloc: Global, src: &mut S) -> Result<Response, ResponseFault>
-    ensures { (result ≡ kind_read ResponseKind.Read (S.octets src.old)) ⊎ (result ≡ Err ResponseFault.OutOfMemory) }
+    ensures { (result ≡ read_as_response ResponseKind.Read (S.octets src.old)) ⊎ (result ≡ Err ResponseFault.OutOfMemory) }
 {
     let mut message = ReadResponse::empty();
     if let Err(fault) = message.read_into(alloc, src, MOST_LEVELS) {
@@ -254,7 +254,7 @@ fn read_other<S: Source>(
     src: &mut S,
     kind: ResponseKind,
 ) -> Result<Response, ResponseFault>
-    ensures { (result ≡ kind_read kind (S.octets src.old)) ⊎ (result ≡ Err ResponseFault.OutOfMemory) }
+    ensures { (result ≡ read_as_response kind (S.octets src.old)) ⊎ (result ≡ Err ResponseFault.OutOfMemory) }
 {
     let response = match read_kind(alloc, src, MOST_LEVELS, kind) {
         Ok(response) => response,
@@ -289,7 +289,7 @@ pub fn read_response<S: Source>(alloc: Global, src: &mut S) -> Result<Response, 
     ensures read { (result ≡ response_read (S.octets src.old)) ⊎ (result ≡ Err ResponseFault.OutOfMemory) }
     ensures found { IfOk result (λ m. IsBody response m (S.octets src.old)) }
     ensures counted { IfOk result (λ m. response.count m ≤ length (S.octets src.old)) }
-    ensures refused { IfErr result (λ fault. Misread (S.octets src.old) fault) }
+    ensures refused { IfErr result (λ fault. MisreadResponse (S.octets src.old) fault) }
 {
     read_body(alloc, src)
 }
@@ -322,7 +322,7 @@ fn skip_last<S: Source>(
     src: &mut S,
     kind: ResponseKind,
 ) -> Result<ResponseKind, ResponseFault>
-    ensures { (result ≡ response_kind_alone (kind_read kind (S.octets src.old)))
+    ensures { (result ≡ response_kind_alone (read_as_response kind (S.octets src.old)))
         ⊎ (result ≡ Err ResponseFault.OutOfMemory) }
 {
     if let Err(fault) = skip_kind(alloc, src, MOST_LEVELS, kind) {

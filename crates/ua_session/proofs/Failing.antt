@@ -4,7 +4,7 @@ use Rattle.std.specs.Prelude.{MatchResult}
 use Rattle.ua_builtin.specs.declared.date_time.DateTime.{DateTime}
 use Rattle.ua_builtin.specs.declared.node_id.NodeId.{NodeId}
 use Rattle.ua_channel.specs.Line.{one_more}
-use Rattle.ua_client.specs.Client.{IsLeft, IsReady, ends}
+use Rattle.ua_client.specs.Client.{IsLeft, IsReady, ends_client}
 use Rattle.ua_client.specs.Hearing.{failures_behind, is_line_fault}
 use Rattle.ua_client.specs.declared.client.Client.{Client}
 use Rattle.ua_client.specs.declared.fault.ClientFault.{ClientFault}
@@ -15,13 +15,13 @@ use Rattle.ua_services.specs.declared.request.Request.{Request}
 use Rattle.ua_texts.specs.declared.style.EndpointStyle.{EndpointStyle}
 use Rattle.ua_texts.specs.declared.style.AnswerStyle.{AnswerStyle}
 use Rattle.ua_session.specs.Endpoints.{AsksEndpoints}
-use Rattle.ua_session.specs.Line.{LineFailed, LineState}
+use Rattle.ua_session.specs.Line.{LineFailedConversing, LineState}
 use Rattle.ua_session.specs.Policy.{ChoosesBy}
 use Rattle.ua_session.specs.Printed.{IsOutput}
 use Rattle.ua_session.specs.Question.{PrintsAnswers}
 use Rattle.ua_session.specs.Replies.{Expects, IsRefusedBy, IsUnprinted, PrintsEndpoints}
 use Rattle.ua_session.specs.Session.{AsksByPolicy, AsksInSession, AsksUnder, EndsUnbegun, FindsPolicy, handle_unbegun}
-use Rattle.ua_session.specs.Steps.{Asks, Begins, CallsClient, ClosesClient, OpensServer, first_of, told, told_session}
+use Rattle.ua_session.specs.Steps.{AsksRequest, BeginsSessionBy, CallsClient, ClosesClient, OpensServer, first_fault_of, told, told_session}
 use Rattle.ua_session.specs.Told.{of_client}
 use Rattle.ua_client.specs.Session.{session_alone}
 use Rattle.ua_client.specs.declared.fault.SessionFault.{SessionFault}
@@ -54,7 +54,7 @@ told_line client.Read = refl
 told_line other = refl
 
 -- a client is done after a fault of the line
-line_ends : (f : ClientFault) → is_line_fault f ≡ true → ends f ≡ true
+line_ends : (f : ClientFault) → is_line_fault f ≡ true → ends_client f ≡ true
 line_ends client.Read h = refl
 line_ends client.Write h = refl
 line_ends other h = absurd cc
@@ -116,7 +116,7 @@ found_joins : {A B : Type 0} (found : A) (result : Result B QuestionFault) → J
 found_joins found result = (λ g h. h, λ f. absurd f, λ f. f)
 
 -- the first fault
-first_joins : {A : Type 0} (one : Result A QuestionFault) (two : Result (Unit {0}) QuestionFault) → Joins one two (first_of one two)
+first_joins : {A : Type 0} (one : Result A QuestionFault) (two : Result (Unit {0}) QuestionFault) → Joins one two (first_fault_of one two)
 first_joins (Ok found) (Ok done) = (λ g h. refl, λ f. f, λ f. f)
 first_joins (Ok found) (Err f) = (λ g h. h, λ x. absurd x, λ x. x)
 first_joins (Err (Output e)) two = (λ g h. refl, λ x. tt, λ x. tt)
@@ -197,7 +197,7 @@ call_stage {A} {Does} {old} {new} {before} {after} result call = record {
       );
 }
 
-asks_stage : {request : Request} {old new : Client} {before after : LineState} (result : Result Reply QuestionFault) → Asks request old new before after result
+asks_stage : {request : Request} {old new : Client} {before after : LineState} (result : Result Reply QuestionFault) → AsksRequest request old new before after result
     → Stage old.is_done new.is_done before.failures after.failures result
 asks_stage result (inl nothing) = idle result (ap (λ (x : Client). x.is_done) nothing.1) (ap (λ (s : LineState). s.failures) nothing.2)
     (ap tells_line nothing.0)
@@ -264,7 +264,7 @@ under_stage : {M O : Type 0} {gives : M → ℤ → M → Type 0} {contents : O 
 under_stage {contents = contents} {style = style} {question = question} {old = old} {new = new} {before = before} {after = after} {had = had} {have = have}
     result under =
     subst (λ (r : Result Verdict QuestionFault). Stage old.is_done new.is_done before.failures after.failures r) (sym under.result_is)
-    (joined old.is_done under.asked.is_done new.is_done under.printed under.ended (first_of under.printed under.ended) (first_joins under.printed under.ended)
+    (joined old.is_done under.asked.is_done new.is_done under.printed under.ended (first_fault_of under.printed under.ended) (first_joins under.printed under.ended)
     (handed under.called under.printed (answers_hands contents style question had have under.called under.printed under.prints)
     (asks_stage under.called under.asks))
     (handed under.ends.called under.ended (expects_hands under.ends.called under.ended under.ends.expects) (call_stage under.ends.called under.ends.calls)))
@@ -288,7 +288,7 @@ alone_told (Ok token) = refl
 alone_told (Err refused) = refl
 
 begins_stage : {policy_id : Option (List ℕ)} {moment : DateTime} {old new : Client} {before after : LineState} (result : Result NodeId NotBegun)
-    → Begins policy_id moment old new before after result → Stage old.is_done new.is_done before.failures after.failures (alone result)
+    → BeginsSessionBy policy_id moment old new before after result → Stage old.is_done new.is_done before.failures after.failures (alone result)
 begins_stage {old = old} {new = new} {before = before} {after = after} result begins =
     call_stage {Does = λ answer. Unit {0}} {old = old} {new = new} {before = before} {after = after} (alone result) (record {
       answer = session_alone begins.answer;
@@ -391,7 +391,7 @@ found_fails : {A : Type 0} {e : Bool} {n m : ℕ} (found : A) → Fails e n m (O
 found_fails found (inl none) = none.same
 found_fails found (inr one) = absurd one.fault
 
-fails_failed : {A : Type 0} {e : Bool} {n m : ℕ} (result : Result A QuestionFault) → Fails e n m result → LineFailed n result m
+fails_failed : {A : Type 0} {e : Bool} {n m : ℕ} (result : Result A QuestionFault) → Fails e n m result → LineFailedConversing n result m
 fails_failed (Ok found) h = found_fails found h
 fails_failed (Err (Connection client.Read)) h = line_fails (Err (Connection client.Read)) refl h
 fails_failed (Err (Connection client.Write)) h = line_fails (Err (Connection client.Write)) refl h
@@ -399,12 +399,12 @@ fails_failed (Err other) h = other_fails (Err other) h
 
 -- a client was opened, did this, and was closed
 run_failed : {A : Type 0} (opened : Client) (e : Bool) {n m k : ℕ} (printed : Result A QuestionFault) (closed : Result (Unit {0}) QuestionFault)
-    (result : Result A QuestionFault) → IsReady opened → result ≡ first_of printed closed
-    → Stage opened.is_done e n m printed → Stage e true m k closed → LineFailed n result k
+    (result : Result A QuestionFault) → IsReady opened → result ≡ first_fault_of printed closed
+    → Stage opened.is_done e n m printed → Stage e true m k closed → LineFailedConversing n result k
 run_failed {A} opened e {n} {m} {k} printed closed result ready is first second =
-    subst (λ (r : Result A QuestionFault). LineFailed n r k) (sym is)
-    (fails_failed (first_of printed closed)
-    ((joined opened.is_done e true printed closed (first_of printed closed) (first_joins printed closed) first second).ready ready))
+    subst (λ (r : Result A QuestionFault). LineFailedConversing n r k) (sym is)
+    (fails_failed (first_fault_of printed closed)
+    ((joined opened.is_done e true printed closed (first_fault_of printed closed) (first_joins printed closed) first second).ready ready))
 
 -- ---- the opening
 
@@ -422,11 +422,11 @@ pub endpoints_failed : {M O : Type 0} (gives : M → ℤ → M → Type 0) (cont
     (printed closed result : Result (Unit {0}) QuestionFault)
     → OpensServer limits url opened_at before once (Ok opened) → IsReady opened
     → AsksEndpoints gives contents url style first last opened asked once answered had have printed → ClosesClient closed_at asked answered after closed
-    → result ≡ first_of printed closed
-    → LineFailed before.failures result after.failures
+    → result ≡ first_fault_of printed closed
+    → LineFailedConversing before.failures result after.failures
 endpoints_failed gives contents limits url opened_at closed_at style first last opened asked before once answered after had have printed closed result opens
     ready asks closes is =
-    subst (λ (n : ℕ). LineFailed n result after.failures) (found_fails opened (opens_fails (Ok opened) opens))
+    subst (λ (n : ℕ). LineFailedConversing n result after.failures) (found_fails opened (opens_fails (Ok opened) opens))
     (run_failed opened asked.is_done printed closed result ready is (endpoints_stage printed asks) (closes_stage closed closes))
 
 pub question_failed : {M O : Type 0} (gives : M → ℤ → M → Type 0) (contents : O → Option (List ℕ)) (limits : Limits) (url : Option (List ℕ))
@@ -435,9 +435,9 @@ pub question_failed : {M O : Type 0} (gives : M → ℤ → M → Type 0) (conte
     (printed : Result Verdict QuestionFault) (closed : Result (Unit {0}) QuestionFault) (result : Result Verdict QuestionFault)
     → OpensServer limits url opened_at before once (Ok opened) → IsReady opened
     → AsksByPolicy gives contents url policy style question first last opened asked once answered had have printed
-    → ClosesClient closed_at asked answered after closed → result ≡ first_of printed closed
-    → LineFailed before.failures result after.failures
+    → ClosesClient closed_at asked answered after closed → result ≡ first_fault_of printed closed
+    → LineFailedConversing before.failures result after.failures
 question_failed gives contents limits url opened_at closed_at policy style question first last opened asked before once answered after had have printed closed
     result opens ready asks closes is =
-    subst (λ (n : ℕ). LineFailed n result after.failures) (found_fails opened (opens_fails (Ok opened) opens))
+    subst (λ (n : ℕ). LineFailedConversing n result after.failures) (found_fails opened (opens_fails (Ok opened) opens))
     (run_failed opened asked.is_done printed closed result ready is (policy_stage printed asks) (closes_stage closed closes))

@@ -8,14 +8,14 @@ use Rattle.ua_builtin.specs.declared.fault.TextFault.{TextFault}
 use Rattle.ua_builtin.specs.declared.fault.TextFault.TheVariants as text
 use Rattle.ua_builtin.specs.declared.node_id.NodeId.{NodeId}
 use Rattle.ua_session.specs.Told.{of_text}
-use Rattle.ua_session.specs.Words.{AreNodes, GivesNode, NamesNoNodes}
+use Rattle.ua_session.specs.Words.{AreNodes, GivesIdOfWord, NamesNoNodes}
 use Rattle.ua_session.specs.declared.fault.WordFault.{WordFault}
 use Rattle.ua_session.specs.declared.fault.WordFault.TheVariants as word
 
 -- ---- one word
 
 pub word_refused : (t : List ℕ) (fault : TextFault) → (IsErrOf {T = NodeId} (Err fault) text.NotNodeId → (v : NodeId) → ¬ (NamesNode v t))
-    → GivesNode t (Err (of_text fault))
+    → GivesIdOfWord t (Err (of_text fault))
 word_refused t text.NotNodeId h = λ node names. h refl node names
 word_refused t text.OutOfMemory h = tt
 
@@ -31,7 +31,7 @@ nodes_more text_of texts nodes i d node within all names =
 
 -- a word that names none
 pub nodes_refused : {A : Type 0} (text_of : A → List ℕ) (texts : List A) (i : ℕ) (d : A) (fault : WordFault) → i < length texts
-    → GivesNode (text_of (get_or texts i d)) (Err fault) → NamesNoNodes text_of texts fault
+    → GivesIdOfWord (text_of (get_or texts i d)) (Err fault) → NamesNoNodes text_of texts fault
 nodes_refused text_of texts i d word.BadNode within none = (i, get_or texts i d, within, get_or_default texts i (get_or texts i d) d within, none)
 nodes_refused text_of texts i d word.BadValue within none = none
 nodes_refused text_of texts i d word.BadRange within none = none

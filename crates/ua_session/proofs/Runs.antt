@@ -14,7 +14,7 @@ use Rattle.ua_session.specs.Printed.{AreAnswerLines, AreEndpointLines, HasAdded,
 use Rattle.ua_session.specs.Question.{AnswersQuestion, PrintsAnswers}
 use Rattle.ua_session.specs.Replies.{IsUnprinted, PrintsEndpoints}
 use Rattle.ua_session.specs.Session.{AsksByPolicy, AsksInSession, EndsSession}
-use Rattle.ua_session.specs.Steps.{first_of}
+use Rattle.ua_session.specs.Steps.{first_fault_of}
 use Rattle.ua_session.specs.declared.fault.QuestionFault.{QuestionFault}
 use Rattle.ua_session.specs.declared.fault.QuestionFault.TheVariants.{Connection, NoMemory, NoPolicy, Output, Service}
 use Rattle.ua_session.specs.declared.policy.TokenPolicy.{TokenPolicy}
@@ -65,7 +65,7 @@ memory_left contents AreLines fault had have not (inr left) = inr left
 -- what was written behind one result was written behind the first fault of this one and another
 first_prints : {A O : Type 0} (contents : O → Option (List ℕ)) (AreLines : List ℕ → Type 0) (printed : Result A QuestionFault) (closed : Done)
     (result : Result A QuestionFault) (had have : O) → Prints contents AreLines printed had have
-    → result ≡ first_of printed closed → Prints contents AreLines result had have
+    → result ≡ first_fault_of printed closed → Prints contents AreLines result had have
 first_prints {A} contents AreLines (Ok found) (Ok closed) result had have adds is = subst (λ (r : Result A QuestionFault). Prints contents AreLines r had have)
     (sym is) adds
 first_prints {A} contents AreLines (Ok found) (Err fault) result had have adds is = subst (λ (r : Result A QuestionFault). Prints contents AreLines r had have)
@@ -108,14 +108,14 @@ endpoints_print contents style (Err fault) result had have h = none_prints conte
 
 pub endpoints_left : {O : Type 0} (contents : O → Option (List ℕ)) (style : EndpointStyle) (called : Result Reply QuestionFault) (printed closed result : Done)
     (had have : O) → PrintsEndpoints contents style had have called printed
-    → result ≡ first_of printed closed → IfErr result (λ fault. LeavesLines contents (AreEndpointLines style) fault had have)
+    → result ≡ first_fault_of printed closed → IfErr result (λ fault. LeavesLines contents (AreEndpointLines style) fault had have)
 endpoints_left contents style called printed closed result had have prints is =
     prints_left contents (AreEndpointLines style) result had have
     (first_prints contents (AreEndpointLines style) printed closed result had have (endpoints_print contents style called printed had have prints) is)
 
 pub endpoints_answer : {O : Type 0} (contents : O → Option (List ℕ)) (style : EndpointStyle) (called : Result Reply QuestionFault)
     (printed closed result : Done) (had have : O) → PrintsEndpoints contents style had have called printed
-    → result ≡ first_of printed closed → OnOk result (HasAdded (AreEndpointLines style) (contents had) (contents have))
+    → result ≡ first_fault_of printed closed → OnOk result (HasAdded (AreEndpointLines style) (contents had) (contents have))
 endpoints_answer contents style called printed closed result had have prints is =
     prints_answered contents (AreEndpointLines style) result had have
     (first_prints contents (AreEndpointLines style) printed closed result had have (endpoints_print contents style called printed had have prints) is)
@@ -165,7 +165,7 @@ policy_prints gives contents url policy style question first last old new before
 pub question_left : {M O : Type 0} (gives : M → ℤ → M → Type 0) (contents : O → Option (List ℕ)) (url : Option (List ℕ)) (policy : TokenPolicy)
     (style : AnswerStyle) (question : Question) (first last : M) (old new : Client) (before after : LineState) (had have : O)
     (printed : Result Verdict QuestionFault) (closed : Done) (result : Result Verdict QuestionFault)
-    → AsksByPolicy gives contents url policy style question first last old new before after had have printed → result ≡ first_of printed closed
+    → AsksByPolicy gives contents url policy style question first last old new before after had have printed → result ≡ first_fault_of printed closed
     → IfErr result (λ fault. LeavesLines contents (AreAnswerLines style) fault had have)
 question_left gives contents url policy style question first last old new before after had have printed closed result asks is =
     prints_left contents (AreAnswerLines style) result had have
@@ -175,7 +175,7 @@ question_left gives contents url policy style question first last old new before
 pub question_answers : {M O : Type 0} (gives : M → ℤ → M → Type 0) (contents : O → Option (List ℕ)) (url : Option (List ℕ)) (policy : TokenPolicy)
     (style : AnswerStyle) (question : Question) (first last : M) (old new : Client) (before after : LineState) (had have : O)
     (printed : Result Verdict QuestionFault) (closed : Done) (result : Result Verdict QuestionFault)
-    → AsksByPolicy gives contents url policy style question first last old new before after had have printed → result ≡ first_of printed closed
+    → AsksByPolicy gives contents url policy style question first last old new before after had have printed → result ≡ first_fault_of printed closed
     → OnOk result (HasAdded (AreAnswerLines style) (contents had) (contents have))
 question_answers gives contents url policy style question first last old new before after had have printed closed result asks is =
     prints_answered contents (AreAnswerLines style) result had have

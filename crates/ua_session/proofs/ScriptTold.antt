@@ -7,7 +7,7 @@ use Rattle.ua_builtin.specs.declared.node_id.NodeId.{NodeId}
 use Rattle.ua_builtin.specs.declared.status_code.StatusCode.{StatusCode}
 use Rattle.ua_client.specs.declared.reply.Reply.{Reply}
 use Rattle.ua_session.specs.ScriptFaults.{of_line_answer}
-use Rattle.ua_session.specs.ScriptPrinted.{AddsAll, AddsTexts, AddsTold, IsPlainTextOf, IsTextOf, IsTold, Told, answer, said}
+use Rattle.ua_session.specs.ScriptPrinted.{AddsAll, AddsTexts, AddsTold, IsPlainTextOf, IsTextOf, IsToldText, ToldOfScript, answer, said}
 use Rattle.ua_session.specs.ScriptPrinted.{asked_behind, asking_step, asked_for, told_fault, told_text, is_bad_reply}
 use Rattle.ua_session.specs.ScriptPrinted.{is_bad_told, read_told, replies_told, reply_told, text_of, unless_failed, write_told}
 use Rattle.ua_session.specs.declared.looping.fault.LoopFault.{LoopFault}
@@ -76,7 +76,7 @@ statuses_alone other each e = absurd cc
 
 -- the line of one answer
 alone : (people names : Bool) (node : NodeId) (v : DataValue) (shown : List ℕ)
-    → AreReads (record { lines = plain names; plain = people }) (node ∷ []) (v ∷ []) shown → IsTold people names (answer node v) shown
+    → AreReads (record { lines = plain names; plain = people }) (node ∷ []) (v ∷ []) shown → IsToldText people names (answer node v) shown
 alone true names node v shown h = subst (λ (t : List ℕ). IsPlainRead (plain names) node v t) (sym (h.2 ∙ ap (λ (t : List ℕ). h.0 ++ t) h.4 ∙ append-nil h.0))
     h.3
 alone false names node v shown h = h ∙ append-nil (read_line (plain names) node v)
@@ -122,41 +122,41 @@ write_answered people names node r nodes lines had have one is h =
 
 -- ---- lists of what is told
 
-told_fault-append : (ts us : List (Result Told LoopFault)) → told_fault ts ≡ None → told_fault (ts ++ us) ≡ told_fault us
+told_fault-append : (ts us : List (Result ToldOfScript LoopFault)) → told_fault ts ≡ None → told_fault (ts ++ us) ≡ told_fault us
 told_fault-append [] us h = refl
 told_fault-append (Ok told ∷ ts) us h = told_fault-append ts us h
 told_fault-append (Err f ∷ ts) us h = absurd cc
 
-told_fault-front : (ts us : List (Result Told LoopFault)) (f : LoopFault) → told_fault ts ≡ Some f → told_fault (ts ++ us) ≡ Some f
+told_fault-front : (ts us : List (Result ToldOfScript LoopFault)) (f : LoopFault) → told_fault ts ≡ Some f → told_fault (ts ++ us) ≡ Some f
 told_fault-front [] us f h = absurd cc
 told_fault-front (Ok told ∷ ts) us f h = told_fault-front ts us f h
 told_fault-front (Err g ∷ ts) us f h = h
 
-text_of-append : (names : Bool) (ts us : List (Result Told LoopFault)) → told_fault ts ≡ None → text_of names (ts ++ us) ≡ text_of names ts ++ text_of names us
+text_of-append : (names : Bool) (ts us : List (Result ToldOfScript LoopFault)) → told_fault ts ≡ None → text_of names (ts ++ us) ≡ text_of names ts ++ text_of names us
 text_of-append names [] us h = refl
 text_of-append names (Ok told ∷ ts) us h = ap (λ u. told_text names told ++ u) (text_of-append names ts us h)
     ∙ sym (append_assoc (told_text names told) (text_of names ts) (text_of names us))
 text_of-append names (Err f ∷ ts) us h = absurd cc
 
-text_of-front : (names : Bool) (ts us : List (Result Told LoopFault)) (f : LoopFault) → told_fault ts ≡ Some f → text_of names (ts ++ us) ≡ text_of names ts
+text_of-front : (names : Bool) (ts us : List (Result ToldOfScript LoopFault)) (f : LoopFault) → told_fault ts ≡ Some f → text_of names (ts ++ us) ≡ text_of names ts
 text_of-front names [] us f h = absurd cc
 text_of-front names (Ok told ∷ ts) us f h = ap (λ u. told_text names told ++ u) (text_of-front names ts us f h)
 text_of-front names (Err g ∷ ts) us f h = refl
 
-plain-append : (names : Bool) (ts us : List (Result Told LoopFault)) (s t : List ℕ) → told_fault ts ≡ None → IsPlainTextOf names ts s → IsPlainTextOf names us t
+plain-append : (names : Bool) (ts us : List (Result ToldOfScript LoopFault)) (s t : List ℕ) → told_fault ts ≡ None → IsPlainTextOf names ts s → IsPlainTextOf names us t
     → IsPlainTextOf names (ts ++ us) (s ++ t)
 plain-append names [] us s t none h k = subst (λ (x : List ℕ). IsPlainTextOf names us (x ++ t)) (sym h) k
 plain-append names (Ok told ∷ ts) us s t none h k =
     (h.0, h.1 ++ t, ap (λ (x : List ℕ). x ++ t) h.2 ∙ append_assoc h.0 h.1 t, h.3, plain-append names ts us h.1 t none h.4 k)
 plain-append names (Err f ∷ ts) us s t none h k = absurd cc
 
-plain-front : (names : Bool) (ts us : List (Result Told LoopFault)) (f : LoopFault) (s : List ℕ) → told_fault ts ≡ Some f → IsPlainTextOf names ts s
+plain-front : (names : Bool) (ts us : List (Result ToldOfScript LoopFault)) (f : LoopFault) (s : List ℕ) → told_fault ts ≡ Some f → IsPlainTextOf names ts s
     → IsPlainTextOf names (ts ++ us) s
 plain-front names [] us f s fault h = absurd cc
 plain-front names (Ok told ∷ ts) us f s fault h = (h.0, h.1, h.2, h.3, plain-front names ts us f h.1 fault h.4)
 plain-front names (Err g ∷ ts) us f s fault h = h
 
-told-exact : (names : Bool) (line : Told) (s : List ℕ) → IsTold false names line s → s ≡ told_text names line
+told-exact : (names : Bool) (line : ToldOfScript) (s : List ℕ) → IsToldText false names line s → s ≡ told_text names line
 told-exact names (said t) s h = h
 told-exact names (answer node value) s h = h
 
@@ -164,53 +164,53 @@ shown-none : (people names : Bool) → IsTextOf people names [] []
 shown-none true names = refl
 shown-none false names = refl
 
-shown-fault : (people names : Bool) (f : LoopFault) (ts : List (Result Told LoopFault)) → IsTextOf people names (Err f ∷ ts) []
+shown-fault : (people names : Bool) (f : LoopFault) (ts : List (Result ToldOfScript LoopFault)) → IsTextOf people names (Err f ∷ ts) []
 shown-fault true names f ts = refl
 shown-fault false names f ts = refl
 
-shown-cons : (people names : Bool) (line : Told) (ts : List (Result Told LoopFault)) (s t : List ℕ) → IsTold people names line s → IsTextOf people names ts t
+shown-cons : (people names : Bool) (line : ToldOfScript) (ts : List (Result ToldOfScript LoopFault)) (s t : List ℕ) → IsToldText people names line s → IsTextOf people names ts t
     → IsTextOf people names (Ok line ∷ ts) (s ++ t)
 shown-cons true names line ts s t one all = (s, t, refl, one, all)
 shown-cons false names line ts s t one all = ap (λ (x : List ℕ). x ++ t) (told-exact names line s one) ∙ ap (λ (x : List ℕ). told_text names line ++ x) all
 
-shown-append : (people names : Bool) (ts us : List (Result Told LoopFault)) (s t : List ℕ) → told_fault ts ≡ None → IsTextOf people names ts s
+shown-append : (people names : Bool) (ts us : List (Result ToldOfScript LoopFault)) (s t : List ℕ) → told_fault ts ≡ None → IsTextOf people names ts s
     → IsTextOf people names us t → IsTextOf people names (ts ++ us) (s ++ t)
 shown-append true names ts us s t none h k = plain-append names ts us s t none h k
 shown-append false names ts us s t none h k = ap (λ (x : List ℕ). x ++ t) h ∙ ap (λ (x : List ℕ). text_of names ts ++ x) k
     ∙ sym (text_of-append names ts us none)
 
-shown-front : (people names : Bool) (ts us : List (Result Told LoopFault)) (f : LoopFault) (s : List ℕ) → told_fault ts ≡ Some f → IsTextOf people names ts s
+shown-front : (people names : Bool) (ts us : List (Result ToldOfScript LoopFault)) (f : LoopFault) (s : List ℕ) → told_fault ts ≡ Some f → IsTextOf people names ts s
     → IsTextOf people names (ts ++ us) s
 shown-front true names ts us f s fault h = plain-front names ts us f s fault h
 shown-front false names ts us f s fault h = h ∙ sym (text_of-front names ts us f fault)
 
 module _ (people names : Bool) where
-  texts-cons : (t : Result Told LoopFault) (ts : List (Result Told LoopFault)) (a b c : List ℕ) → AddsTold people names t (Ok tt) a b
+  texts-cons : (t : Result ToldOfScript LoopFault) (ts : List (Result ToldOfScript LoopFault)) (a b c : List ℕ) → AddsTold people names t (Ok tt) a b
       → AddsTexts people names ts b c → AddsTexts people names (t ∷ ts) a c
   texts-cons t ts a b c one all =
-      subst (λ (u : Result Told LoopFault). AddsTexts people names (u ∷ ts) a c) (sym one.2)
+      subst (λ (u : Result ToldOfScript LoopFault). AddsTexts people names (u ∷ ts) a c) (sym one.2)
       (one.1 ++ all.0, all.1 ∙ ap (λ (x : List ℕ). x ++ all.0) one.3 ∙ append_assoc a one.1 all.0, shown-cons people names one.0 ts one.1 all.0 one.4 all.2)
 
-  pub all-cons : (t : Result Told LoopFault) (ts : List (Result Told LoopFault)) (r : Result (Unit {0}) LoopFault) (a b c : List ℕ)
+  pub all-cons : (t : Result ToldOfScript LoopFault) (ts : List (Result ToldOfScript LoopFault)) (r : Result (Unit {0}) LoopFault) (a b c : List ℕ)
       → AddsTold people names t (Ok tt) a b → AddsAll people names ts r b c → AddsAll people names (t ∷ ts) r a c
   all-cons t ts (Ok done) a b c one all = (ap (λ u. told_fault (u ∷ ts)) one.2 ∙ all.0, texts-cons t ts a b c one all.1)
   all-cons t ts (Err f) a b c one (inl none) = inl none
   all-cons t ts (Err f) a b c one (inr all) = inr (ap (λ u. told_fault (u ∷ ts)) one.2 ∙ all.0, texts-cons t ts a b c one all.1)
 
-  pub all-fault : (t : Result Told LoopFault) (ts : List (Result Told LoopFault)) (f : LoopFault) (a b : List ℕ) → AddsTold people names t (Err f) a b
+  pub all-fault : (t : Result ToldOfScript LoopFault) (ts : List (Result ToldOfScript LoopFault)) (f : LoopFault) (a b : List ℕ) → AddsTold people names t (Err f) a b
       → AddsAll people names (t ∷ ts) (Err f) a b
   all-fault t ts f a b (inl none) = inl none
   all-fault t ts f a b (inr one) = inr (
     ap (λ u. told_fault (u ∷ ts)) one.0,
-    subst (λ (u : Result Told LoopFault). AddsTexts people names (u ∷ ts) a b) (sym one.0) ([], one.1 ∙ sym (append-nil a), shown-fault people names f ts),
+    subst (λ (u : Result ToldOfScript LoopFault). AddsTexts people names (u ∷ ts) a b) (sym one.0) ([], one.1 ∙ sym (append-nil a), shown-fault people names f ts),
   )
 
-  pub all-last : (t : Result Told LoopFault) (r : Result (Unit {0}) LoopFault) (a b : List ℕ) → AddsTold people names t r a b
+  pub all-last : (t : Result ToldOfScript LoopFault) (r : Result (Unit {0}) LoopFault) (a b : List ℕ) → AddsTold people names t r a b
       → AddsAll people names (t ∷ []) r a b
   all-last t (Ok done) a b one = all-cons t [] (Ok done) a b b one (refl, ([], sym (append-nil b), shown-none people names))
   all-last t (Err f) a b one = all-fault t [] f a b one
 
-  texts-append : (ts us : List (Result Told LoopFault)) (a b c : List ℕ) → told_fault ts ≡ None → AddsTexts people names ts a b → AddsTexts people names us b c
+  texts-append : (ts us : List (Result ToldOfScript LoopFault)) (a b c : List ℕ) → told_fault ts ≡ None → AddsTexts people names ts a b → AddsTexts people names us b c
       → AddsTexts people names (ts ++ us) a c
   texts-append ts us a b c none all more = (
     all.0 ++ more.0,
@@ -218,13 +218,13 @@ module _ (people names : Bool) where
     shown-append people names ts us all.0 more.0 none all.2 more.2,
   )
 
-  pub all-append : (ts us : List (Result Told LoopFault)) (r : Result (Unit {0}) LoopFault) (a b c : List ℕ) → AddsAll people names ts (Ok tt) a b
+  pub all-append : (ts us : List (Result ToldOfScript LoopFault)) (r : Result (Unit {0}) LoopFault) (a b c : List ℕ) → AddsAll people names ts (Ok tt) a b
       → AddsAll people names us r b c → AddsAll people names (ts ++ us) r a c
   all-append ts us (Ok done) a b c all more = (told_fault-append ts us all.0 ∙ more.0, texts-append ts us a b c all.0 all.1 more.1)
   all-append ts us (Err f) a b c all (inl none) = inl none
   all-append ts us (Err f) a b c all (inr more) = inr (told_fault-append ts us all.0 ∙ more.0, texts-append ts us a b c all.0 all.1 more.1)
 
-  pub all-front : (ts us : List (Result Told LoopFault)) (f : LoopFault) (a b : List ℕ) → AddsAll people names ts (Err f) a b
+  pub all-front : (ts us : List (Result ToldOfScript LoopFault)) (f : LoopFault) (a b : List ℕ) → AddsAll people names ts (Err f) a b
       → AddsAll people names (ts ++ us) (Err f) a b
   all-front ts us f a b (inl none) = inl none
   all-front ts us f a b (inr all) = inr (told_fault-front ts us f all.0, (all.1.0, all.1.1, shown-front people names ts us f all.1.0 all.0 all.1.2))
@@ -248,7 +248,7 @@ asks (Write node value) h = refl
 asks Renew h = absurd (h refl)
 
 -- what is left to tell, behind what was added already
-pub record StillAdds (people names : Bool) (told rest : List (Result Told LoopFault)) (had have : List ℕ) : Type 0 where
+pub record StillAdds (people names : Bool) (told rest : List (Result ToldOfScript LoopFault)) (had have : List ℕ) : Type 0 where
   pub adds : (result : Result (Unit {0}) LoopFault) (new : List ℕ) → AddsAll people names rest result have new → AddsAll people names told result had new
 
 -- behind so many lines, whose replies stand in front of this place
@@ -300,7 +300,7 @@ module _ (people names : Bool) (lines : List ScriptLine) (replies : List Reply) 
       → Behind people names lines replies (index + 1) (place + 1) had now
   behind-step now e one = record {
     adds = λ result new all. so.adds result new
-        (subst (λ (ts : List (Result Told LoopFault)). AddsAll people names ts result have new) (sym (told_here e))
+        (subst (λ (ts : List (Result ToldOfScript LoopFault)). AddsAll people names ts result have new) (sym (told_here e))
         (all-cons people names (reply_told names (Some line.step) (slice_get replies place))
         (replies_told names (asked_behind (drop (index + 1) lines)) (drop (place + 1) (map Some replies))) result have now new one all));
   }
@@ -311,7 +311,7 @@ module _ (people names : Bool) (lines : List ScriptLine) (replies : List Reply) 
       → AddsAll people names (replies_told names (asked_behind lines) (drop 2 (map Some replies))) (Err f) had now
   behind-fault now f e one =
       so.adds (Err f) now
-      (subst (λ (ts : List (Result Told LoopFault)). AddsAll people names ts (Err f) have now) (sym (told_here e))
+      (subst (λ (ts : List (Result ToldOfScript LoopFault)). AddsAll people names ts (Err f) have now) (sym (told_here e))
       (all-fault people names (reply_told names (Some line.step) (slice_get replies place))
       (replies_told names (asked_behind (drop (index + 1) lines)) (drop (place + 1) (map Some replies))) f have now one))
 
@@ -325,34 +325,34 @@ behind-all people names lines replies index place had have result so enough one 
     ap (λ (ls : List ScriptLine). replies_told names (asked_behind ls) (drop place (map Some replies))) (drop_all index lines enough)
     ∙ told-drop names None [] replies place in
     so.adds result have
-    (subst (λ (ts : List (Result Told LoopFault)). AddsAll people names ts result have have) (sym told)
+    (subst (λ (ts : List (Result ToldOfScript LoopFault)). AddsAll people names ts result have have) (sym told)
     (all-last people names (reply_told names None (slice_get replies place)) result have have one))
 
 -- ---- a whole script
 
 module _ (people names : Bool) (lines : List ScriptLine) (replies : List Reply) (totals had : List ℕ) where
   -- what is told of the first reply, of the second, and of those to the lines and behind them
-  abbrev first : Result Told LoopFault
+  abbrev first : Result ToldOfScript LoopFault
   first = reply_told names None (slice_get replies 0)
 
-  abbrev second : Result Told LoopFault
+  abbrev second : Result ToldOfScript LoopFault
   second = reply_told names None (slice_get replies 1)
 
-  abbrev others : List (Result Told LoopFault)
+  abbrev others : List (Result ToldOfScript LoopFault)
   others = replies_told names (asked_behind lines) (drop 2 (map Some replies))
 
-  abbrev whole : List (Result Told LoopFault)
+  abbrev whole : List (Result ToldOfScript LoopFault)
   whole = replies_told names (asked_for lines) (map Some replies) ++ Ok (said totals) ∷ []
 
   whole_is : whole ≡ first ∷ (second ∷ (others ++ Ok (said totals) ∷ []))
   whole_is =
-      ap (λ (ts : List (Result Told LoopFault)). ts ++ Ok (said totals) ∷ [])
+      ap (λ (ts : List (Result ToldOfScript LoopFault)). ts ++ Ok (said totals) ∷ [])
       (told-drop names None (None ∷ asked_behind lines) replies 0
-      ∙ ap (λ (ts : List (Result Told LoopFault)). first ∷ ts) (told-drop names None (asked_behind lines) replies 1))
+      ∙ ap (λ (ts : List (Result ToldOfScript LoopFault)). first ∷ ts) (told-drop names None (asked_behind lines) replies 1))
 
   adds_whole : (r : Result (Unit {0}) LoopFault) (new : List ℕ) → AddsAll people names (first ∷ (second ∷ (others ++ Ok (said totals) ∷ []))) r had new
       → AddsAll people names whole r had new
-  adds_whole r new all = subst (λ (ts : List (Result Told LoopFault)). AddsAll people names ts r had new) (sym whole_is) all
+  adds_whole r new all = subst (λ (ts : List (Result ToldOfScript LoopFault)). AddsAll people names ts r had new) (sym whole_is) all
 
   pub whole-first : (f : LoopFault) → AddsTold people names (reply_told names None (slice_get replies 0)) (Err f) had had
       → AddsAll people names (replies_told names (asked_for lines) (map Some replies) ++ Ok (said totals) ∷ []) (Err f) had had

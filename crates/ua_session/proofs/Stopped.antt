@@ -11,8 +11,8 @@ use Rattle.ua_exchange.specs.declared.fault.PairFault.TheVariants.{NotWritable, 
 use Rattle.ua_exchange.specs.declared.turn.Turn.{Turn}
 use Rattle.ua_exchange.specs.declared.turn.Turn.TheVariants.{Ask, Renew}
 use Rattle.ua_frame.specs.After.{each_after, each_from}
-use Rattle.ua_session.specs.ScriptFaults.{StopsAt, StopsBehind, place_in}
-use Rattle.ua_session.specs.Script.{closing, line_turn, opening, script_turns, turns_to}
+use Rattle.ua_session.specs.ScriptFaults.{StopsAtLine, StopsBehind, place_in}
+use Rattle.ua_session.specs.Script.{closing, line_turn, session_opening_turns, script_turns, turns_to}
 use Rattle.ua_session.proofs.Opening.{activating-accepted, creating-accepted}
 use Rattle.ua_session.proofs.Turns.{own_turns}
 use Rattle.ua_texts.specs.declared.script.ScriptLine.{ScriptLine}
@@ -71,9 +71,9 @@ unfolding each_after
 script_turns-parts front line back =
     let end : List Turn = closing (front ++ line ∷ back) ∷ [] in
     let rest : List Turn = each_from own_turns (front ++ line ∷ []) back in
-    ap (λ (ts : List Turn). (opening ++ ts) ++ end) (each_from-append [] front (line ∷ back))
-    ∙ ap (λ (ts : List Turn). ts ++ end) (sym (append_assoc opening (each_from own_turns [] front) (line_turn front line ∷ rest)))
-    ∙ append_assoc (opening ++ each_from own_turns [] front) (line_turn front line ∷ rest) end
+    ap (λ (ts : List Turn). (session_opening_turns ++ ts) ++ end) (each_from-append [] front (line ∷ back))
+    ∙ ap (λ (ts : List Turn). ts ++ end) (sym (append_assoc session_opening_turns (each_from own_turns [] front) (line_turn front line ∷ rest)))
+    ∙ append_assoc (session_opening_turns ++ each_from own_turns [] front) (line_turn front line ∷ rest) end
 
 -- ---- the first turn that is not accepted
 
@@ -109,7 +109,7 @@ module _ (lines : List ScriptLine) (fault : PairFault) (refused : IsRefusedFor (
   enough = two_before _ _ first.turn first.before first.behind _ fault first.parts creating-accepted activating-accepted first.refused
 
   module _ (k : ℕ) (k_is : k ≡ index - 2) where
-    pub stops-at : (line : ScriptLine) → k < length lines → line ≡ get_or lines k line → StopsAt lines line.number
+    pub stops-at : (line : ScriptLine) → k < length lines → line ≡ get_or lines k line → StopsAtLine lines line.number
     stops-at line less is =
         let at = parted_at lines k line less is in
         let front : List ScriptLine = take k lines in

@@ -5,20 +5,20 @@ use Rattle.ua_channel.specs.ClientAsks.{no_id}
 use Rattle.ua_exchange.specs.declared.turn.Turn.{Turn}
 use Rattle.ua_frame.specs.After.{each_after}
 use Rattle.ua_frame.proofs.Afters.{each_after-push}
-use Rattle.ua_session.specs.Script.{line_turn, opening, step_turn, turns_to}
+use Rattle.ua_session.specs.Script.{line_turn, session_opening_turns, step_turn, turns_to}
 use Rattle.ua_texts.specs.declared.script.ScriptLine.{ScriptLine}
 
 -- the turns of a line behind those before
 abbrev pub own_turns : List ScriptLine → ScriptLine → List Turn
 own_turns before line = line_turn before line ∷ []
 
-pub turns_to-nil : turns_to [] ≡ opening
+pub turns_to-nil : turns_to [] ≡ session_opening_turns
 unfolding each_after
 turns_to-nil = refl
 
 pub turns_to-push : (lines : List ScriptLine) (line : ScriptLine) → turns_to (lines ++ line ∷ []) ≡ turns_to lines ++ line_turn lines line ∷ []
-turns_to-push lines line = ap (λ (ts : List Turn). opening ++ ts) (each_after-push own_turns lines line)
-    ∙ sym (append_assoc opening (each_after own_turns lines) (line_turn lines line ∷ []))
+turns_to-push lines line = ap (λ (ts : List Turn). session_opening_turns ++ ts) (each_after-push own_turns lines line)
+    ∙ sym (append_assoc session_opening_turns (each_after own_turns lines) (line_turn lines line ∷ []))
 
 -- the turns up to the next line
 turns-more : (lines : List ScriptLine) (index : ℕ) (line : ScriptLine) → index < length lines → line ≡ get_or lines index line

@@ -6,7 +6,7 @@ use Rattle.ua_exchange.specs.Programs.{begun_over}
 use Rattle.ua_exchange.specs.Replies.{turns_replies}
 use Rattle.ua_exchange.specs.Turns.{up_octets}
 use Rattle.ua_exchange.specs.declared.transcript.Transcript.{Transcript}
-use Rattle.ua_session.specs.ScriptFaults.{Stops}
+use Rattle.ua_session.specs.ScriptFaults.{StopsScriptLines}
 use Rattle.ua_session.specs.Script.{script_moment, script_turns}
 use Rattle.ua_session.specs.declared.looping.fault.LoopFault.{LoopFault}
 use Rattle.ua_nodes.specs.Table.{Nodes}
@@ -22,6 +22,6 @@ pub record IsOfScript (nodes : Nodes) (lines : List ScriptLine) (t : Transcript)
   pub closed : t.end ≡ Closed
 
 -- the outcome of running it
-abbrev pub Converses : Nodes → List ScriptLine → Result Transcript LoopFault → Type 0
-Converses nodes lines (Ok t) = IsOfScript nodes lines t
-Converses nodes lines (Err fault) = Stops lines fault
+abbrev pub ConversesByScript : Nodes → List ScriptLine → Result Transcript LoopFault → Type 0
+ConversesByScript nodes lines (Ok t) = IsOfScript nodes lines t
+ConversesByScript nodes lines (Err fault) = StopsScriptLines lines fault

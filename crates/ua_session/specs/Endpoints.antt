@@ -8,13 +8,13 @@ use Rattle.ua_services.specs.SessionRequests.{get_endpoints}
 use Rattle.ua_texts.specs.declared.style.EndpointStyle.{EndpointStyle}
 use Rattle.ua_session.specs.Line.{LineState}
 use Rattle.ua_session.specs.Replies.{PrintsEndpoints}
-use Rattle.ua_session.specs.Steps.{Asks, Runs}
+use Rattle.ua_session.specs.Steps.{AsksRequest, Runs}
 use Rattle.ua_session.specs.declared.fault.QuestionFault.{QuestionFault}
 
 -- GetEndpoints was called on a server, by this URL, at this time, as the first call of a client:
 -- its RequestId 2 is its RequestHandle
 abbrev pub CallsEndpoints : Option (List ℕ) → DateTime → Client → Client → LineState → LineState → Result Reply QuestionFault → Type 0
-CallsEndpoints url moment old new before after called = Asks (get_endpoints url moment 2) old new before after called
+CallsEndpoints url moment old new before after called = AsksRequest (get_endpoints url moment 2) old new before after called
 
 -- GetEndpoints was called at the next time, and the reply was printed
 pub record AsksEndpoints {M O : Type 0} (gives : M → ℤ → M → Type 0) (contents : O → Option (List ℕ)) (url : Option (List ℕ)) (style : EndpointStyle)

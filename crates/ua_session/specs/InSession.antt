@@ -13,10 +13,10 @@ use Rattle.ua_services.specs.SessionRequests.{get_endpoints}
 use Rattle.ua_texts.specs.declared.style.AnswerStyle.{AnswerStyle}
 use Rattle.ua_texts.specs.declared.style.EndpointStyle.{EndpointStyle}
 use Rattle.ua_session.specs.Line.{LineState}
-use Rattle.ua_session.specs.Question.{PrintsAnswers, request_of}
+use Rattle.ua_session.specs.Question.{PrintsAnswers, request_of_question}
 use Rattle.ua_session.specs.Replies.{PrintsEndpoints}
 use Rattle.ua_session.specs.Session.{EndsSession, EndsUnbegun, FindsPolicy, first_call, handle_unbegun}
-use Rattle.ua_session.specs.Steps.{Asks, Begins, CallsClient, ClosesClient, OpensServer, first_of}
+use Rattle.ua_session.specs.Steps.{AsksRequest, BeginsSessionBy, CallsClient, ClosesClient, OpensServer, first_fault_of}
 use Rattle.ua_session.specs.declared.client_session.ClientSession.{ClientSession}
 use Rattle.ua_session.specs.declared.fault.QuestionFault.{QuestionFault}
 use Rattle.ua_session.specs.declared.fault.NotBegun.{NotBegun}
@@ -36,7 +36,7 @@ pub record BeginsNamed {M : Type 0} (gives : M → ℤ → M → Type 0) (policy
   pub begun : Result NodeId NotBegun
   pub client : Client
   pub once_begun : LineState
-  pub begins : Begins policy_id begun_at old client before once_begun begun
+  pub begins : BeginsSessionBy policy_id begun_at old client before once_begun begun
   pub further : MatchResult begun
       (λ token. (result ≡ Ok token) × (last ≡ behind) × (new ≡ client) × (after ≡ once_begun))
       (λ refused. (result ≡ Err refused.fault) × EndsUnbegun gives refused.token (handle_unbegun handle refused.fault) behind last client new once_begun after)
@@ -60,7 +60,7 @@ pub record ClosesUnused {M : Type 0} (gives : M → ℤ → M → Type 0) (fault
   pub given : gives first closed_at.ticks last
   pub closed : Result (Unit {0}) QuestionFault
   pub closes : ClosesClient closed_at client before after closed
-  pub result_is : result ≡ first_of (Err fault) closed
+  pub result_is : result ≡ first_fault_of (Err fault) closed
 
 -- the session of a client, with this token, at the server of this URL
 abbrev pub IsSessionOf : Client → Option (List ℕ) → NodeId → Result ClientSession QuestionFault → Type 0
@@ -81,7 +81,7 @@ pub record BeginsOver {M : Type 0} (gives : M → ℤ → M → Type 0) (url : O
 
 -- a client was opened to a server, by this URL, and began a session by a token policy, each step at
 -- the next time; if it did not that is told, and a client that was opened was closed
-pub record BeginsSession {M : Type 0} (gives : M → ℤ → M → Type 0) (limits : Limits) (url : Option (List ℕ)) (policy : TokenPolicy) (first last : M)
+pub record OpensSession {M : Type 0} (gives : M → ℤ → M → Type 0) (limits : Limits) (url : Option (List ℕ)) (policy : TokenPolicy) (first last : M)
     (before after : LineState) (result : Result ClientSession QuestionFault) : Type 0 where
   pub opened_at : DateTime
   pub behind : M
@@ -112,7 +112,7 @@ pub record AsksQuestion {O : Type 0} (contents : O → Option (List ℕ)) (style
   pub handle : ℕ
   pub next : IsNextHandle old.client handle
   pub called : Result Reply QuestionFault
-  pub asks : Asks (request_of question old.token moment handle) old.client new.client before after called
+  pub asks : AsksRequest (request_of_question question old.token moment handle) old.client new.client before after called
   pub prints : PrintsAnswers contents style question had have called result
   pub stays : StaysSession old new
 
@@ -122,7 +122,7 @@ pub record AsksEndpointsIn {O : Type 0} (contents : O → Option (List ℕ)) (st
   pub handle : ℕ
   pub next : IsNextHandle old.client handle
   pub called : Result Reply QuestionFault
-  pub asks : Asks (get_endpoints old.url moment handle) old.client new.client before after called
+  pub asks : AsksRequest (get_endpoints old.url moment handle) old.client new.client before after called
   pub prints : PrintsEndpoints contents style had have called result
   pub stays : StaysSession old new
 
@@ -150,4 +150,4 @@ pub record EndsAll {M : Type 0} (gives : M → ℤ → M → Type 0) (s : Client
   pub closing_given : gives behind closed_at.ticks last
   pub closed : Result (Unit {0}) QuestionFault
   pub closes : ClosesClient closed_at client once_ended after closed
-  pub result_is : result ≡ first_of ended closed
+  pub result_is : result ≡ first_fault_of ended closed

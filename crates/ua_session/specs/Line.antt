@@ -15,14 +15,14 @@ pub record LineState : Type 0 where
 
 -- the transport failed between two times as often as a call of a client with this outcome tells:
 -- once if it returns `Read` or `Write`, otherwise not at all
-abbrev pub FailsBy : {A : Type 0} → Result A ClientFault → LineState → LineState → Type 0
-FailsBy answer before after = after.failures ≡ failures_behind before.failures answer
+abbrev pub FailsAsTold : {A : Type 0} → Result A ClientFault → LineState → LineState → Type 0
+FailsAsTold answer before after = after.failures ≡ failures_behind before.failures answer
 
 -- the count of a transport's failures before and after a conversation with this outcome: none more
 -- if nothing is told, one more if a fault of the transport is told, and after another fault at most
 -- one more, since the session is then still to be ended and the client to be closed
-abbrev pub LineFailed : {A : Type 0} → ℕ → Result A QuestionFault → ℕ → Type 0
-LineFailed before (Ok found) after = after ≡ before
-LineFailed before (Err (Connection client.Read)) after = after ≡ one_more before
-LineFailed before (Err (Connection client.Write)) after = after ≡ one_more before
-LineFailed before (Err other) after = (after ≡ before) ⊎ (after ≡ one_more before)
+abbrev pub LineFailedConversing : {A : Type 0} → ℕ → Result A QuestionFault → ℕ → Type 0
+LineFailedConversing before (Ok found) after = after ≡ before
+LineFailedConversing before (Err (Connection client.Read)) after = after ≡ one_more before
+LineFailedConversing before (Err (Connection client.Write)) after = after ≡ one_more before
+LineFailedConversing before (Err other) after = (after ≡ before) ⊎ (after ≡ one_more before)

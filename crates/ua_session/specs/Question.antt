@@ -29,17 +29,17 @@ use Rattle.ua_session.specs.declared.verdict.Verdict.TheVariants.{AllGood, SomeB
 -- ---- what is asked
 
 -- the items of a Read of an attribute of nodes, or of a part of it
-abbrev pub items_of : ℕ → Option (List ℕ) → List NodeId → List ReadValueId
-items_of attribute part nodes = map (λ (node : NodeId). attribute_of_node node attribute part) nodes
+abbrev pub items_of_question : ℕ → Option (List ℕ) → List NodeId → List ReadValueId
+items_of_question attribute part nodes = map (λ (node : NodeId). attribute_of_node node attribute part) nodes
 
 -- the item of a Write that sets the Value of a node, without status and timestamps
 abbrev pub item_for : NodeId → Variant → WriteValue
 item_for node value = value_for_node node (value_alone (variant_of value))
 
 -- the request that asks a question
-abbrev pub request_of : Question → NodeId → DateTime → ℕ → Request
-request_of (Read nodes attribute part) token moment handle = read token moment handle (items_of attribute part nodes.items)
-request_of (Write node value) token moment handle = write token moment handle (item_for node value ∷ [])
+abbrev pub request_of_question : Question → NodeId → DateTime → ℕ → Request
+request_of_question (Read nodes attribute part) token moment handle = read token moment handle (items_of_question attribute part nodes.items)
+request_of_question (Write node value) token moment handle = write token moment handle (item_for node value ∷ [])
 
 -- ---- what is printed
 

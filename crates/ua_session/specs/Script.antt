@@ -63,12 +63,12 @@ abbrev pub creating : Request
 creating = create_session (Some (local_url 4840)) script_moment 2
 
 -- the operations that begin the session
-abbrev pub opening : List Turn
-opening = Ask creating ∷ Ask (activate_session token script_moment 3) ∷ []
+abbrev pub session_opening_turns : List Turn
+session_opening_turns = Ask creating ∷ Ask (activate_session token script_moment 3) ∷ []
 
 -- the operations up to and including these lines, in their order
 abbrev pub turns_to : List ScriptLine → List Turn
-turns_to lines = opening ++ each_after (λ before line. line_turn before line ∷ []) lines
+turns_to lines = session_opening_turns ++ each_after (λ before line. line_turn before line ∷ []) lines
 
 -- the operation that ends the session after these lines
 abbrev pub closing : List ScriptLine → Turn
@@ -81,10 +81,10 @@ script_turns lines = turns_to lines ++ closing lines ∷ []
 -- ---- the token
 
 -- the AuthenticationToken that a response gives, if it is that to CreateSession
-abbrev pub token_in : Response → Option NodeId
-token_in (CreateSession m) = Some m.authentication_token
-token_in m = None
+abbrev pub token_given : Response → Option NodeId
+token_given (CreateSession m) = Some m.authentication_token
+token_given m = None
 
 -- the one that a server over these nodes gives to a script
 abbrev pub given_token : Nodes → Option NodeId
-given_token nodes = token_in (response_behind (begun_over nodes) script_moment [] creating)
+given_token nodes = token_given (response_behind (begun_over nodes) script_moment [] creating)

@@ -7,7 +7,7 @@ use Rattle.ua_session.specs.Script.{closing, line_turn, turns_to}
 use Rattle.ua_session.specs.declared.looping.fault.LoopFault.{LoopFault}
 use Rattle.ua_session.specs.declared.looping.fault.LoopFault.TheVariants.{ScriptLine as OfLine, Exhausted, Service, UnknownResponse, NoMemory}
 use Rattle.ua_nodes.specs.NodeFile.{node_lines}
-use Rattle.ua_texts.specs.Script.{IsFirstBad}
+use Rattle.ua_texts.specs.Script.{IsFirstBadScriptLine}
 use Rattle.ua_texts.specs.declared.fault.AnswerFault.{AnswerFault}
 use Rattle.ua_texts.specs.declared.fault.AnswerFault.TheVariants as answer
 use Rattle.ua_texts.specs.declared.fault.ScriptFault.{ScriptFault}
@@ -24,7 +24,7 @@ of_script script.OutOfMemory = NoMemory
 -- why no lines are parsed from a text: its first line that requests nothing has this number; or an
 -- allocation failed
 abbrev pub Unread : List ℕ → LoopFault → Type 0
-Unread text (OfLine number) = IsFirstBad (node_lines text) number
+Unread text (OfLine number) = IsFirstBadScriptLine (node_lines text) number
 Unread text Exhausted = ⊥
 Unread text (Service code) = ⊥
 Unread text UnknownResponse = ⊥
@@ -39,7 +39,7 @@ place_in (NotWritable index) = Some index
 place_in OutOfMemory = None
 
 -- the operation of the line with this number is the first that is not accepted
-pub record StopsAt (lines : List ScriptLine) (number : ℕ) : Type 0 where
+pub record StopsAtLine (lines : List ScriptLine) (number : ℕ) : Type 0 where
   pub before : List ScriptLine
   pub line : ScriptLine
   pub behind : List ScriptLine
@@ -56,12 +56,12 @@ pub record StopsBehind (lines : List ScriptLine) : Type 0 where
   pub refused : turn_refusal (turns_to lines) (closing lines) ≡ Some reason
 
 -- why lines are not run: an operation is not accepted, or an allocation failed
-abbrev pub Stops : List ScriptLine → LoopFault → Type 0
-Stops lines (OfLine number) = StopsAt lines number
-Stops lines Exhausted = StopsBehind lines
-Stops lines (Service code) = ⊥
-Stops lines UnknownResponse = ⊥
-Stops lines NoMemory = Unit {0}
+abbrev pub StopsScriptLines : List ScriptLine → LoopFault → Type 0
+StopsScriptLines lines (OfLine number) = StopsAtLine lines number
+StopsScriptLines lines Exhausted = StopsBehind lines
+StopsScriptLines lines (Service code) = ⊥
+StopsScriptLines lines UnknownResponse = ⊥
+StopsScriptLines lines NoMemory = Unit {0}
 
 -- ---- a response
 

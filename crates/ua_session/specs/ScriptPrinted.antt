@@ -31,53 +31,53 @@ use Rattle.ua_variant.specs.declared.values.DataValue.{DataValue}
 
 -- ---- what is told: a text, or the answer to a Read
 
-pub data Told : Type 0 where
+pub data ToldOfScript : Type 0 where
   -- this text
-  said : List ℕ → Told
+  said : List ℕ → ToldOfScript
   -- the line of an answer to the Read of a node
-  answer : NodeId → DataValue → Told
+  answer : NodeId → DataValue → ToldOfScript
 
 -- the text of what is told, with the names of StatusCodes if they are wanted
-abbrev pub told_text : Bool → Told → List ℕ
+abbrev pub told_text : Bool → ToldOfScript → List ℕ
 told_text names (said t) = t
 told_text names (answer node value) = read_line (plain names) node value
 
 -- the same, or with values in the human-readable form if this is wanted
-abbrev pub IsTold : Bool → Bool → Told → List ℕ → Type 0
-IsTold people names (said t) shown = shown ≡ t
-IsTold people names (answer node value) shown = Either people (IsPlainRead (plain names) node value shown) (shown ≡ read_line (plain names) node value)
+abbrev pub IsToldText : Bool → Bool → ToldOfScript → List ℕ → Type 0
+IsToldText people names (said t) shown = shown ≡ t
+IsToldText people names (answer node value) shown = Either people (IsPlainRead (plain names) node value shown) (shown ≡ read_line (plain names) node value)
 
 -- ---- one reply: what is told of it, with the names of StatusCodes if wanted, or why nothing is
 
 -- the line of the one result of a Read of a node
-abbrev pub read_told : Bool → NodeId → Option (List DataValue) → Result Told LoopFault
+abbrev pub read_told : Bool → NodeId → Option (List DataValue) → Result ToldOfScript LoopFault
 read_told names node None = Err UnknownResponse
 read_told names node (Some []) = Err UnknownResponse
 read_told names node (Some (value ∷ [])) = Ok (answer node value)
 read_told names node (Some (value ∷ (other ∷ others))) = Err UnknownResponse
 
 -- the line of the one result of a Write to a node
-abbrev pub write_told : Bool → NodeId → Option (List StatusCode) → Result Told LoopFault
+abbrev pub write_told : Bool → NodeId → Option (List StatusCode) → Result ToldOfScript LoopFault
 write_told names node None = Err UnknownResponse
 write_told names node (Some []) = Err UnknownResponse
 write_told names node (Some (status ∷ [])) = Ok (said (write_line (plain names) node status))
 write_told names node (Some (status ∷ (other ∷ others))) = Err UnknownResponse
 
 -- the code of a ServiceFault, if there is one
-abbrev pub unless_failed : Option StatusCode → Result Told LoopFault → Result Told LoopFault
+abbrev pub unless_failed : Option StatusCode → Result ToldOfScript LoopFault → Result ToldOfScript LoopFault
 unless_failed None told = told
 unless_failed (Some code) told = Err (Service code)
 
 -- of a response to a step, or to a request that begins or ends the session, of which nothing is
 -- printed; a renewal makes no request
-abbrev pub response_told : Bool → Option Step → Response → Result Told LoopFault
+abbrev pub response_told : Bool → Option Step → Response → Result ToldOfScript LoopFault
 response_told names None response = unless_failed (fault_in response) (Ok (said []))
 response_told names (Some (Read node range)) response = unless_failed (fault_in response) (read_told names node (values_in response))
 response_told names (Some (Write node value)) response = unless_failed (fault_in response) (write_told names node (statuses_in response))
 response_told names (Some Renew) response = Err UnknownResponse
 
 -- of a reply, if there is one: the server may have aborted it
-abbrev pub reply_told : Bool → Option Step → Option Reply → Result Told LoopFault
+abbrev pub reply_told : Bool → Option Step → Option Reply → Result ToldOfScript LoopFault
 reply_told names step None = Err UnknownResponse
 reply_told names step (Some (Responds response)) = response_told names step response
 reply_told names step (Some (Aborted code)) = Err (Service code)
@@ -104,7 +104,7 @@ abbrev pub asked_for : List ScriptLine → List (Option Step)
 asked_for lines = None ∷ (None ∷ asked_behind lines)
 
 -- what is told of replies, each by what its request is for
-abbrev pub replies_told : Bool → List (Option Step) → List (Option Reply) → List (Result Told LoopFault)
+abbrev pub replies_told : Bool → List (Option Step) → List (Option Reply) → List (Result ToldOfScript LoopFault)
 replies_told names [] replies = []
 replies_told names (step ∷ steps) [] = reply_told names step None ∷ replies_told names steps []
 replies_told names (step ∷ steps) (reply ∷ replies) = reply_told names step reply ∷ replies_told names steps replies
@@ -141,24 +141,24 @@ totals_line names up down end = (codes "up " ++ (decimal up ++ (codes " down " +
 -- ---- a whole script
 
 -- the texts before the first fault
-abbrev pub text_of : Bool → List (Result Told LoopFault) → List ℕ
+abbrev pub text_of : Bool → List (Result ToldOfScript LoopFault) → List ℕ
 text_of names [] = []
 text_of names (Ok told ∷ rest) = told_text names told ++ text_of names rest
 text_of names (Err fault ∷ rest) = []
 
 -- the same, with values in the human-readable form
-abbrev pub IsPlainTextOf : Bool → List (Result Told LoopFault) → List ℕ → Type 0
+abbrev pub IsPlainTextOf : Bool → List (Result ToldOfScript LoopFault) → List ℕ → Type 0
 IsPlainTextOf names [] shown = shown ≡ []
-IsPlainTextOf names (Ok told ∷ rest) shown = (first : List ℕ) × (others : List ℕ) × (shown ≡ first ++ others) × IsTold true names told first
+IsPlainTextOf names (Ok told ∷ rest) shown = (first : List ℕ) × (others : List ℕ) × (shown ≡ first ++ others) × IsToldText true names told first
     × IsPlainTextOf names rest others
 IsPlainTextOf names (Err fault ∷ rest) shown = shown ≡ []
 
 -- the one or the other
-abbrev pub IsTextOf : Bool → Bool → List (Result Told LoopFault) → List ℕ → Type 0
+abbrev pub IsTextOf : Bool → Bool → List (Result ToldOfScript LoopFault) → List ℕ → Type 0
 IsTextOf people names told shown = Either people (IsPlainTextOf names told shown) (shown ≡ text_of names told)
 
 -- the first fault, if there is one
-abbrev pub told_fault : List (Result Told LoopFault) → Option LoopFault
+abbrev pub told_fault : List (Result ToldOfScript LoopFault) → Option LoopFault
 told_fault [] = None
 told_fault (Ok told ∷ rest) = told_fault rest
 told_fault (Err fault ∷ rest) = Some fault
@@ -170,7 +170,7 @@ script_totals names nodes lines = totals_line names (length (up_octets script_mo
 
 -- what is told of a script that is run over these nodes: of the reply to each request in order, and
 -- after them the number of bytes each way
-abbrev pub script_told : Bool → Nodes → List ScriptLine → List (Result Told LoopFault)
+abbrev pub script_told : Bool → Nodes → List ScriptLine → List (Result ToldOfScript LoopFault)
 script_told names nodes lines =
     replies_told names (asked_for lines) (turns_replies (begun_over nodes) script_moment (script_turns lines)) ++ Ok (said (script_totals names nodes lines))
     ∷ []
@@ -186,15 +186,15 @@ pub record AreLoopLines (people names : Bool) (shown : List ℕ) : Type 0 where
 
 -- the text of what is told was appended; or nothing was, and the fault is the one that is told, or
 -- an allocation failed
-abbrev pub AddsTold : Bool → Bool → Result Told LoopFault → Result (Unit {0}) LoopFault → List ℕ → List ℕ → Type 0
-AddsTold people names told (Ok done) had have = (line : Told) × (shown : List ℕ) × (told ≡ Ok line) × (have ≡ had ++ shown) × IsTold people names line shown
+abbrev pub AddsTold : Bool → Bool → Result ToldOfScript LoopFault → Result (Unit {0}) LoopFault → List ℕ → List ℕ → Type 0
+AddsTold people names told (Ok done) had have = (line : ToldOfScript) × (shown : List ℕ) × (told ≡ Ok line) × (have ≡ had ++ shown) × IsToldText people names line shown
 AddsTold people names told (Err fault) had have = (fault ≡ NoMemory) ⊎ ((told ≡ Err fault) × (have ≡ had))
 
 -- the texts before the first fault were appended
-abbrev pub AddsTexts : Bool → Bool → List (Result Told LoopFault) → List ℕ → List ℕ → Type 0
+abbrev pub AddsTexts : Bool → Bool → List (Result ToldOfScript LoopFault) → List ℕ → List ℕ → Type 0
 AddsTexts people names told had have = (shown : List ℕ) × (have ≡ had ++ shown) × IsTextOf people names told shown
 
 -- the same, and that fault was returned, or an allocation failed
-abbrev pub AddsAll : Bool → Bool → List (Result Told LoopFault) → Result (Unit {0}) LoopFault → List ℕ → List ℕ → Type 0
+abbrev pub AddsAll : Bool → Bool → List (Result ToldOfScript LoopFault) → Result (Unit {0}) LoopFault → List ℕ → List ℕ → Type 0
 AddsAll people names told (Ok done) had have = (told_fault told ≡ None) × AddsTexts people names told had have
 AddsAll people names told (Err fault) had have = (fault ≡ NoMemory) ⊎ ((told_fault told ≡ Some fault) × AddsTexts people names told had have)

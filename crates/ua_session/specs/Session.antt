@@ -11,9 +11,9 @@ use Rattle.ua_texts.specs.declared.style.AnswerStyle.{AnswerStyle}
 use Rattle.ua_session.specs.Endpoints.{CallsEndpoints}
 use Rattle.ua_session.specs.Line.{LineState}
 use Rattle.ua_session.specs.Policy.{ChoosesBy}
-use Rattle.ua_session.specs.Question.{PrintsAnswers, request_of}
+use Rattle.ua_session.specs.Question.{PrintsAnswers, request_of_question}
 use Rattle.ua_session.specs.Replies.{Expects}
-use Rattle.ua_session.specs.Steps.{Asks, Begins, Calls, Runs, first_of}
+use Rattle.ua_session.specs.Steps.{AsksRequest, BeginsSessionBy, CallsRequest, Runs, first_fault_of}
 use Rattle.ua_session.specs.declared.fault.QuestionFault.{QuestionFault}
 use Rattle.ua_session.specs.declared.fault.QuestionFault.TheVariants.{NoMemory, Service}
 use Rattle.ua_session.specs.declared.fault.NotBegun.{NotBegun}
@@ -50,15 +50,15 @@ first_call (Named id) = 4
 first_call Auto = 5
 
 -- the RequestId of the call after a question; a question that was not sent used none
-abbrev pub handle_behind : ℕ → Result Reply QuestionFault → ℕ
-handle_behind handle (Ok reply) = handle + 1
-handle_behind handle (Err fault) = handle
+abbrev pub handle_behind_question : ℕ → Result Reply QuestionFault → ℕ
+handle_behind_question handle (Ok reply) = handle + 1
+handle_behind_question handle (Err fault) = handle
 
 -- the session of a token is ended, by a CloseSession with this RequestHandle
 pub record EndsSession (token : NodeId) (handle : ℕ) (moment : DateTime) (old new : Client) (before after : LineState)
     (result : Result (Unit {0}) QuestionFault) : Type 0 where
   pub called : Result Reply QuestionFault
-  pub calls : Calls (close_session token moment handle) old new before after called
+  pub calls : CallsRequest (close_session token moment handle) old new before after called
   pub expects : Expects called result
 
 -- the RequestId of the call after a session that was not begun, where that of the first call in it
@@ -91,14 +91,14 @@ pub record AsksUnder {M O : Type 0} (gives : M → ℤ → M → Type 0) (conten
   pub called : Result Reply QuestionFault
   pub asked : Client
   pub answered : LineState
-  pub asks : Asks (request_of question token asked_at handle) old asked before answered called
+  pub asks : AsksRequest (request_of_question question token asked_at handle) old asked before answered called
   pub printed : Result Verdict QuestionFault
   pub prints : PrintsAnswers contents style question had have called printed
   pub ended_at : DateTime
   pub ending_given : gives behind ended_at.ticks last
   pub ended : Result (Unit {0}) QuestionFault
-  pub ends : EndsSession token (handle_behind handle called) ended_at asked new answered after ended
-  pub result_is : result ≡ first_of printed ended
+  pub ends : EndsSession token (handle_behind_question handle called) ended_at asked new answered after ended
+  pub result_is : result ≡ first_fault_of printed ended
 
 -- a session was begun by the token policy with this PolicyId, a question asked in it, and the
 -- session ended; if none was begun that is told, and nothing was written, but one that stays at the
@@ -112,7 +112,7 @@ pub record AsksInSession {M O : Type 0} (gives : M → ℤ → M → Type 0) (co
   pub begun : Result NodeId NotBegun
   pub client : Client
   pub once_begun : LineState
-  pub begins : Begins policy_id begun_at old client before once_begun begun
+  pub begins : BeginsSessionBy policy_id begun_at old client before once_begun begun
   pub further : MatchResult begun
       (λ token. AsksUnder gives contents style question token handle behind last client new once_begun after had have result)
       (λ refused. (result ≡ Err refused.fault) × (have ≡ had) × EndsUnbegun gives refused.token (handle_unbegun handle refused.fault) behind last client new

@@ -15,16 +15,16 @@ use Rattle.ua_session.specs.declared.question.Question.TheVariants.{Read, Write}
 -- ---- one word
 
 -- the text names no NodeId
-abbrev pub NamesNone : List ℕ → Type 0
-NamesNone text = (node : NodeId) → NamesNode node text → ⊥
+abbrev pub NamesNoNode : List ℕ → Type 0
+NamesNoNode text = (node : NodeId) → NamesNode node text → ⊥
 
 -- what a word is parsed as is the NodeId that it names, unless an allocation failed
-abbrev pub GivesNode : List ℕ → Result NodeId WordFault → Type 0
-GivesNode text (Ok node) = NamesNode node text
-GivesNode text (Err BadNode) = NamesNone text
-GivesNode text (Err BadValue) = ⊥
-GivesNode text (Err BadRange) = ⊥
-GivesNode text (Err NoMemory) = Unit {0}
+abbrev pub GivesIdOfWord : List ℕ → Result NodeId WordFault → Type 0
+GivesIdOfWord text (Ok node) = NamesNode node text
+GivesIdOfWord text (Err BadNode) = NamesNoNode text
+GivesIdOfWord text (Err BadValue) = ⊥
+GivesIdOfWord text (Err BadRange) = ⊥
+GivesIdOfWord text (Err NoMemory) = Unit {0}
 
 -- what two words are parsed as is the value that they denote, unless an allocation failed
 abbrev pub GivesTyped : List ℕ → List ℕ → Result Variant WordFault → Type 0
@@ -61,7 +61,7 @@ AreNodes text_of texts nodes = AllZip (λ text node. NamesNode node (text_of tex
 
 -- why texts are not parsed as NodeIds: one of them names none, or an allocation failed
 abbrev pub NamesNoNodes : {A : Type 0} → (A → List ℕ) → List A → WordFault → Type 0
-NamesNoNodes text_of texts BadNode = Any (λ text. NamesNone (text_of text)) texts
+NamesNoNodes text_of texts BadNode = Any (λ text. NamesNoNode (text_of text)) texts
 NamesNoNodes text_of texts BadValue = ⊥
 NamesNoNodes text_of texts BadRange = ⊥
 NamesNoNodes text_of texts NoMemory = Unit {0}
@@ -79,7 +79,7 @@ GivesRead text_of texts attribute part (Err fault) = NamesNoNodes text_of texts 
 abbrev pub GivesWrite : List ℕ → List ℕ → List ℕ → Result Question WordFault → Type 0
 GivesWrite id kind text (Ok (Read nodes attribute part)) = ⊥
 GivesWrite id kind text (Ok (Write node value)) = NamesNode node id × (typed_denoted kind text ≡ Some (variant_of value))
-GivesWrite id kind text (Err BadNode) = NamesNone id
+GivesWrite id kind text (Err BadNode) = NamesNoNode id
 GivesWrite id kind text (Err BadRange) = ⊥
 GivesWrite id kind text (Err BadValue) = ((node : NodeId) × NamesNode node id) × (typed_denoted kind text ≡ None)
 GivesWrite id kind text (Err NoMemory) = Unit {0}

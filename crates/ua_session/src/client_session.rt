@@ -4,9 +4,9 @@ ghost use Rattle.std.specs.Prelude.{◌≡◌, ◌<◌, IfErr, IsTrue, OnOk};
 ghost use Rattle.ua_wire.specs.Counted.{text};
 ghost use Rattle.ua_services.specs.SessionRequests.{get_endpoints};
 ghost use Rattle.ua_session.specs.InSession.{AsksEndpointsIn, AsksQuestion, BeginsByPolicy, BeginsNamed};
-ghost use Rattle.ua_session.specs.InSession.{BeginsSession, EndsAll, IsNextHandle, RenewsToken};
+ghost use Rattle.ua_session.specs.InSession.{OpensSession, EndsAll, IsNextHandle, RenewsToken};
 ghost use Rattle.ua_session.specs.Printed.{AreAnswerLines, AreEndpointLines, HasAdded, LeavesLines};
-ghost use Rattle.ua_session.specs.Steps.{Asks};
+ghost use Rattle.ua_session.specs.Steps.{AsksRequest};
 
 use crate::answer::print_endpoints;
 use crate::fault::QuestionFault;
@@ -73,7 +73,7 @@ fn call_endpoints<L: Line>(
     handle: u32,
     moment: DateTime,
 ) -> Result<Reply, QuestionFault>
-    ensures { Asks (get_endpoints url.now moment handle) client.old client.new
+    ensures { AsksRequest (get_endpoints url.now moment handle) client.old client.new
         (record { traffic = L.traffic line.old; failures = L.failures line.old })
         (record { traffic = L.traffic line.new; failures = L.failures line.new }) result }
 {
@@ -120,7 +120,7 @@ impl ClientSession {
         moments: &mut M,
     ) -> Result<ClientSession, QuestionFault>
         requires { IsTrue (text.encodable url) }
-        ensures { BeginsSession M.gives limits url policy.now moments.old moments.new
+        ensures { OpensSession M.gives limits url policy.now moments.old moments.new
             (record { traffic = L.traffic line.old; failures = L.failures line.old })
             (record { traffic = L.traffic line.new; failures = L.failures line.new }) result }
     {

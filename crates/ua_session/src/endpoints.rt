@@ -3,7 +3,7 @@
 ghost use Rattle.std.specs.Prelude.{IfErr, IsTrue, OnOk};
 ghost use Rattle.ua_wire.specs.Counted.{text};
 ghost use Rattle.ua_session.specs.Endpoints.{AsksEndpoints, CallsEndpoints, RunsEndpoints};
-ghost use Rattle.ua_session.specs.Line.{LineFailed};
+ghost use Rattle.ua_session.specs.Line.{LineFailedConversing};
 ghost use Rattle.ua_session.specs.Printed.{AreEndpointLines, HasAdded, LeavesLines};
 
 use crate::answer::print_endpoints;
@@ -79,7 +79,7 @@ pub fn endpoints_over<L: Line, M: Moments, O: Write>(
         (record { traffic = L.traffic line.new; failures = L.failures line.new }) out.old out.new result }
     ensures answered { OnOk result (HasAdded (AreEndpointLines style) (O.contents out.old) (O.contents out.new)) }
     ensures left { IfErr result (λ fault. LeavesLines O.contents (AreEndpointLines style) fault out.old out.new) }
-    ensures failed { LineFailed (L.failures line.old) result (L.failures line.new) }
+    ensures failed { LineFailedConversing (L.failures line.old) result (L.failures line.new) }
 {
     let opened_at = next_moment(moments);
     match open(alloc, line, limits, url, opened_at) {

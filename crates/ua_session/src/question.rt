@@ -2,7 +2,7 @@
 
 ghost use Rattle.std.specs.Prelude.{◌≡◌, ◌∷◌, [], string_bytes, IfOk, IfErr, OnOk};
 ghost use Rattle.ua_session.specs.Question.{AnswersNothing, AnswersQuestion, PrintsAnswers};
-ghost use Rattle.ua_session.specs.Question.{item_for, items_of, request_of, verdict_of};
+ghost use Rattle.ua_session.specs.Question.{item_for, items_of_question, request_of_question, verdict_of};
 ghost use Rattle.ua_session.specs.Replies.{IsRefusedBy};
 ghost use Rattle.ua_session.specs.Told.{of_answer};
 ghost use Rattle.ua_client.specs.declared.reply.Reply.TheVariants.{Response as Responds};
@@ -41,7 +41,7 @@ fn read_items(
     attribute: u32,
     range: &UaString,
 ) -> Result<Vec<ReadValueId>, AllocError>
-    ensures { IfOk result (λ items. items.items ≡ items_of attribute range.now nodes.now) }
+    ensures { IfOk result (λ items. items.items ≡ items_of_question attribute range.now nodes.now) }
 {
     let mut items = Vec::with_capacity(alloc, nodes.len())?;
     for node in nodes {
@@ -79,7 +79,7 @@ impl Question {
         moment: DateTime,
         handle: u32,
     ) -> Result<Request, AllocError>
-        ensures { IfOk result (λ request. request ≡ request_of self.now token moment handle) }
+        ensures { IfOk result (λ request. request ≡ request_of_question self.now token moment handle) }
     {
         match self {
             Question::Read {

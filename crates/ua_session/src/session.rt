@@ -2,12 +2,12 @@
 
 ghost use Rattle.std.specs.Prelude.{◌≡◌, ◌<◌, ◌^◌, IfErr, IsTrue, OnOk};
 ghost use Rattle.ua_wire.specs.Counted.{text};
-ghost use Rattle.ua_session.specs.Line.{LineFailed};
+ghost use Rattle.ua_session.specs.Line.{LineFailedConversing};
 ghost use Rattle.ua_session.specs.Printed.{AreAnswerLines, HasAdded, LeavesLines};
-ghost use Rattle.ua_session.specs.Question.{request_of};
+ghost use Rattle.ua_session.specs.Question.{request_of_question};
 ghost use Rattle.ua_session.specs.Session.{AsksByPolicy, AsksInSession, AsksUnder, EndsSession, EndsUnbegun};
-ghost use Rattle.ua_session.specs.Session.{FindsPolicy, RunsQuestion, first_call, handle_behind, handle_unbegun};
-ghost use Rattle.ua_session.specs.Steps.{Asks};
+ghost use Rattle.ua_session.specs.Session.{FindsPolicy, RunsQuestion, first_call, handle_behind_question, handle_unbegun};
+ghost use Rattle.ua_session.specs.Steps.{AsksRequest};
 
 use crate::answer::expect_done;
 use crate::endpoints::call_endpoints;
@@ -73,7 +73,7 @@ pub fn call_question<L: Line>(
     handle: u32,
     moment: DateTime,
 ) -> Result<Reply, QuestionFault>
-    ensures { Asks (request_of question.now token.now moment handle) client.old client.new
+    ensures { AsksRequest (request_of_question question.now token.now moment handle) client.old client.new
         (record { traffic = L.traffic line.old; failures = L.failures line.old })
         (record { traffic = L.traffic line.new; failures = L.failures line.new }) result }
 {
@@ -89,7 +89,7 @@ pub fn call_question<L: Line>(
 /// The RequestId of the call after a question: a question that was not sent used none.
 fn handle_behind(handle: u32, called: &Result<Reply, QuestionFault>) -> u32
     requires few { handle < 2 ^ 31 }
-    ensures { result ≡ handle_behind handle called.now }
+    ensures { result ≡ handle_behind_question handle called.now }
 {
     match called {
         Ok(_) => handle + 1,
@@ -257,7 +257,7 @@ pub fn ask_over<L: Line, M: Moments, O: Write>(
         (record { traffic = L.traffic line.new; failures = L.failures line.new }) out.old out.new result }
     ensures answered { OnOk result (HasAdded (AreAnswerLines style) (O.contents out.old) (O.contents out.new)) }
     ensures left { IfErr result (λ fault. LeavesLines O.contents (AreAnswerLines style) fault out.old out.new) }
-    ensures failed { LineFailed (L.failures line.old) result (L.failures line.new) }
+    ensures failed { LineFailedConversing (L.failures line.old) result (L.failures line.new) }
 {
     let opened_at = next_moment(moments);
     match open(alloc, line, limits, url, opened_at) {

@@ -3,7 +3,7 @@
 ghost use Rattle.std.specs.Prelude.{◌≡◌, IfOk, IsTrue};
 ghost use Rattle.ua_wire.specs.Counted.{text};
 ghost use Rattle.ua_client.specs.Client.{IsReady};
-ghost use Rattle.ua_session.specs.Steps.{Begins, Calls, ClosesClient, OpensServer, first_of, told};
+ghost use Rattle.ua_session.specs.Steps.{BeginsSessionBy, CallsRequest, ClosesClient, OpensServer, first_fault_of, told};
 
 use crate::fault::{NotBegun, QuestionFault};
 use std::alloc::Global;
@@ -39,7 +39,7 @@ pub fn first_of<A: Drop>(
     first: Result<A, QuestionFault>,
     second: Result<(), QuestionFault>,
 ) -> Result<A, QuestionFault>
-    ensures { result ≡ first_of first second }
+    ensures { result ≡ first_fault_of first second }
 {
     match (first, second) {
         (Ok(found), Ok(())) => Ok(found),
@@ -76,7 +76,7 @@ pub fn begin<L: Line>(
     policy_id: UaString,
     moment: DateTime,
 ) -> Result<NodeId, NotBegun>
-    ensures { Begins policy_id moment client.old client.new
+    ensures { BeginsSessionBy policy_id moment client.old client.new
         (record { traffic = L.traffic line.old; failures = L.failures line.old })
         (record { traffic = L.traffic line.new; failures = L.failures line.new }) result }
 {
@@ -96,7 +96,7 @@ pub fn call<L: Line>(
     request: Request,
     moment: DateTime,
 ) -> Result<Reply, QuestionFault>
-    ensures { Calls request client.old client.new
+    ensures { CallsRequest request client.old client.new
         (record { traffic = L.traffic line.old; failures = L.failures line.old })
         (record { traffic = L.traffic line.new; failures = L.failures line.new }) result }
 {

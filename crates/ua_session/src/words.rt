@@ -2,7 +2,7 @@
 
 ghost use Rattle.std.specs.Prelude.{IfOk, IfErr, option_map};
 ghost use Rattle.ua_texts.specs.PlainLines.{exact_typed as exact_typed_of};
-ghost use Rattle.ua_session.specs.Words.{AreNodes, GivesNode, GivesRange, GivesRead};
+ghost use Rattle.ua_session.specs.Words.{AreNodes, GivesIdOfWord, GivesRange, GivesRead};
 ghost use Rattle.ua_session.specs.Words.{GivesTyped, GivesWrite, NamesNoNodes};
 
 use crate::fault::WordFault;
@@ -15,7 +15,7 @@ use ua_variant::Variant;
 
 /// The NodeId that a word denotes; `BadNode` where it denotes none.
 fn parse_node(alloc: Global, text: &str) -> Result<NodeId, WordFault>
-    ensures { GivesNode text.now result }
+    ensures { GivesIdOfWord text.now result }
 {
     Ok(NodeId::parse_text(alloc, text)?)
 }

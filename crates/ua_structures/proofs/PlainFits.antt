@@ -24,8 +24,8 @@ use Rattle.ua_structures.specs.Attribute.{read_value_id, read_request, read_resp
 use Rattle.ua_structures.specs.Discovery.{application_description, endpoint_description, get_endpoints_request}
 use Rattle.ua_opening.specs.Field.{byte_string, int32, string}
 use Rattle.ua_opening.specs.Header.{request_header, response_header}
-use Rattle.ua_structures.specs.Plain.{value_of_node, value_for_node, read_of, write_of, values_of, statuses_of, application_of}
-use Rattle.ua_structures.specs.Plain.{endpoints_of, null_signature, create_session_of, session_of, activate_session_of, activated_of}
+use Rattle.ua_structures.specs.Plain.{value_of_node, value_for_node, read_of, write_of, read_response_of, write_response_of, application_of}
+use Rattle.ua_structures.specs.Plain.{get_endpoints_request_of, null_signature, create_session_of, session_of, activate_session_of, activated_of}
 use Rattle.ua_structures.specs.Session.{signed_software_certificate, signature_data, create_session_request}
 use Rattle.ua_structures.specs.Session.{create_session_response, activate_session_request, activate_session_response}
 use Rattle.ua_structures.specs.declared.attribute.ReadValueId.{ReadValueId}
@@ -72,7 +72,7 @@ pub client_fits : (uri name : Option (List ℕ)) → IsTrue (string.encodable ur
 client_fits uri name u n = application_fits_by (pos 1) uri name None refl u n (null_array_fits string)
 
 pub endpoints_fit : (header : RequestHeader) (url : Option (List ℕ)) → IsTrue (request_header.encodable header) → IsTrue (string.encodable url)
-    → IsTrue (get_endpoints_request.encodable (endpoints_of header url))
+    → IsTrue (get_endpoints_request.encodable (get_endpoints_request_of header url))
 unfolding get_endpoints_request
 endpoints_fit header url h u =
     and_true (request_header.encodable header) _ h
@@ -157,14 +157,14 @@ pub write_item_fits : (header : RequestHeader) (item : WriteValue) → IsTrue (r
 write_item_fits header item h k = write_request_fits header (item ∷ []) h (omega arith) (and_true (write_value.encodable item) true k refl)
 
 pub read_response_fits : (header : ResponseHeader) (values : List DataValue) → IsTrue (response_header.encodable header) → length values < first_negative
-    → IsTrue (list_all data_value_format.encodable values) → IsTrue (read_response.encodable (values_of header values))
+    → IsTrue (list_all data_value_format.encodable values) → IsTrue (read_response.encodable (read_response_of header values))
 unfolding read_response
 read_response_fits header values h few each =
     and_true (response_header.encodable header) _ h
     (and_true ((array data_value_format).encodable (Some values)) _ (array_fits_by data_value_format values few each) (null_array_fits diagnostic_format))
 
 pub write_response_fits : (header : ResponseHeader) (codes : List StatusCode) → IsTrue (response_header.encodable header) → length codes < first_negative
-    → IsTrue (list_all status_code.encodable codes) → IsTrue (write_response.encodable (statuses_of header codes))
+    → IsTrue (list_all status_code.encodable codes) → IsTrue (write_response.encodable (write_response_of header codes))
 unfolding write_response
 write_response_fits header codes h few each =
     and_true (response_header.encodable header) _ h

@@ -11,7 +11,7 @@ use Rattle.ua_builtin.specs.Number.{number_at}
 use Rattle.ua_builtin.specs.declared.node_id.NodeId.{NodeId}
 use Rattle.ua_variant.specs.Formats.{data_value_format}
 use Rattle.ua_variant.specs.declared.values.DataValue.{DataValue}
-use Rattle.ua_opening.specs.Array.{array, array_at, behind_count, items_at}
+use Rattle.ua_opening.specs.Array.{array, array_at, array_behind_count, items_at}
 use Rattle.ua_structures.specs.Attribute.{write_request, write_value}
 use Rattle.ua_opening.specs.Header.{request_header}
 use Rattle.ua_structures.specs.Thin.{kept_value, null_value, thinned, thinned_request}
@@ -128,8 +128,8 @@ pub array_image : {A B : Type 0} (f : A → B) (read : Read A) (octets : List �
     → array_at (image_read f read) octets ≡ image_read (option_map (map f)) (array_at read) octets
 array_image f read octets = by (number_at 4 octets)
   where
-    by : (found : Option (ℕ × List ℕ)) → (found >>= λ count. behind_count (image_read f read) count.0 count.1)
-        ≡ imaged (option_map (map f)) (found >>= λ count. behind_count read count.0 count.1)
+    by : (found : Option (ℕ × List ℕ)) → (found >>= λ count. array_behind_count (image_read f read) count.0 count.1)
+        ≡ imaged (option_map (map f)) (found >>= λ count. array_behind_count read count.0 count.1)
     by None = refl
     by (Some count) = counted_image f read count.0 count.1 (nat_lt count.0 first_negative)
 

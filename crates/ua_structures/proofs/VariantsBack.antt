@@ -14,7 +14,7 @@ use Rattle.ua_variant.specs.Data.{localized_text, extension_object, reserved, Da
 use Rattle.ua_variant.specs.Data.{leaf, data_value, variant, diagnostic, ScalarsData, no_scalars, scalar, DataValueData, bare, valued}
 use Rattle.ua_variant.specs.Leaf.{leaf_kind, is_reserved, EncodesLeaf, leaf_encodable}
 use Rattle.ua_variant.specs.Fields.{data_fields}
-use Rattle.ua_variant.specs.Encodable.{data_fields_encodable, kind_of, is_kind, is_read_kind, is_variant}
+use Rattle.ua_variant.specs.Encodable.{data_fields_encodable, kind_of_scalar, is_kind, is_read_kind, is_variant}
 use Rattle.ua_variant.specs.Encodable.{row_length, variant_fits, scalar_fits, scalars_fit, data_value_fits}
 use Rattle.ua_variant.specs.Encoding.{EncodesVariant, EncodesScalar, EncodesRow, EncodesDataValue}
 use Rattle.ua_structures.specs.WrittenBack.{variant_ids, scalar_ids, scalars_ids, data_value_ids, none_reserved, variant_unreserved, data_value_unreserved}
@@ -103,7 +103,7 @@ dims_back false n (d ∷ ds) b h = absurd (let e : d ∷ ds ≡ [] = h.0 in cc)
 kind_back : (k : ℕ) → is_read_kind k ≡ true → is_kind k ≡ not (is_reserved k)
 kind_back k h = Prim.grind (arith, common_steps)
 
-no_variant : (s : ScalarData) → (kind_of s ≡ 24 → ⊥) → not (is_variant s) ≡ true
+no_variant : (s : ScalarData) → (kind_of_scalar s ≡ 24 → ⊥) → not (is_variant s) ≡ true
 no_variant (leaf l) h = refl
 no_variant (data_value d) h = refl
 no_variant (variant v) h = absurd (h refl)
@@ -137,7 +137,7 @@ mutual
   row_back k no_scalars b h = refl
   row_back k (scalar s ss) b h =
       let j = h.1 in
-      ap₂ (λ (x y : Bool). x && y) (ap₂ (λ (x y : Bool). x && y) (eq-eqb (kind_of s) k h.0) (scalar_back s j.0 j.3)) (row_back k ss j.1 j.4)
+      ap₂ (λ (x y : Bool). x && y) (ap₂ (λ (x y : Bool). x && y) (eq-eqb (kind_of_scalar s) k h.0) (scalar_back s j.0 j.3)) (row_back k ss j.1 j.4)
       ∙ sym (list_all-append (λ (i : ℕ). not (is_reserved i)) (scalar_ids s) (scalars_ids ss))
 
   pub data_value_back : (d : DataValueData) (b : List ℕ) → EncodesDataValue d b → data_value_fits d ≡ none_reserved (data_value_ids d)

@@ -67,8 +67,8 @@ application_of kind uri name urls = record {
 }
 
 -- a GetEndpoints request at this address, for any locale and profile
-abbrev pub endpoints_of : RequestHeader → Option (List ℕ) → GetEndpointsRequest
-endpoints_of header url = record { request_header = header; endpoint_url = url; locale_ids = None; profile_uris = None }
+abbrev pub get_endpoints_request_of : RequestHeader → Option (List ℕ) → GetEndpointsRequest
+get_endpoints_request_of header url = record { request_header = header; endpoint_url = url; locale_ids = None; profile_uris = None }
 
 -- a CreateSession request of this client, at this address, under this name, with this timeout: no
 -- limit of responses, and all else null
@@ -119,9 +119,9 @@ activated_of header = record { response_header = header; server_nonce = None; re
 -- ---- the answers to Read and Write
 
 -- the values of a Read response, without diagnostics
-abbrev pub values_of : ResponseHeader → List DataValue → ReadResponse
-values_of header values = record { response_header = header; results = Some values; diagnostic_infos = None }
+abbrev pub read_response_of : ResponseHeader → List DataValue → ReadResponse
+read_response_of header values = record { response_header = header; results = Some values; diagnostic_infos = None }
 
 -- the result of each item of a Write, without diagnostics
-abbrev pub statuses_of : ResponseHeader → List StatusCode → WriteResponse
-statuses_of header codes = record { response_header = header; results = Some codes; diagnostic_infos = None }
+abbrev pub write_response_of : ResponseHeader → List StatusCode → WriteResponse
+write_response_of header codes = record { response_header = header; results = Some codes; diagnostic_infos = None }

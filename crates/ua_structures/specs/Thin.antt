@@ -4,7 +4,7 @@
 use Rattle.std.specs.Prelude.{ℕ, Bool, true, false, cond, map, Option, Some, None, option_map}
 use Rattle.ua_builtin.specs.declared.node_id.NodeId.{NodeId}
 use Rattle.ua_variant.specs.Data.{VariantData, null, one, absent, many}
-use Rattle.ua_variant.specs.Encodable.{kind_of}
+use Rattle.ua_variant.specs.Encodable.{kind_of_scalar}
 use Rattle.ua_variant.specs.declared.values.DataValue.{DataValue}
 use Rattle.ua_structures.specs.declared.attribute.WriteRequest.{WriteRequest}
 use Rattle.ua_structures.specs.declared.attribute.WriteValue.{WriteValue}
@@ -23,7 +23,7 @@ array_type k = record { kind = k; array = true }
 -- the type of a value; a null Variant has none
 abbrev pub type_of : VariantData → Option ValueType
 type_of null = None
-type_of (one s) = Some (scalar_type (kind_of s))
+type_of (one s) = Some (scalar_type (kind_of_scalar s))
 type_of (absent k ds) = Some (array_type k)
 type_of (many k ss ds) = Some (array_type k)
 

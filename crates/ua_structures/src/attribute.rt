@@ -13,7 +13,7 @@ ghost use Rattle.ua_structures.specs.Attribute.{read_value_id, read_request, rea
 ghost use Rattle.ua_structures.specs.Attribute.{write_value, write_request, write_response};
 ghost use Rattle.ua_opening.specs.Header.{request_header as header_format, response_header as answer_format};
 ghost use Rattle.ua_structures.specs.Plain.{empty_read, empty_read_response, value_of_node};
-ghost use Rattle.ua_structures.specs.Plain.{value_for_node, read_of, write_of, values_of, statuses_of};
+ghost use Rattle.ua_structures.specs.Plain.{value_for_node, read_of, write_of, read_response_of, write_response_of};
 
 use crate::data_values::read_data_values;
 use std::alloc::{AllocError, Global};
@@ -173,7 +173,7 @@ impl ReadResponse {
     /// A response with the values of the items, without diagnostics.
     #[tactic(auto, using(crate::proofs::PlainFits::read_response_fits))]
     pub fn with_results(response_header: ResponseHeader, results: Vec<DataValue>) -> ReadResponse
-        ensures value { result ≡ values_of response_header results.items }
+        ensures value { result ≡ read_response_of response_header results.items }
         ensures encodable { IsTrue (answer_format.encodable response_header) → length results.items < first_negative
             → IsTrue (list_all data_value_format.encodable results.items) → IsTrue (read_response.encodable result) }
     {
@@ -379,7 +379,7 @@ impl WriteResponse {
     /// A response with the result of each item, without diagnostics.
     #[tactic(auto, using(crate::proofs::PlainFits::write_response_fits))]
     pub fn with_results(response_header: ResponseHeader, results: Vec<StatusCode>) -> WriteResponse
-        ensures value { result ≡ statuses_of response_header results.items }
+        ensures value { result ≡ write_response_of response_header results.items }
         ensures encodable { IsTrue (answer_format.encodable response_header) → length results.items < first_negative
             → IsTrue (list_all status_code.encodable results.items) → IsTrue (write_response.encodable result) }
     {

@@ -5,7 +5,7 @@ ghost use Rattle.ua_opening.specs.Array.{array};
 ghost use Rattle.ua_structures.specs.Discovery.{application_description, get_endpoints_request};
 ghost use Rattle.ua_opening.specs.Field.{string};
 ghost use Rattle.ua_opening.specs.Header.{request_header as header_format};
-ghost use Rattle.ua_structures.specs.Plain.{application_of, endpoints_of};
+ghost use Rattle.ua_structures.specs.Plain.{application_of, get_endpoints_request_of};
 
 use ua_builtin::{LocalizedText, UaBytes, UaString};
 use ua_opening::{RequestHeader, ResponseHeader, UaArray};
@@ -122,7 +122,7 @@ impl GetEndpointsRequest {
     /// Asks for the endpoints at this URL, for any locale and profile.
     #[tactic(auto, using(crate::proofs::PlainFits::endpoints_fit))]
     pub fn with_url(request_header: RequestHeader, endpoint_url: UaString) -> GetEndpointsRequest
-        ensures value { result ≡ endpoints_of request_header endpoint_url }
+        ensures value { result ≡ get_endpoints_request_of request_header endpoint_url }
         ensures encodable { IsTrue (header_format.encodable request_header) → IsTrue (string.encodable endpoint_url)
             → IsTrue (get_endpoints_request.encodable result) }
     {

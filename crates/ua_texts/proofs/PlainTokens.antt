@@ -15,15 +15,15 @@ use Rattle.json.specs.Written.{Writes, Written}
 use Rattle.ryu.specs.Plain.{IsPlainNumber}
 use Rattle.ua_builtin.specs.declared.node_id.NodeId.{NodeId}
 use Rattle.ua_variant.specs.Data.{ScalarData, ScalarsData, VariantData, many, one}
-use Rattle.ua_variant.specs.Encodable.{kind_of, variant_encodable}
+use Rattle.ua_variant.specs.Encodable.{kind_of_scalar, variant_encodable}
 use Rattle.ua_variant.specs.View.{many_of, row}
 use Rattle.ua_variant.specs.declared.values.DataValue.{DataValue}
-use Rattle.ua_texts.specs.Json.{Field, array, array_fields, dimension_fields, items_of, json_line, object, status_fields, unwritable_fields}
+use Rattle.ua_texts.specs.Json.{Field, json_array, array_fields, dimension_fields, json_items, json_line, object, status_fields, unwritable_fields}
 use Rattle.ua_texts.specs.Names.{number_of}
 use Rattle.ua_texts.specs.PlainJson.{AreBothFields, AreJson, AreTimeFields, AreValueFields, AreVariantFields, AreWrittenFields}
 use Rattle.ua_texts.specs.PlainJson.{IsArrayJson, IsFloatJson, IsPlainJson, IsScalarJson, IsTextJson, IsTimeJson, PutsFields, PutsJson}
 use Rattle.ua_texts.specs.PlainLeaf.{Adds, Either}
-use Rattle.ua_texts.specs.Tokens.{Puts, fields_tokens}
+use Rattle.ua_texts.specs.Tokens.{PutsTokens, fields_tokens}
 use Rattle.ua_texts.specs.Values.{type_name}
 use Rattle.ua_texts.specs.declared.style.LineStyle.{LineStyle}
 use Rattle.ua_texts.proofs.PlainAdds.{adds_is}
@@ -113,48 +113,48 @@ json_next names f xs n s old now new e p q =
       subst (λ (items : List ScalarData). AreJson names (row items) (p.0 ++ q.0 ∷ [])) (sym next) (json_push names (take n (map f xs)) p.0 s q.0 p.3 q.3),
     )
 
-items_each : (js : List Json) → items_tokens (items_of js) ≡ flat_map json_tokens js ++ token.end_array ∷ []
+items_each : (js : List Json) → items_tokens (json_items js) ≡ flat_map json_tokens js ++ token.end_array ∷ []
 items_each [] = refl
 items_each (j ∷ js) = ap (λ (t : List Token). json_tokens j ++ t) (items_each js)
     ∙ sym (append_assoc (json_tokens j) (flat_map json_tokens js) (token.end_array ∷ []))
 
 -- a list was put
 pub list_put : {E : Type 0} (r : Result (Unit {0}) E) (names : Bool) (ss : ScalarsData) (a b c d : Written) → Put a b (token.begin_array ∷ [])
-    → EachJson b c (AreJson names ss) → Puts r c d (token.end_array ∷ [])
+    → EachJson b c (AreJson names ss) → PutsTokens r c d (token.end_array ∷ [])
     → PutsJson r a d (IsArrayJson names ss)
 list_put (Ok x) names ss a b c d first each last =
     let ts = flat_map json_tokens each.0 in
     let put = put_then a b d (token.begin_array ∷ []) (ts ++ token.end_array ∷ []) first (put_then b c d ts (token.end_array ∷ []) (each.1, each.2) last) in
-    (array each.0, put.0, put.1 ∙ ap (λ (t : List Token). a.tokens ++ token.begin_array ∷ t) (sym (items_each each.0)), (each.0, refl, each.3))
+    (json_array each.0, put.0, put.1 ∙ ap (λ (t : List Token). a.tokens ++ token.begin_array ∷ t) (sym (items_each each.0)), (each.0, refl, each.3))
 list_put (Err e) names ss a b c d first each last = tt
 
 -- ---- values behind their types
 
 -- members that are known were put
 pub fields_put : {E : Type 0} (r : Result (Unit {0}) E) (old new : Written) (fields : List Field) (Are : List Field → Type 0)
-    → Puts r old new (fields_tokens fields) → Are fields → PutsFields r old new Are
+    → PutsTokens r old new (fields_tokens fields) → Are fields → PutsFields r old new Are
 fields_put (Ok x) old new fields Are p h = (fields, p.0, p.1, h)
 fields_put (Err e) old new fields Are p h = tt
 
 -- a null array
 pub absent_put : {E : Type 0} (r : Result (Unit {0}) E) (old new : Written) (names : Bool) (k : ℕ) (items : Option (List ScalarData)) (ds : List _)
-    → items ≡ None → Puts r old new (fields_tokens (array_fields k items ds))
+    → items ≡ None → PutsTokens r old new (fields_tokens (array_fields k items ds))
     → PutsFields r old new (AreVariantFields names (many_of k items ds))
 absent_put r old new names k None ds e p = fields_put r old new (array_fields k None ds) (AreVariantFields names (many_of k None ds)) p refl
 absent_put r old new names k (Some items) ds e p = absurd cc
 
 -- a value that cannot be written
 pub unwritable_put : {E : Type 0} (r : Result (Unit {0}) E) (old new : Written) (names : Bool) (v : VariantData) → variant_encodable v ≡ false
-    → Puts r old new (fields_tokens unwritable_fields) → PutsFields r old new (AreWrittenFields names v)
+    → PutsTokens r old new (fields_tokens unwritable_fields) → PutsFields r old new (AreWrittenFields names v)
 unwritable_put r old new names v e p =
     fields_put r old new unwritable_fields (AreWrittenFields names v) p
     (subst (λ (b : Bool). Either b (AreVariantFields names v unwritable_fields) (unwritable_fields ≡ unwritable_fields)) (sym e) refl)
 
 pub one_put : {E : Type 0} (r : Result (Unit {0}) E) (names : Bool) (s : ScalarData) (a b c d : Written)
-    → Put a b (token.key (codes "type") ∷ token.string (type_name (kind_of s)) ∷ []) → Put b c (token.key (codes "value") ∷ [])
+    → Put a b (token.key (codes "type") ∷ token.string (type_name (kind_of_scalar s)) ∷ []) → Put b c (token.key (codes "value") ∷ [])
     → PutsJson r c d (IsScalarJson names s) → PutsFields r a d (AreVariantFields names (one s))
 one_put (Ok x) names s a b c d first second h =
-    let kind = type_name (kind_of s) in
+    let kind = type_name (kind_of_scalar s) in
     let put = put_then a b d (token.key (codes "type") ∷ token.string kind ∷ []) (token.key (codes "value") ∷ json_tokens h.0) first
     (put_then b c d (token.key (codes "value") ∷ []) (json_tokens h.0) second (h.1, h.2)) in (
       (codes "type", json.string kind) ∷ (codes "value", h.0) ∷ [],
@@ -167,7 +167,7 @@ one_put (Err e) names s a b c d first second h = tt
 
 pub many_put : {E : Type 0} (r : Result (Unit {0}) E) (names : Bool) (k : ℕ) (ss : ScalarsData) (ds : List _) (a b c d e : Written)
     → Put a b (token.key (codes "type") ∷ token.string (type_name k ++ codes "[]") ∷ [])
-    → Put b c (token.key (codes "value") ∷ []) → OneJson c d (IsArrayJson names ss) → Puts r d e (fields_tokens (dimension_fields ds))
+    → Put b c (token.key (codes "value") ∷ []) → OneJson c d (IsArrayJson names ss) → PutsTokens r d e (fields_tokens (dimension_fields ds))
     → PutsFields r a e (AreVariantFields names (many k ss ds))
 many_put (Ok x) names k ss ds a b c d e first second h last =
     let kind = type_name k ++ codes "[]" in

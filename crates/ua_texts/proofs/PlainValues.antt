@@ -2,14 +2,14 @@
 use Rattle.std.proofs.Common.{◌≡◌, ℕ, ℤ, zero, suc, ◌<◌, ◌≤◌, Bool, true, List, [], ◌∷◌, ◌++◌, length, map, get_or, Option, Some}
 use Rattle.std.proofs.Common.{None, Result, Ok, Err, is_ok, if◌then◌else◌, codes, refl, sym, subst, ap, ◌∙◌, arith, append_assoc}
 use Rattle.ua_variant.specs.Data.{ScalarData, VariantData, null, DataValueData, valued, variant}
-use Rattle.ua_variant.specs.Encodable.{kind_of}
+use Rattle.ua_variant.specs.Encodable.{kind_of_scalar}
 use Rattle.ua_variant.specs.Measure.{scalar_count, scalars_count}
 use Rattle.ua_variant.specs.View.{data_fields_of, data_value_of, many_of, row, scalar_of, value_within, variant_of}
 use Rattle.ua_variant.specs.declared.values.DataValue.{DataValue}
 use Rattle.ua_variant.specs.declared.values.Scalar.{Scalar}
 use Rattle.ua_variant.specs.declared.values.Variant.{Variant}
 use Rattle.ua_variant.specs.declared.values.Variant.TheVariants.{Many, One}
-use Rattle.ua_texts.specs.Plain.{IsPlainDataValue, IsPlainFields, IsPlainItems, IsPlainScalar, IsPlainTyped, array_type}
+use Rattle.ua_texts.specs.Plain.{IsPlainDataValue, IsPlainFields, IsPlainItems, IsPlainScalar, IsPlainTyped, array_type_text}
 use Rattle.ua_texts.specs.PlainLeaf.{Adds}
 use Rattle.ua_texts.specs.Values.{type_name}
 use Rattle.ua_texts.proofs.PlainAdds.{adds_as, adds_behind, adds_if}
@@ -17,10 +17,10 @@ use Rattle.ua_texts.proofs.PlainAdds.{adds_as, adds_behind, adds_if}
 -- ---- a scalar behind its type
 
 pub one_added : {E : Type 0} (r : Result (Unit {0}) E) (names within : Bool) (value : Variant) (s : Scalar) (old first mid new : List ℕ) → value ≡ One s
-    → first ≡ old ++ type_name (kind_of (scalar_of s)) → mid ≡ first ++ codes " " → Adds r mid new (IsPlainScalar names within (scalar_of s))
+    → first ≡ old ++ type_name (kind_of_scalar (scalar_of s)) → mid ≡ first ++ codes " " → Adds r mid new (IsPlainScalar names within (scalar_of s))
     → Adds r old new (IsPlainTyped names within (variant_of value))
 one_added r names within value s old first mid new is e f h =
-    let kind = type_name (kind_of (scalar_of s)) in
+    let kind = type_name (kind_of_scalar (scalar_of s)) in
     let front : mid ≡ old ++ (kind ++ codes " ") = f ∙ ap (λ (t : List ℕ). t ++ codes " ") e ∙ append_assoc old kind (codes " ") in
     adds_behind r old mid new (kind ++ codes " ") (IsPlainScalar names within (scalar_of s)) (IsPlainTyped names within (variant_of value)) front
     (λ text k. subst (λ (v : Variant). IsPlainTyped names within (variant_of v) ((kind ++ codes " ") ++ text)) (sym is)
@@ -43,10 +43,10 @@ many_added r names within value k items ds old new is h =
 
 pub items_added : {E : Type 0} (r : Result (Unit {0}) E) (names : Bool) (k : ℕ) (items : Option (List ScalarData)) (ss : List ScalarData) (ds : List ℤ)
     (old first mid new : List ℕ) → items ≡ Some ss
-    → first ≡ old ++ array_type k ds → mid ≡ first ++ codes " " → Adds r mid new (IsPlainItems names ss)
+    → first ≡ old ++ array_type_text k ds → mid ≡ first ++ codes " " → Adds r mid new (IsPlainItems names ss)
     → Adds r old new (IsPlainTyped names true (many_of k items ds))
 items_added r names k items ss ds old first mid new is e f h =
-    let kind = array_type k ds in
+    let kind = array_type_text k ds in
     let front : mid ≡ old ++ (kind ++ codes " ") = f ∙ ap (λ (t : List ℕ). t ++ codes " ") e ∙ append_assoc old kind (codes " ") in
     adds_behind r old mid new (kind ++ codes " ") (IsPlainItems names ss) (IsPlainTyped names true (many_of k items ds)) front
     (λ text j. subst (λ (o : Option (List ScalarData)). IsPlainTyped names true (many_of k o ds) ((kind ++ codes " ") ++ text)) (sym is)
@@ -54,11 +54,11 @@ items_added r names k items ss ds old first mid new is e f h =
 
 pub absent_added : {E : Type 0} (r : Result (Unit {0}) E) (names : Bool) (k : ℕ) (items : Option (List ScalarData)) (ds : List ℤ) (old mid new : List ℕ)
     → items ≡ None
-    → mid ≡ old ++ array_type k ds → new ≡ (if is_ok r then mid ++ codes " null" else mid) → Adds r old new (IsPlainTyped names true (many_of k items ds))
+    → mid ≡ old ++ array_type_text k ds → new ≡ (if is_ok r then mid ++ codes " null" else mid) → Adds r old new (IsPlainTyped names true (many_of k items ds))
 absent_added r names k items ds old mid new is e f =
-    adds_behind r old mid new (array_type k ds) (λ t. t ≡ codes " null") (IsPlainTyped names true (many_of k items ds)) e
-    (λ text j. subst (λ (o : Option (List ScalarData)). IsPlainTyped names true (many_of k o ds) (array_type k ds ++ text)) (sym is)
-    (ap (λ (t : List ℕ). array_type k ds ++ t) j))
+    adds_behind r old mid new (array_type_text k ds) (λ t. t ≡ codes " null") (IsPlainTyped names true (many_of k items ds)) e
+    (λ text j. subst (λ (o : Option (List ScalarData)). IsPlainTyped names true (many_of k o ds) (array_type_text k ds ++ text)) (sym is)
+    (ap (λ (t : List ℕ). array_type_text k ds ++ t) j))
     (adds_if r mid new (codes " null") (λ t. t ≡ codes " null") f refl)
 
 -- an element counts no more than the row

@@ -8,7 +8,7 @@ use Rattle.std.proofs.lemmas.Slice.Zip.{all_zipped_more}
 use Rattle.ua_nodes.proofs.Files.{IsPiece, length_first, lines_at, lines_more, one_line, read_append, read_cons, read_from, skip_cons}
 use Rattle.ua_nodes.proofs.Pieces.{pieces}
 use Rattle.ua_nodes.specs.NodeFile.{FileLine, fields, is_read, lines_of, node_lines}
-use Rattle.ua_texts.specs.Script.{Asks, AsksFor, AsksNothing, GivesStep, IsFirstBad, IsLineOf, Refuses}
+use Rattle.ua_texts.specs.Script.{AsksForStep, AsksFor, AsksNothing, GivesStep, IsFirstBadScriptLine, IsLineOf, RefusesScriptLines}
 use Rattle.ua_texts.specs.ScriptLineFault.{script_fault}
 use Rattle.ua_texts.specs.declared.fault.ScriptLineFault.{ScriptLineFault}
 use Rattle.ua_texts.specs.declared.fault.ScriptLineFault.TheVariants.{Bad, NoMemory}
@@ -20,7 +20,7 @@ numbered_step n step = record { number = n; step = step }
 
 -- a line that is read, behind those before
 step_more : (xs : List (List ℕ)) (x : List ℕ) (steps : List ScriptLine) (n : ℕ) (step : Step) → n ≡ 1 + length xs → is_read x ≡ true
-    → AllZip IsLineOf (read_from 1 xs) steps → Asks (fields x) step
+    → AllZip IsLineOf (read_from 1 xs) steps → AsksForStep (fields x) step
     → AllZip IsLineOf (read_from 1 (xs ++ x ∷ [])) (steps ++ numbered_step n step ∷ [])
 step_more xs x steps n step e read all asks =
     let lines : read_from 1 (xs ++ x ∷ []) ≡ read_from 1 xs ++ one_line (1 + length xs) x ∷ [] =
@@ -50,7 +50,7 @@ number_is : (text : List ℕ) (n : ℕ) (x : List ℕ) → IsPiece text n x → 
 number_is text n x h = let within = h.0 in omega (arith, length_first (pieces 10 text) n (omega arith))
 
 pub turn_step : (text : List ℕ) (n k : ℕ) (x : List ℕ) (steps : List ScriptLine) (step : Step) → n ≡ k → IsPiece text k x
-    → is_read (strip_carriage_return x) ≡ true → StepsOf text n steps → Asks (fields (strip_carriage_return x)) step
+    → is_read (strip_carriage_return x) ≡ true → StepsOf text n steps → AsksForStep (fields (strip_carriage_return x)) step
     → StepsOf text (n + 1) (steps ++ numbered_step (n + 1) step ∷ [])
 turn_step text n k x steps step e h read all asks =
     let here = at_place text n k x e h in
@@ -67,7 +67,7 @@ turn_skip text n k x steps e h skipped all =
 
 pub turn_bad : (text : List ℕ) (n k : ℕ) (x : List ℕ) (steps : List ScriptLine) → n ≡ k → IsPiece text k x → is_read (strip_carriage_return x) ≡ true
     → StepsOf text n steps → AsksNothing (fields (strip_carriage_return x))
-    → IsFirstBad (node_lines text) (n + 1)
+    → IsFirstBadScriptLine (node_lines text) (n + 1)
 turn_bad text n k x steps e h read all nothing =
     let here = at_place text n k x e h in
     let front = take n (lines_of text) in
@@ -89,7 +89,7 @@ turn_bad text n k x steps e h read all nothing =
 
 pub turn_fault : (text : List ℕ) (n k : ℕ) (x : List ℕ) (steps : List ScriptLine) (fault : ScriptLineFault) → n ≡ k → IsPiece text k x
     → is_read (strip_carriage_return x) ≡ true → StepsOf text n steps → GivesStep (fields (strip_carriage_return x)) (Err fault)
-    → Refuses text (script_fault (n + 1) fault)
+    → RefusesScriptLines text (script_fault (n + 1) fault)
 turn_fault text n k x steps Bad e h read all nothing = turn_bad text n k x steps e h read all nothing
 turn_fault text n k x steps NoMemory e h read all nothing = tt
 

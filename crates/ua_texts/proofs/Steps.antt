@@ -9,12 +9,12 @@ use Rattle.ua_builtin.specs.NodeText.{NamesNode}
 use Rattle.ua_builtin.specs.declared.fault.TextFault.{TextFault}
 use Rattle.ua_builtin.specs.declared.fault.TextFault.TheVariants.{NotNodeId, OutOfMemory as NoTextMemory}
 use Rattle.ua_builtin.specs.declared.node_id.NodeId.{NodeId}
-use Rattle.ua_nodes.specs.NodeFile.{is_short, NamesId}
+use Rattle.ua_nodes.specs.NodeFile.{has_short_fields, NamesId}
 use Rattle.ua_nodes.proofs.Pieces.{pieces, at_least_one}
 use Rattle.ua_variant.specs.Data.{VariantData}
 use Rattle.ua_variant.specs.View.{variant_of}
-use Rattle.ua_texts.specs.Script.{AsksNothing, GivesId, GivesStep, GivesValue, AsksRead, AsksWrite, IsCutBehindFirst, range_denoted, range_of, typed_denoted}
-use Rattle.ua_texts.specs.ScriptLineFault.{id_fault}
+use Rattle.ua_texts.specs.Script.{AsksNothing, GivesIdOfScriptField, GivesStep, GivesValue, AsksRead, AsksWrite, IsCutBehindFirst, range_denoted, range_of, typed_denoted}
+use Rattle.ua_texts.specs.ScriptLineFault.{script_id_fault}
 use Rattle.ua_texts.specs.declared.fault.ScriptLineFault.{ScriptLineFault}
 use Rattle.ua_texts.specs.declared.fault.ScriptLineFault.TheVariants.{Bad, NoMemory}
 use Rattle.ua_texts.specs.declared.script.Step.TheVariants.{Read, Write, Renew}
@@ -61,7 +61,7 @@ long_range [] h = absurd (omega arith)
 long_range (x ∷ []) h = absurd (omega arith)
 long_range (x ∷ (y ∷ ys)) h = refl
 
-pub one_range : (behind : List ℕ) (t : Bool) → pieces 9 behind ≡ behind ∷ [] → is_short behind ≡ t
+pub one_range : (behind : List ℕ) (t : Bool) → pieces 9 behind ≡ behind ∷ [] → has_short_fields behind ≡ t
     → range_denoted (pieces 9 behind) ≡ cond t (Some (range_of behind)) None
 one_range behind t e s = ap range_denoted e ∙ ap (λ (b : Bool). cond b (Some (range_of behind)) None) s
 
@@ -137,24 +137,24 @@ cut_behind text (Some x) d e f h = record { rest = pieces 9 x.1.now; parts = h; 
 -- ---- NodeIds and values
 
 pub id_refused : (text : List ℕ) (x : TextFault) → (IsErrOf {T = NodeId} (Err x) NotNodeId → (v : NodeId) → ¬ (NamesNode v text))
-    → GivesId text (Err (id_fault x))
+    → GivesIdOfScriptField text (Err (script_id_fault x))
 id_refused text NotNodeId h = λ id n. h refl id n.1
 id_refused text NoTextMemory h = tt
 
 -- ---- what is answered
 
-pub not_short : (text : List ℕ) → 1073741824 < length text → is_short text ≡ false
+pub not_short : (text : List ℕ) → 1073741824 < length text → has_short_fields text ≡ false
 not_short text h = grind (arith, nat_tests)
 
-pub short_enough : (text : List ℕ) → length text ≤ 1073741824 → is_short text ≡ true
+pub short_enough : (text : List ℕ) → length text ≤ 1073741824 → has_short_fields text ≡ true
 short_enough text h = grind (arith, nat_tests)
 
-pub read_refused : (text id behind : List ℕ) (x : ScriptLineFault) → IsCutBehindFirst text id behind → GivesId id (Err x)
+pub read_refused : (text id behind : List ℕ) (x : ScriptLineFault) → IsCutBehindFirst text id behind → GivesIdOfScriptField id (Err x)
     → GivesStep (codes "read" ∷ pieces 9 text) (Err x)
 read_refused text id behind Bad w h = no_id text id behind w h
 read_refused text id behind NoMemory w h = tt
 
-pub write_refused_id : (fields : List (List ℕ)) (id kind text : List ℕ) (x : ScriptLineFault) → fields ≡ id ∷ kind ∷ text ∷ [] → GivesId id (Err x)
+pub write_refused_id : (fields : List (List ℕ)) (id kind text : List ℕ) (x : ScriptLineFault) → fields ≡ id ∷ kind ∷ text ∷ [] → GivesIdOfScriptField id (Err x)
     → GivesStep (codes "write" ∷ fields) (Err x)
 write_refused_id fields id kind text Bad e h = no_write_id fields id kind text e h
 write_refused_id fields id kind text NoMemory e h = tt

@@ -9,8 +9,8 @@ use Rattle.json.specs.Token.{Token}
 use Rattle.json.specs.Token as token
 use Rattle.json.specs.Tree.{items_tokens, json_tokens, members_tokens}
 use Rattle.json.specs.Written.{Writes, Written}
-use Rattle.ua_texts.specs.Json.{Field, array, items_of, json_line, members_of, object}
-use Rattle.ua_texts.specs.Tokens.{Puts, element_tokens, fields_tokens}
+use Rattle.ua_texts.specs.Json.{Field, json_array, json_items, json_line, members_of, object}
+use Rattle.ua_texts.specs.Tokens.{PutsTokens, element_tokens, fields_tokens}
 use Rattle.ua_texts.proofs.Rows.{get_map, take_next}
 use Rattle.ua_variant.specs.Data.{ScalarData}
 
@@ -25,14 +25,14 @@ members_are (field ∷ fields) =
 pub object_is : (fields : List Field) → json_tokens (object fields) ≡ token.begin_object ∷ (fields_tokens fields ++ token.end_object ∷ [])
 object_is fields = ap (λ (t : List Token). token.begin_object ∷ t) (members_are fields)
 
-items_are : {A : Type 0} (f : A → Json) (xs : List A) → items_tokens (items_of (map f xs)) ≡ flat_map (λ x. json_tokens (f x)) xs ++ token.end_array ∷ []
+items_are : {A : Type 0} (f : A → Json) (xs : List A) → items_tokens (json_items (map f xs)) ≡ flat_map (λ x. json_tokens (f x)) xs ++ token.end_array ∷ []
 items_are f [] = refl
 items_are f (x ∷ xs) =
     ap (λ (t : List Token). json_tokens (f x) ++ t) (items_are f xs)
     ∙ sym (append_assoc (json_tokens (f x)) (flat_map (λ y. json_tokens (f y)) xs) (token.end_array ∷ []))
 
 pub array_is : {A : Type 0} (f : A → Json) (xs : List A)
-    → json_tokens (array (map f xs)) ≡ token.begin_array ∷ (flat_map (λ x. json_tokens (f x)) xs ++ token.end_array ∷ [])
+    → json_tokens (json_array (map f xs)) ≡ token.begin_array ∷ (flat_map (λ x. json_tokens (f x)) xs ++ token.end_array ∷ [])
 array_is f xs = ap (λ (t : List Token). token.begin_array ∷ t) (items_are f xs)
 
 pub fields-append : (a b : List Field) → fields_tokens (a ++ b) ≡ fields_tokens a ++ fields_tokens b
@@ -55,31 +55,31 @@ pub put_then : (a b c : Written) (ts us : List Token) → Put a b ts → Put b c
 put_then a b c ts us p q = (q.0 ∙ p.0, q.1 ∙ ap (λ (t : List Token). t ++ us) p.1 ∙ append_assoc a.tokens ts us)
 
 -- one token is put at last
-pub one_last : {E : Type 0} {r : Result (Unit {0}) E} {old new : Written} {t : Token} → Writes r old new t → Puts r old new (t ∷ [])
+pub one_last : {E : Type 0} {r : Result (Unit {0}) E} {old new : Written} {t : Token} → Writes r old new t → PutsTokens r old new (t ∷ [])
 one_last {r = Ok x} w = (w.room.0, w.ok)
 one_last {r = Err e} w = tt
 
-pub then_last : {E : Type 0} (r : Result (Unit {0}) E) (a b c : Written) (ts us : List Token) → Put a b ts → Puts r b c us → Puts r a c (ts ++ us)
+pub then_last : {E : Type 0} (r : Result (Unit {0}) E) (a b c : Written) (ts us : List Token) → Put a b ts → PutsTokens r b c us → PutsTokens r a c (ts ++ us)
 then_last (Ok x) a b c ts us p q = put_then a b c ts us p q
 then_last (Err e) a b c ts us p q = tt
 
 -- the same tokens by another name
-pub puts_as : {E : Type 0} (r : Result (Unit {0}) E) (old new : Written) (ts us : List Token) → ts ≡ us → Puts r old new ts → Puts r old new us
+pub puts_as : {E : Type 0} (r : Result (Unit {0}) E) (old new : Written) (ts us : List Token) → ts ≡ us → PutsTokens r old new ts → PutsTokens r old new us
 puts_as (Ok x) old new ts us is p = (p.0, p.1 ∙ ap (λ (t : List Token). old.tokens ++ t) is)
 puts_as (Err e) old new ts us is p = tt
 
 -- the elements of an array were put, its end last
 pub array_put : {E A : Type 0} (r : Result (Unit {0}) E) (a b c d : Written) (f : A → Json) (xs : List A) → Put a b (token.begin_array ∷ [])
     → Put b c (flat_map (λ x. json_tokens (f x)) xs)
-    → Puts r c d (token.end_array ∷ []) → Puts r a d (json_tokens (array (map f xs)))
+    → PutsTokens r c d (token.end_array ∷ []) → PutsTokens r a d (json_tokens (json_array (map f xs)))
 array_put r a b c d f xs first elements last =
     let ts = flat_map (λ x. json_tokens (f x)) xs in
-    puts_as r a d (token.begin_array ∷ (ts ++ token.end_array ∷ [])) (json_tokens (array (map f xs))) (sym (array_is f xs))
+    puts_as r a d (token.begin_array ∷ (ts ++ token.end_array ∷ [])) (json_tokens (json_array (map f xs))) (sym (array_is f xs))
     (then_last r a b d (token.begin_array ∷ []) (ts ++ token.end_array ∷ []) first (then_last r b c d ts (token.end_array ∷ []) elements last))
 
 -- a member was put, its name first
 pub field_put : {E : Type 0} (r : Result (Unit {0}) E) (a b c : Written) (name : List ℕ) (value : Json) → Put a b (token.key name ∷ [])
-    → Puts r b c (json_tokens value) → Puts r a c (fields_tokens ((name, value) ∷ []))
+    → PutsTokens r b c (json_tokens value) → PutsTokens r a c (fields_tokens ((name, value) ∷ []))
 field_put r a b c name value first p =
     let ts = json_tokens value in
     puts_as r a c (token.key name ∷ ts) (token.key name ∷ (ts ++ [])) (ap (λ (t : List Token). token.key name ∷ t) (sym (append-nil ts)))

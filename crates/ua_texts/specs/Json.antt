@@ -17,7 +17,7 @@ use Rattle.ua_structures.specs.declared.discovery.UserTokenPolicy.{UserTokenPoli
 use Rattle.ua_variant.specs.Data.{LeafData, boolean, sbyte, byte, int16, uint16, int32, uint32, int64, uint64, float, double, string, date_time, guid}
 use Rattle.ua_variant.specs.Data.{byte_string, xml_element, node_id, expanded_node_id, status_code, qualified_name, localized_text, extension_object}
 use Rattle.ua_variant.specs.Data.{reserved, VariantData, null, one, absent, many, ScalarData, leaf, data_value, variant, diagnostic}
-use Rattle.ua_variant.specs.Encodable.{kind_of, variant_encodable}
+use Rattle.ua_variant.specs.Encodable.{kind_of_scalar, variant_encodable}
 use Rattle.ua_variant.specs.View.{row_list}
 use Rattle.ua_variant.specs.declared.values.DataValue.{DataValue}
 use Rattle.ua_texts.specs.Names.{name_of_code, number_of}
@@ -38,15 +38,15 @@ members_of [] = json.no_members
 members_of (field ∷ fields) = json.member field.0 field.1 (members_of fields)
 
 -- the elements of an array
-abbrev pub items_of : List Json → json.Items
-items_of [] = json.no_items
-items_of (item ∷ items) = json.item item (items_of items)
+abbrev pub json_items : List Json → json.Items
+json_items [] = json.no_items
+json_items (item ∷ items) = json.item item (json_items items)
 
 abbrev pub object : List Field → Json
 object fields = json.object (members_of fields)
 
-abbrev pub array : List Json → Json
-array items = json.array (items_of items)
+abbrev pub json_array : List Json → Json
+json_array items = json.array (json_items items)
 
 -- a text, or null
 abbrev pub text_or_null : Option (List ℕ) → Json
@@ -110,12 +110,12 @@ signed_json n = json.number (signed_decimal n)
 
 -- the dimensions of an array, if it has any
 abbrev pub dimension_fields : List ℤ → List Field
-dimension_fields ds = cond (length ds == 0) [] ((codes "dimensions", array (map signed_json ds)) ∷ [])
+dimension_fields ds = cond (length ds == 0) [] ((codes "dimensions", json_array (map signed_json ds)) ∷ [])
 
 -- the elements of an array, or null
 abbrev pub items_json : Option (List ScalarData) → Json
 items_json None = json.null
-items_json (Some items) = array (map scalar_json items)
+items_json (Some items) = json_array (map scalar_json items)
 
 -- the type of the elements of an array followed by `[]`, its elements and its dimensions
 abbrev pub array_fields : ℕ → Option (List ScalarData) → List ℤ → List Field
@@ -123,7 +123,7 @@ array_fields k items ds = (codes "type", json.string (type_name k ++ codes "[]")
 
 -- the type and the value of a scalar
 abbrev pub scalar_fields : ScalarData → List Field
-scalar_fields s = (codes "type", json.string (type_name (kind_of s))) ∷ (codes "value", scalar_json s) ∷ []
+scalar_fields s = (codes "type", json.string (type_name (kind_of_scalar s))) ∷ (codes "value", scalar_json s) ∷ []
 
 -- the type and the value of a Variant; the absent value has the type `Null`
 abbrev pub variant_fields : VariantData → List Field
@@ -176,7 +176,7 @@ policy_json p = object ((codes "id", text_or_null p.policy_id) ∷ (codes "type"
 -- the token policies of an endpoint, or null
 abbrev pub policies_json : Option (List UserTokenPolicy) → Json
 policies_json None = json.null
-policies_json (Some policies) = array (map policy_json policies)
+policies_json (Some policies) = json_array (map policy_json policies)
 
 -- the token policies, if they are wanted
 abbrev pub policy_fields : Bool → Option (List UserTokenPolicy) → List Field

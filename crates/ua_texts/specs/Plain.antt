@@ -5,7 +5,7 @@ use Rattle.std.specs.List.{flat_map}
 use Rattle.ua_variant.specs.Data.{DataFields, LeafData, float, double, string, date_time, node_id, expanded_node_id, status_code}
 use Rattle.ua_variant.specs.Data.{qualified_name, localized_text, ScalarData, leaf, data_value, variant, diagnostic, ScalarsData}
 use Rattle.ua_variant.specs.Data.{no_scalars, scalar, VariantData, null, one, absent, many, DataValueData, bare, valued}
-use Rattle.ua_variant.specs.Encodable.{kind_of, variant_encodable}
+use Rattle.ua_variant.specs.Encodable.{kind_of_scalar, variant_encodable}
 use Rattle.ua_variant.specs.View.{row}
 use Rattle.ua_texts.specs.PlainDiagnostic.{plain_diagnostic}
 use Rattle.ua_texts.specs.PlainLeaf.{Either, IsPlainDouble, IsPlainFloat, IsPlainMoment, plain_code}
@@ -56,17 +56,17 @@ dimensions_text [] = codes "[]"
 dimensions_text (d ∷ ds) = flat_map length_text (d ∷ ds)
 
 -- the type of an array and its dimensions
-abbrev pub array_type : ℕ → List ℤ → List ℕ
-array_type k ds = type_name k ++ dimensions_text ds
+abbrev pub array_type_text : ℕ → List ℤ → List ℕ
+array_type_text k ds = type_name k ++ dimensions_text ds
 
 abbrev mutual
   -- the type and the value: `Int32 7`, `Int32[2][3] 1,2,3,4,5,6`, `Int32[] null`; the absent value
   -- is `Null`
   pub IsPlainTyped : Bool → Bool → VariantData → List ℕ → Type 0
   IsPlainTyped names within null text = text ≡ codes "Null"
-  IsPlainTyped names within (one s) text = (value : List ℕ) × (text ≡ type_name (kind_of s) ++ (codes " " ++ value)) × IsPlainScalar names within s value
-  IsPlainTyped names within (absent k ds) text = text ≡ array_type k ds ++ codes " null"
-  IsPlainTyped names within (many k ss ds) text = (texts : List (List ℕ)) × (text ≡ array_type k ds ++ (codes " " ++ parted texts)) × ArePlain names ss texts
+  IsPlainTyped names within (one s) text = (value : List ℕ) × (text ≡ type_name (kind_of_scalar s) ++ (codes " " ++ value)) × IsPlainScalar names within s value
+  IsPlainTyped names within (absent k ds) text = text ≡ array_type_text k ds ++ codes " null"
+  IsPlainTyped names within (many k ss ds) text = (texts : List (List ℕ)) × (text ≡ array_type_text k ds ++ (codes " " ++ parted texts)) × ArePlain names ss texts
 
   -- a scalar: a Variant with its type in round brackets, a DataValue and a DiagnosticInfo by their
   -- fields in curly ones

@@ -13,9 +13,9 @@ use Rattle.ua_builtin.specs.declared.date_time.DateTime.{DateTime}
 use Rattle.ua_builtin.specs.declared.node_id.NodeId.{NodeId}
 use Rattle.ua_variant.specs.Data.{boolean, sbyte, byte, int16, uint16, int32, uint32, int64, uint64, float, double, string}
 use Rattle.ua_variant.specs.Data.{byte_string, VariantData, null, one, absent, many, ScalarData, leaf, ScalarsData, no_scalars, scalar}
-use Rattle.ua_variant.specs.Encodable.{kind_of, variant_encodable}
+use Rattle.ua_variant.specs.Encodable.{kind_of_scalar, variant_encodable}
 use Rattle.ua_variant.specs.declared.values.DataValue.{DataValue}
-use Rattle.ua_texts.specs.Json.{Field, array, dimension_fields, json_line, object, scalar_json, status_fields, unwritable_fields, variant_fields}
+use Rattle.ua_texts.specs.Json.{Field, json_array, dimension_fields, json_line, object, scalar_json, status_fields, unwritable_fields, variant_fields}
 use Rattle.ua_texts.specs.Names.{number_of}
 use Rattle.ua_texts.specs.Plain.{IsPlainScalar}
 use Rattle.ua_texts.specs.PlainLeaf.{Either, IsPlainDouble, IsPlainFloat, IsPlainMoment}
@@ -64,13 +64,13 @@ AreJson names (scalar s ss) (j ∷ js) = IsScalarJson names s j × AreJson names
 
 -- a list of such elements
 abbrev pub IsArrayJson : Bool → ScalarsData → Json → Type 0
-IsArrayJson names ss j = (items : List Json) × (j ≡ array items) × AreJson names ss items
+IsArrayJson names ss j = (items : List Json) × (j ≡ json_array items) × AreJson names ss items
 
 -- the type and the value of a Variant, its elements in this form; an absent value and a null array
 -- are as in exact JSON
 abbrev pub AreVariantFields : Bool → VariantData → List Field → Type 0
 AreVariantFields names null fields = fields ≡ variant_fields null
-AreVariantFields names (one s) fields = (value : Json) × (fields ≡ (codes "type", json.string (type_name (kind_of s))) ∷ (codes "value", value) ∷ [])
+AreVariantFields names (one s) fields = (value : Json) × (fields ≡ (codes "type", json.string (type_name (kind_of_scalar s))) ∷ (codes "value", value) ∷ [])
     × IsScalarJson names s value
 AreVariantFields names (absent k ds) fields = fields ≡ variant_fields (absent k ds)
 AreVariantFields names (many k ss ds) fields =

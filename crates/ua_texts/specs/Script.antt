@@ -3,7 +3,7 @@ use Rattle.std.specs.Prelude.{◌≡◌, ℕ, cond, List, [], ◌∷◌, ◌++�
 use Rattle.std.specs.List.{AllZip}
 use Rattle.ua_builtin.specs.Exact.{◌>>=◌}
 use Rattle.ua_builtin.specs.declared.node_id.NodeId.{NodeId}
-use Rattle.ua_nodes.specs.NodeFile.{FileLine, node_lines, fields, is_short, NamesId}
+use Rattle.ua_nodes.specs.NodeFile.{FileLine, node_lines, fields, has_short_fields, NamesId}
 use Rattle.ua_nodes.specs.TypeName.{type_denoted}
 use Rattle.ua_nodes.specs.ValueText.{value_denoted}
 use Rattle.ua_variant.specs.Data.{VariantData}
@@ -27,7 +27,7 @@ range_of (c ∷ cs) = Some (c ∷ cs)
 -- the index range in the fields after a NodeId: null if there is none
 abbrev pub range_denoted : List (List ℕ) → Option (Option (List ℕ))
 range_denoted [] = Some None
-range_denoted (text ∷ []) = cond (is_short text) (Some (range_of text)) None
+range_denoted (text ∷ []) = cond (has_short_fields text) (Some (range_of text)) None
 range_denoted (text ∷ (more ∷ rest)) = None
 
 -- the value that a type and a text denote
@@ -52,18 +52,18 @@ pub record AsksWrite (fields : List (List ℕ)) (node : NodeId) (value : Variant
   pub denotes : typed_denoted kind text ≡ Some value
 
 -- what the fields of a line request: a Read, a Write, or with `renew` alone a token renewal
-abbrev pub Asks : List (List ℕ) → Step → Type 0
-Asks fields (Read node range) = AsksRead fields node range
-Asks fields (Write node value) = AsksWrite fields node (variant_of value)
-Asks fields Renew = fields ≡ codes "renew" ∷ []
+abbrev pub AsksForStep : List (List ℕ) → Step → Type 0
+AsksForStep fields (Read node range) = AsksRead fields node range
+AsksForStep fields (Write node value) = AsksWrite fields node (variant_of value)
+AsksForStep fields Renew = fields ≡ codes "renew" ∷ []
 
 -- the fields request nothing
 abbrev pub AsksNothing : List (List ℕ) → Type 0
-AsksNothing fields = (step : Step) → Asks fields step → ⊥
+AsksNothing fields = (step : Step) → AsksForStep fields step → ⊥
 
 -- what was parsed from the fields is what they request, unless an allocation failed
 abbrev pub GivesStep : List (List ℕ) → Result Step ScriptLineFault → Type 0
-GivesStep fields (Ok step) = Asks fields step
+GivesStep fields (Ok step) = AsksForStep fields step
 GivesStep fields (Err Bad) = AsksNothing fields
 GivesStep fields (Err NoMemory) = Unit {0}
 
@@ -74,10 +74,10 @@ pub record IsCutBehindFirst (text first behind : List ℕ) : Type 0 where
   pub part : range_denoted rest ≡ range_denoted (fields behind)
 
 -- what was parsed from a field is the NodeId that it names, unless an allocation failed
-abbrev pub GivesId : List ℕ → Result NodeId ScriptLineFault → Type 0
-GivesId text (Ok id) = NamesId text id
-GivesId text (Err Bad) = (id : NodeId) → NamesId text id → ⊥
-GivesId text (Err NoMemory) = Unit {0}
+abbrev pub GivesIdOfScriptField : List ℕ → Result NodeId ScriptLineFault → Type 0
+GivesIdOfScriptField text (Ok id) = NamesId text id
+GivesIdOfScriptField text (Err Bad) = (id : NodeId) → NamesId text id → ⊥
+GivesIdOfScriptField text (Err NoMemory) = Unit {0}
 
 -- what was parsed from two fields is the value that they denote, unless an allocation failed
 abbrev pub GivesValue : List ℕ → List ℕ → Result Variant ScriptLineFault → Type 0
@@ -89,14 +89,14 @@ GivesValue kind text (Err NoMemory) = Unit {0}
 
 -- a line requests the step that has its number
 abbrev pub IsLineOf : FileLine → ScriptLine → Type 0
-IsLineOf line step = (line.number ≡ step.number) × Asks (fields line.text) step.step
+IsLineOf line step = (line.number ≡ step.number) × AsksForStep (fields line.text) step.step
 
 -- the lines request the steps, each line its own
 abbrev pub AsksFor : List ℕ → List ScriptLine → Type 0
 AsksFor text steps = AllZip IsLineOf (node_lines text) steps
 
 -- the first line that requests nothing
-pub record IsFirstBad (lines : List FileLine) (number : ℕ) : Type 0 where
+pub record IsFirstBadScriptLine (lines : List FileLine) (number : ℕ) : Type 0 where
   pub front : List FileLine
   pub line : List ℕ
   pub back : List FileLine
@@ -106,6 +106,6 @@ pub record IsFirstBad (lines : List FileLine) (number : ℕ) : Type 0 where
   pub bad : AsksNothing (fields line)
 
 -- what a fault tells of a script
-abbrev pub Refuses : List ℕ → ScriptFault → Type 0
-Refuses text (Line number) = IsFirstBad (node_lines text) number
-Refuses text OutOfMemory = Unit {0}
+abbrev pub RefusesScriptLines : List ℕ → ScriptFault → Type 0
+RefusesScriptLines text (Line number) = IsFirstBadScriptLine (node_lines text) number
+RefusesScriptLines text OutOfMemory = Unit {0}

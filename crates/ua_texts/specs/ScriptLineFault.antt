@@ -10,14 +10,14 @@ use Rattle.ua_texts.specs.declared.fault.ScriptLineFault.{ScriptLineFault}
 use Rattle.ua_texts.specs.declared.fault.ScriptLineFault.TheVariants.{Bad, NoMemory}
 
 -- the fault of a line whose NodeId was not parsed: the field names none, or an allocation failed
-abbrev pub id_fault : TextFault → ScriptLineFault
-id_fault NotNodeId = Bad
-id_fault NoTextMemory = NoMemory
+abbrev pub script_id_fault : TextFault → ScriptLineFault
+script_id_fault NotNodeId = Bad
+script_id_fault NoTextMemory = NoMemory
 
 -- the fault of a line whose value was not parsed: the field denotes none, or an allocation failed
-abbrev pub value_fault : ValueFault → ScriptLineFault
-value_fault NotValue = Bad
-value_fault NoValueMemory = NoMemory
+abbrev pub script_value_fault : ValueFault → ScriptLineFault
+script_value_fault NotValue = Bad
+script_value_fault NoValueMemory = NoMemory
 
 -- the fault of a script that results from the fault of its line with this number
 abbrev pub script_fault : ℕ → ScriptLineFault → ScriptFault

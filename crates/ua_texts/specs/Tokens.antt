@@ -17,5 +17,5 @@ abbrev pub element_tokens : ScalarData → List Token
 element_tokens s = json_tokens (scalar_json s)
 
 -- these tokens were put after those that were there
-abbrev pub Puts : {E : Type 0} → Result (Unit {0}) E → Written → Written → List Token → Type 0
-Puts r old new tokens = OnOk r ((new.before ≡ old.before) × (new.tokens ≡ old.tokens ++ tokens))
+abbrev pub PutsTokens : {E : Type 0} → Result (Unit {0}) E → Written → Written → List Token → Type 0
+PutsTokens r old new tokens = OnOk r ((new.before ≡ old.before) × (new.tokens ≡ old.tokens ++ tokens))

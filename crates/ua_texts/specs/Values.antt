@@ -8,7 +8,7 @@ use Rattle.ua_variant.specs.Canonical.{variant_canonical, data_value_canonical}
 use Rattle.ua_variant.specs.Data.{LeafData, boolean, sbyte, byte, int16, uint16, int32, uint32, int64, uint64, float, double, string, date_time, guid}
 use Rattle.ua_variant.specs.Data.{byte_string, xml_element, node_id, expanded_node_id, status_code, qualified_name, localized_text, extension_object}
 use Rattle.ua_variant.specs.Data.{reserved, VariantData, null, one, absent, many, ScalarData, leaf, data_value, variant, diagnostic}
-use Rattle.ua_variant.specs.Encodable.{kind_of, variant_encodable, data_value_encodable, diagnostic_encodable}
+use Rattle.ua_variant.specs.Encodable.{kind_of_scalar, variant_encodable, data_value_encodable, diagnostic_encodable}
 use Rattle.ua_variant.specs.Leaf.{leaf_encodable, leaf_canonical}
 use Rattle.ua_variant.specs.View.{row_list}
 use Rattle.ua_texts.specs.Shown.{shown_string, pattern_text, base64_text, written_text, unwritable}
@@ -123,7 +123,7 @@ array_text k (Some items) = type_name k ++ (codes "[] " ++ items_text items)
 -- are not shown; the absent value is `Null`
 abbrev pub typed_text : VariantData → List ℕ
 typed_text null = codes "Null"
-typed_text (one s) = type_name (kind_of s) ++ (codes " " ++ scalar_text s)
+typed_text (one s) = type_name (kind_of_scalar s) ++ (codes " " ++ scalar_text s)
 typed_text (absent k ds) = array_text k None
 typed_text (many k ss ds) = array_text k (Some (row_list ss))
 

@@ -52,9 +52,9 @@ impl ScriptLineFault {
 
 impl From<TextFault> for ScriptLineFault {
     ghost use Rattle.std.specs.Prelude.{◌≡◌};
-    ghost use Rattle.ua_texts.specs.ScriptLineFault.{id_fault};
+    ghost use Rattle.ua_texts.specs.ScriptLineFault.{script_id_fault};
 
-    ghost from_gives = { λ t e. e ≡ id_fault t };
+    ghost from_gives = { λ t e. e ≡ script_id_fault t };
 
     fn from(fault: TextFault) -> ScriptLineFault {
         match fault {
@@ -66,9 +66,9 @@ impl From<TextFault> for ScriptLineFault {
 
 impl From<ValueFault> for ScriptLineFault {
     ghost use Rattle.std.specs.Prelude.{◌≡◌};
-    ghost use Rattle.ua_texts.specs.ScriptLineFault.{value_fault};
+    ghost use Rattle.ua_texts.specs.ScriptLineFault.{script_value_fault};
 
-    ghost from_gives = { λ v e. e ≡ value_fault v };
+    ghost from_gives = { λ v e. e ≡ script_value_fault v };
 
     fn from(fault: ValueFault) -> ScriptLineFault {
         match fault {

@@ -11,13 +11,13 @@ ghost use Rattle.json.specs.Tree.{json_tokens};
 ghost use Rattle.ua_variant.specs.Data.{leaf, null};
 ghost use Rattle.ua_variant.specs.Packed.{packed_leaves};
 ghost use Rattle.ua_variant.specs.View.{elements_of, scalar_of, variant_of};
-ghost use Rattle.ua_texts.specs.Json.{address_fields, array, array_fields, both_fields, dimension_fields};
+ghost use Rattle.ua_texts.specs.Json.{address_fields, json_array, array_fields, both_fields, dimension_fields};
 ghost use Rattle.ua_texts.specs.Json.{endpoint_json, int64_json, items_json, json_line, name_fields, policies_json};
 ghost use Rattle.ua_texts.specs.Json.{policy_fields, policy_json, read_json, scalar_fields, scalar_json};
 ghost use Rattle.ua_texts.specs.Json.{signed_json, status_fields, text_or_null, time_fields, time_json};
 ghost use Rattle.ua_texts.specs.Json.{uint64_json, value_fields, variant_fields, write_json, written_fields};
 ghost use Rattle.ua_texts.specs.Names.{name_of_code};
-ghost use Rattle.ua_texts.specs.Tokens.{Puts, element_tokens, fields_tokens};
+ghost use Rattle.ua_texts.specs.Tokens.{PutsTokens, element_tokens, fields_tokens};
 ghost use Rattle.ua_texts.specs.Values.{scalar_text, type_name as name_of_type};
 
 use crate::names::code_name;
@@ -121,7 +121,7 @@ fn push_line(out: &mut String, line: Writer) -> Result<(), AllocError>
 
 /// Puts a member that is a text.
 fn put_text(line: &mut Writer, name: &str, text: &str) -> Result<(), AllocError>
-    ensures { Puts result line.old line.new (key name.now ∷ string text.now ∷ []) }
+    ensures { PutsTokens result line.old line.new (key name.now ∷ string text.now ∷ []) }
 {
     line.key(name)?;
     line.string(text)
@@ -129,7 +129,7 @@ fn put_text(line: &mut Writer, name: &str, text: &str) -> Result<(), AllocError>
 
 /// Puts a String, or null.
 fn put_string(line: &mut Writer, text: &UaString) -> Result<(), AllocError>
-    ensures { Puts result line.old line.new (json_tokens (text_or_null text.now)) }
+    ensures { PutsTokens result line.old line.new (json_tokens (text_or_null text.now)) }
 {
     match text.as_str() {
         Some(text) => line.string(text),
@@ -139,7 +139,7 @@ fn put_string(line: &mut Writer, text: &UaString) -> Result<(), AllocError>
 
 /// Puts a ByteString in base64, or null.
 fn put_base64(alloc: Global, line: &mut Writer, octets: &UaBytes) -> Result<(), AllocError>
-    ensures { Puts result line.old line.new (json_tokens (text_or_null (option_map (encode_of standard) octets.now))) }
+    ensures { PutsTokens result line.old line.new (json_tokens (text_or_null (option_map (encode_of standard) octets.now))) }
 {
     match octets.as_octets() {
         Some(octets) => line.string(&STANDARD.encode(alloc, octets)?),
@@ -155,7 +155,7 @@ pub(crate) fn put_status(
     status: StatusCode,
     names: bool,
 ) -> Result<(), AllocError>
-    ensures { Puts result line.old line.new (fields_tokens (status_fields names node.now status.code)) }
+    ensures { PutsTokens result line.old line.new (fields_tokens (status_fields names node.now status.code)) }
 {
     put_text(line, "node", &node.to_text(alloc)?)?;
     let mut code = String::new(alloc);
@@ -166,7 +166,7 @@ pub(crate) fn put_status(
 
 /// Puts the name of a StatusCode, if names are wanted and it has one.
 fn put_name(line: &mut Writer, status: StatusCode, names: bool) -> Result<(), AllocError>
-    ensures { Puts result line.old line.new (fields_tokens (name_fields names (name_of_code status.code))) }
+    ensures { PutsTokens result line.old line.new (fields_tokens (name_fields names (name_of_code status.code))) }
 {
     match code_name(status) {
         Some(name) if names => put_text(line, "name", name),
@@ -180,7 +180,7 @@ fn put_value(
     line: &mut Writer,
     value: &Option<HeldVariant>,
 ) -> Result<(), AllocError>
-    ensures { Puts result line.old line.new (fields_tokens (value_fields value.now)) }
+    ensures { PutsTokens result line.old line.new (fields_tokens (value_fields value.now)) }
 {
     match value {
         Some(value) => put_written(alloc, line, value.get()),
@@ -190,7 +190,7 @@ fn put_value(
 
 /// Puts a value, or `unwritable` if it cannot be encoded.
 fn put_written(alloc: Global, line: &mut Writer, value: &Variant) -> Result<(), AllocError>
-    ensures { Puts result line.old line.new (fields_tokens (written_fields (variant_of value.now))) }
+    ensures { PutsTokens result line.old line.new (fields_tokens (written_fields (variant_of value.now))) }
 {
     if value.writable() {
         put_variant(alloc, line, value)
@@ -200,7 +200,7 @@ fn put_written(alloc: Global, line: &mut Writer, value: &Variant) -> Result<(), 
 }
 
 pub(crate) fn put_unwritable(line: &mut Writer) -> Result<(), AllocError>
-    ensures { Puts result line.old line.new (fields_tokens ((codes "unwritable", boolean true) ∷ [])) }
+    ensures { PutsTokens result line.old line.new (fields_tokens ((codes "unwritable", boolean true) ∷ [])) }
 {
     line.key("unwritable")?;
     line.boolean(true)
@@ -209,7 +209,7 @@ pub(crate) fn put_unwritable(line: &mut Writer) -> Result<(), AllocError>
 /// Puts the type and the value.
 #[tactic(auto, using(crate::proofs::Rows::fields_of))]
 fn put_variant(alloc: Global, line: &mut Writer, value: &Variant) -> Result<(), AllocError>
-    ensures { Puts result line.old line.new (fields_tokens (variant_fields (variant_of value.now))) }
+    ensures { PutsTokens result line.old line.new (fields_tokens (variant_fields (variant_of value.now))) }
 {
     match value {
         Variant::Null => put_null(line),
@@ -220,7 +220,7 @@ fn put_variant(alloc: Global, line: &mut Writer, value: &Variant) -> Result<(), 
 
 /// Puts that there is no value.
 pub(crate) fn put_null(line: &mut Writer) -> Result<(), AllocError>
-    ensures { Puts result line.old line.new (fields_tokens (variant_fields null)) }
+    ensures { PutsTokens result line.old line.new (fields_tokens (variant_fields null)) }
 {
     put_text(line, "type", "Null")?;
     line.key("value")?;
@@ -229,7 +229,7 @@ pub(crate) fn put_null(line: &mut Writer) -> Result<(), AllocError>
 
 /// Puts the type and the value of a scalar.
 fn put_one(alloc: Global, line: &mut Writer, scalar: &Scalar) -> Result<(), AllocError>
-    ensures { Puts result line.old line.new (fields_tokens (scalar_fields (scalar_of scalar.now))) }
+    ensures { PutsTokens result line.old line.new (fields_tokens (scalar_fields (scalar_of scalar.now))) }
 {
     put_type(line, scalar.kind())?;
     line.key("value")?;
@@ -238,7 +238,7 @@ fn put_one(alloc: Global, line: &mut Writer, scalar: &Scalar) -> Result<(), Allo
 
 /// Puts the type of an id.
 pub(crate) fn put_type(line: &mut Writer, kind: u8) -> Result<(), AllocError>
-    ensures { Puts result line.old line.new (key (codes "type") ∷ string (name_of_type kind) ∷ []) }
+    ensures { PutsTokens result line.old line.new (key (codes "type") ∷ string (name_of_type kind) ∷ []) }
 {
     put_text(line, "type", type_name(kind))
 }
@@ -251,7 +251,7 @@ pub(crate) fn put_array(
     items: &Option<Scalars>,
     dims: &Dimensions,
 ) -> Result<(), AllocError>
-    ensures { Puts result line.old line.new (fields_tokens (array_fields kind items.now dims.now)) }
+    ensures { PutsTokens result line.old line.new (fields_tokens (array_fields kind items.now dims.now)) }
 {
     put_array_type(alloc, line, kind)?;
     line.key("value")?;
@@ -261,7 +261,7 @@ pub(crate) fn put_array(
 
 /// Puts the type of an array of the type of an id.
 pub(crate) fn put_array_type(alloc: Global, line: &mut Writer, kind: u8) -> Result<(), AllocError>
-    ensures { Puts result line.old line.new (key (codes "type") ∷ string (name_of_type kind ++ codes "[]") ∷ []) }
+    ensures { PutsTokens result line.old line.new (key (codes "type") ∷ string (name_of_type kind ++ codes "[]") ∷ []) }
 {
     let mut name = String::from_str(alloc, type_name(kind))?;
     name.push_str("[]")?;
@@ -270,7 +270,7 @@ pub(crate) fn put_array_type(alloc: Global, line: &mut Writer, kind: u8) -> Resu
 
 /// Puts the elements of an array, or null.
 fn put_items(alloc: Global, line: &mut Writer, items: &Option<Scalars>) -> Result<(), AllocError>
-    ensures { Puts result line.old line.new (json_tokens (items_json items.now)) }
+    ensures { PutsTokens result line.old line.new (json_tokens (items_json items.now)) }
 {
     match items {
         Some(items) => put_list(alloc, line, items.elements()),
@@ -280,7 +280,7 @@ fn put_items(alloc: Global, line: &mut Writer, items: &Option<Scalars>) -> Resul
 
 /// Puts the elements of an array.
 fn put_list(alloc: Global, line: &mut Writer, elements: &Elements) -> Result<(), AllocError>
-    ensures { Puts result line.old line.new (json_tokens (array (map scalar_json (elements_of elements.now)))) }
+    ensures { PutsTokens result line.old line.new (json_tokens (json_array (map scalar_json (elements_of elements.now)))) }
 {
     line.begin_array()?;
     put_elements(alloc, line, elements)?;
@@ -289,7 +289,7 @@ fn put_list(alloc: Global, line: &mut Writer, elements: &Elements) -> Result<(),
 
 /// Puts the elements of an array, each a value.
 fn put_elements(alloc: Global, line: &mut Writer, elements: &Elements) -> Result<(), AllocError>
-    ensures { Puts result line.old line.new (flat_map element_tokens (elements_of elements.now)) }
+    ensures { PutsTokens result line.old line.new (flat_map element_tokens (elements_of elements.now)) }
 {
     match elements {
         Elements::Packed(packed) => put_packed(alloc, line, packed),
@@ -298,7 +298,7 @@ fn put_elements(alloc: Global, line: &mut Writer, elements: &Elements) -> Result
 }
 
 fn put_packed(alloc: Global, line: &mut Writer, packed: &Packed) -> Result<(), AllocError>
-    ensures { Puts result line.old line.new (flat_map element_tokens (map leaf (packed_leaves packed.now))) }
+    ensures { PutsTokens result line.old line.new (flat_map element_tokens (map leaf (packed_leaves packed.now))) }
 {
     for index in 0..packed.len() {
         let Some(scalar) = packed.get(index) else {
@@ -310,7 +310,7 @@ fn put_packed(alloc: Global, line: &mut Writer, packed: &Packed) -> Result<(), A
 }
 
 fn put_scalars(alloc: Global, line: &mut Writer, scalars: &[Scalar]) -> Result<(), AllocError>
-    ensures { Puts result line.old line.new (flat_map element_tokens (map scalar_of scalars.now)) }
+    ensures { PutsTokens result line.old line.new (flat_map element_tokens (map scalar_of scalars.now)) }
 {
     for scalar in scalars {
         put_scalar(alloc, line, scalar)?;
@@ -320,7 +320,7 @@ fn put_scalars(alloc: Global, line: &mut Writer, scalars: &[Scalar]) -> Result<(
 
 /// Puts the dimensions of an array, if it has any.
 pub(crate) fn put_dimensions(line: &mut Writer, dims: &Dimensions) -> Result<(), AllocError>
-    ensures { Puts result line.old line.new (fields_tokens (dimension_fields dims.now)) }
+    ensures { PutsTokens result line.old line.new (fields_tokens (dimension_fields dims.now)) }
 {
     let dims = dims.as_slice();
     if dims.is_empty() {
@@ -331,15 +331,15 @@ pub(crate) fn put_dimensions(line: &mut Writer, dims: &Dimensions) -> Result<(),
 }
 
 fn put_each_dimension(line: &mut Writer, dims: &[i32]) -> Result<(), AllocError>
-    ensures { Puts result line.old line.new
-        (fields_tokens ((codes "dimensions", array (map signed_json dims.now)) ∷ [])) }
+    ensures { PutsTokens result line.old line.new
+        (fields_tokens ((codes "dimensions", json_array (map signed_json dims.now)) ∷ [])) }
 {
     line.key("dimensions")?;
     put_size_list(line, dims)
 }
 
 fn put_size_list(line: &mut Writer, dims: &[i32]) -> Result<(), AllocError>
-    ensures { Puts result line.old line.new (json_tokens (array (map signed_json dims.now))) }
+    ensures { PutsTokens result line.old line.new (json_tokens (json_array (map signed_json dims.now))) }
 {
     line.begin_array()?;
     put_sizes(line, dims)?;
@@ -347,7 +347,7 @@ fn put_size_list(line: &mut Writer, dims: &[i32]) -> Result<(), AllocError>
 }
 
 fn put_sizes(line: &mut Writer, dims: &[i32]) -> Result<(), AllocError>
-    ensures { Puts result line.old line.new (flat_map (λ n. json_tokens (signed_json n)) dims.now) }
+    ensures { PutsTokens result line.old line.new (flat_map (λ n. json_tokens (signed_json n)) dims.now) }
 {
     for dim in dims {
         line.i64(i64::from(*dim))?;
@@ -361,7 +361,7 @@ pub(crate) fn put_scalar(
     line: &mut Writer,
     scalar: &Scalar,
 ) -> Result<(), AllocError>
-    ensures { Puts result line.old line.new (json_tokens (scalar_json (scalar_of scalar.now))) }
+    ensures { PutsTokens result line.old line.new (json_tokens (scalar_json (scalar_of scalar.now))) }
 {
     match scalar {
         Scalar::Boolean(value) => line.boolean(*value),
@@ -381,7 +381,7 @@ pub(crate) fn put_scalar(
 
 /// Puts an Int64: a number where its magnitude is at most 2^53, else a string.
 fn put_int64(line: &mut Writer, value: i64) -> Result<(), AllocError>
-    ensures { Puts result line.old line.new (json_tokens (int64_json value)) }
+    ensures { PutsTokens result line.old line.new (json_tokens (int64_json value)) }
 {
     if value.unsigned_abs() <= MOST_EXACT {
         line.i64(value)
@@ -392,7 +392,7 @@ fn put_int64(line: &mut Writer, value: i64) -> Result<(), AllocError>
 
 /// Puts a UInt64: a number where it is at most 2^53, else a string.
 fn put_uint64(line: &mut Writer, value: u64) -> Result<(), AllocError>
-    ensures { Puts result line.old line.new (json_tokens (uint64_json value)) }
+    ensures { PutsTokens result line.old line.new (json_tokens (uint64_json value)) }
 {
     if value <= MOST_EXACT {
         line.u64(value)
@@ -403,7 +403,7 @@ fn put_uint64(line: &mut Writer, value: u64) -> Result<(), AllocError>
 
 /// Puts the text of a value, as lines that are not JSON have it.
 fn put_scalar_text(alloc: Global, line: &mut Writer, scalar: &Scalar) -> Result<(), AllocError>
-    ensures { Puts result line.old line.new (string (scalar_text (scalar_of scalar.now)) ∷ []) }
+    ensures { PutsTokens result line.old line.new (string (scalar_text (scalar_of scalar.now)) ∷ []) }
 {
     let mut text = String::new(alloc);
     push_scalar(alloc, &mut text, scalar)?;
@@ -412,7 +412,7 @@ fn put_scalar_text(alloc: Global, line: &mut Writer, scalar: &Scalar) -> Result<
 
 /// Puts the timestamps of an answer, if they are wanted.
 fn put_times(line: &mut Writer, answer: &DataValue, times: bool) -> Result<(), AllocError>
-    ensures { Puts result line.old line.new (fields_tokens (time_fields times answer.now)) }
+    ensures { PutsTokens result line.old line.new (fields_tokens (time_fields times answer.now)) }
 {
     if times {
         put_both(line, answer)
@@ -423,7 +423,7 @@ fn put_times(line: &mut Writer, answer: &DataValue, times: bool) -> Result<(), A
 
 /// Puts the timestamps of an answer.
 fn put_both(line: &mut Writer, answer: &DataValue) -> Result<(), AllocError>
-    ensures { Puts result line.old line.new (fields_tokens (both_fields answer.now)) }
+    ensures { PutsTokens result line.old line.new (fields_tokens (both_fields answer.now)) }
 {
     put_time_as(line, "source", answer.source_timestamp)?;
     put_time_as(line, "server", answer.server_timestamp)
@@ -431,7 +431,7 @@ fn put_both(line: &mut Writer, answer: &DataValue) -> Result<(), AllocError>
 
 /// Puts a member that is a timestamp.
 fn put_time_as(line: &mut Writer, name: &str, moment: Option<DateTime>) -> Result<(), AllocError>
-    ensures { Puts result line.old line.new (key name.now ∷ json_tokens (time_json moment)) }
+    ensures { PutsTokens result line.old line.new (key name.now ∷ json_tokens (time_json moment)) }
 {
     line.key(name)?;
     put_time(line, moment)
@@ -439,7 +439,7 @@ fn put_time_as(line: &mut Writer, name: &str, moment: Option<DateTime>) -> Resul
 
 /// Puts the ticks of a timestamp, or null.
 fn put_time(line: &mut Writer, moment: Option<DateTime>) -> Result<(), AllocError>
-    ensures { Puts result line.old line.new (json_tokens (time_json moment)) }
+    ensures { PutsTokens result line.old line.new (json_tokens (time_json moment)) }
 {
     match moment {
         Some(moment) => line.quoted_i64(moment.ticks),
@@ -449,7 +449,7 @@ fn put_time(line: &mut Writer, moment: Option<DateTime>) -> Result<(), AllocErro
 
 /// Puts the address of a server, and its security.
 fn put_address(line: &mut Writer, endpoint: &EndpointDescription) -> Result<(), AllocError>
-    ensures { Puts result line.old line.new (fields_tokens (address_fields endpoint.now)) }
+    ensures { PutsTokens result line.old line.new (fields_tokens (address_fields endpoint.now)) }
 {
     put_string_as(line, "url", &endpoint.endpoint_url)?;
     put_signed_as(line, "mode", endpoint.security_mode)?;
@@ -458,7 +458,7 @@ fn put_address(line: &mut Writer, endpoint: &EndpointDescription) -> Result<(), 
 
 /// Puts a member that is a String, or null.
 fn put_string_as(line: &mut Writer, name: &str, text: &UaString) -> Result<(), AllocError>
-    ensures { Puts result line.old line.new (key name.now ∷ json_tokens (text_or_null text.now)) }
+    ensures { PutsTokens result line.old line.new (key name.now ∷ json_tokens (text_or_null text.now)) }
 {
     line.key(name)?;
     put_string(line, text)
@@ -466,7 +466,7 @@ fn put_string_as(line: &mut Writer, name: &str, text: &UaString) -> Result<(), A
 
 /// Puts a member that is a signed number.
 fn put_signed_as(line: &mut Writer, name: &str, number: i32) -> Result<(), AllocError>
-    ensures { Puts result line.old line.new (key name.now ∷ json_tokens (signed_json number)) }
+    ensures { PutsTokens result line.old line.new (key name.now ∷ json_tokens (signed_json number)) }
 {
     line.key(name)?;
     line.i64(i64::from(number))
@@ -478,7 +478,7 @@ fn put_policies(
     policies: &UaArray<UserTokenPolicy>,
     wanted: bool,
 ) -> Result<(), AllocError>
-    ensures { Puts result line.old line.new (fields_tokens (policy_fields wanted policies.now)) }
+    ensures { PutsTokens result line.old line.new (fields_tokens (policy_fields wanted policies.now)) }
 {
     if wanted {
         put_policy_field(line, policies)
@@ -491,7 +491,7 @@ fn put_policy_field(
     line: &mut Writer,
     policies: &UaArray<UserTokenPolicy>,
 ) -> Result<(), AllocError>
-    ensures { Puts result line.old line.new (fields_tokens ((codes "policies", policies_json policies.now) ∷ [])) }
+    ensures { PutsTokens result line.old line.new (fields_tokens ((codes "policies", policies_json policies.now) ∷ [])) }
 {
     line.key("policies")?;
     put_policy_list(line, policies)
@@ -499,7 +499,7 @@ fn put_policy_field(
 
 /// Puts token policies, or null.
 fn put_policy_list(line: &mut Writer, policies: &UaArray<UserTokenPolicy>) -> Result<(), AllocError>
-    ensures { Puts result line.old line.new (json_tokens (policies_json policies.now)) }
+    ensures { PutsTokens result line.old line.new (json_tokens (policies_json policies.now)) }
 {
     match policies.as_items() {
         Some(policies) => put_policy_array(line, policies),
@@ -508,7 +508,7 @@ fn put_policy_list(line: &mut Writer, policies: &UaArray<UserTokenPolicy>) -> Re
 }
 
 fn put_policy_array(line: &mut Writer, policies: &[UserTokenPolicy]) -> Result<(), AllocError>
-    ensures { Puts result line.old line.new (json_tokens (array (map policy_json policies.now))) }
+    ensures { PutsTokens result line.old line.new (json_tokens (json_array (map policy_json policies.now))) }
 {
     line.begin_array()?;
     put_each_policy(line, policies)?;
@@ -516,7 +516,7 @@ fn put_policy_array(line: &mut Writer, policies: &[UserTokenPolicy]) -> Result<(
 }
 
 fn put_each_policy(line: &mut Writer, policies: &[UserTokenPolicy]) -> Result<(), AllocError>
-    ensures { Puts result line.old line.new (flat_map (λ p. json_tokens (policy_json p)) policies.now) }
+    ensures { PutsTokens result line.old line.new (flat_map (λ p. json_tokens (policy_json p)) policies.now) }
 {
     for policy in policies {
         put_policy(line, policy)?;
@@ -526,7 +526,7 @@ fn put_each_policy(line: &mut Writer, policies: &[UserTokenPolicy]) -> Result<()
 
 /// Puts a token policy.
 fn put_policy(line: &mut Writer, policy: &UserTokenPolicy) -> Result<(), AllocError>
-    ensures { Puts result line.old line.new (json_tokens (policy_json policy.now)) }
+    ensures { PutsTokens result line.old line.new (json_tokens (policy_json policy.now)) }
 {
     line.begin_object()?;
     put_string_as(line, "id", &policy.policy_id)?;

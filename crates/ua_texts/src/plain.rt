@@ -6,7 +6,7 @@ ghost use Rattle.ua_variant.specs.Data.{leaf, variant};
 ghost use Rattle.ua_variant.specs.Packed.{packed_leaves};
 ghost use Rattle.ua_variant.specs.View.{data_fields_of, data_value_of, many_of, scalar_of, variant_of};
 ghost use Rattle.ua_texts.specs.Plain.{IsLeafOrOctets, IsPlainDataValue, IsPlainFields, IsPlainItems};
-ghost use Rattle.ua_texts.specs.Plain.{IsPlainScalar, IsPlainTyped, IsPlainVariant, array_type, length_text};
+ghost use Rattle.ua_texts.specs.Plain.{IsPlainScalar, IsPlainTyped, IsPlainVariant, array_type_text, length_text};
 ghost use Rattle.ua_texts.specs.PlainLeaf.{Adds};
 ghost use Rattle.ua_texts.specs.Values.{comma_at};
 
@@ -93,7 +93,7 @@ fn push_plain_array(
 /// Appends the type of an array and its dimensions.
 #[inline(never)]
 fn push_array_type(out: &mut String, kind: u8, dims: &Dimensions) -> Result<(), AllocError>
-    ensures { OnOk result (string_bytes out.new ≡ string_bytes out.old ++ array_type kind dims.now) }
+    ensures { OnOk result (string_bytes out.new ≡ string_bytes out.old ++ array_type_text kind dims.now) }
 {
     out.push_str(type_name(kind))?;
     let lengths = dims.as_slice();

@@ -2,7 +2,7 @@
 
 ghost use Rattle.std.specs.Prelude.{◌≡◌, ◌∷◌, [], codes, IfOk, IfErr};
 ghost use Rattle.ua_nodes.specs.NodeFile.{fields};
-ghost use Rattle.ua_texts.specs.Script.{AsksFor, GivesId, GivesStep, GivesValue, IsCutBehindFirst, Refuses, range_of};
+ghost use Rattle.ua_texts.specs.Script.{AsksFor, GivesIdOfScriptField, GivesStep, GivesValue, IsCutBehindFirst, RefusesScriptLines, range_of};
 
 use crate::fault::{ScriptFault, ScriptLineFault};
 use std::alloc::{AllocError, Global};
@@ -34,7 +34,7 @@ pub struct ScriptLine {
 /// `write`, a NodeId, a type and a value; or `renew`; with one tab between fields.
 pub fn parse_script(alloc: Global, text: &str) -> Result<Vec<ScriptLine>, ScriptFault>
     ensures steps { IfOk result (λ steps. AsksFor text.now steps.items) }
-    ensures fault { IfErr result (λ fault. Refuses text.now fault) }
+    ensures fault { IfErr result (λ fault. RefusesScriptLines text.now fault) }
 {
     let mut steps = Vec::new(alloc);
     let mut number = 0;
@@ -119,7 +119,7 @@ fn parse_write(alloc: Global, rest: &str) -> Result<Step, ScriptLineFault>
 
 /// The NodeId that a field names.
 fn parse_node(alloc: Global, text: &str) -> Result<NodeId, ScriptLineFault>
-    ensures { GivesId text.now result }
+    ensures { GivesIdOfScriptField text.now result }
 {
     if text.len() > MOST_OCTETS {
         return Err(ScriptLineFault::Bad);

@@ -8,12 +8,12 @@ use Rattle.ua_wire.specs.Number.{IsNumber}
 use Rattle.ua_wire.proofs.NumbersRead.{exact_number}
 use Rattle.ua_variant.specs.Data.{VariantData, absent, many, ScalarData, ScalarsData, no_scalars, scalar}
 use Rattle.ua_variant.specs.Measure.{scalar_depth, scalars_depth}
-use Rattle.ua_diagnostic.specs.Parts.{Reader, Joins, Nothing, IsCount, IsNegative}
+use Rattle.ua_diagnostic.specs.Parts.{Decoder, Joins, Nothing, IsCount, IsNegative}
 use Rattle.ua_diagnostic.proofs.PartsRead.{exact_then, exact_map, exact_as, exact_if}
 use Rattle.ua_variant.specs.Encodable.{row_length}
 use Rattle.ua_diagnostic.specs.Dimensions.{EncodesDims, is_negative, dims_at, no_dims_at}
 use Rattle.ua_variant.specs.Encoding.{EncodesRow}
-use Rattle.ua_variant.specs.Decoding.{row_at, array_at}
+use Rattle.ua_variant.specs.Decoding.{row_at, variant_array_at}
 use Rattle.ua_variant.proofs.ScalarsRead.{ShallowS}
 use Rattle.ua_diagnostic.proofs.DimensionsRead.{NoDims, exact_no_dims, exact_dims, negative_is, is_negative_at, not_negative, not_negative_at}
 
@@ -53,7 +53,7 @@ none_from n k (scalar s ss) b r = absurd (let l : 1 + row_length ss ≡ 0 = r.0 
 none_to : (n k : ℕ) (y : ScalarsData) (b : List ℕ) → (y ≡ no_scalars) × Nothing b → RowOf n k 0 y b
 none_to n k y b r = subst (λ x. RowOf n k 0 x b) (sym r.0) (refl, r.1, omega arith)
 
-pub exact_row : (n k m : ℕ) (p : Reader ScalarData) → Exact (ShallowS n k) p → Exact (RowOf n k m) (row_at m p)
+pub exact_row : (n k m : ℕ) (p : Decoder ScalarData) → Exact (ShallowS n k) p → Exact (RowOf n k m) (row_at m p)
 exact_row n k zero p e = exact_as (RowOf n k 0) (exact_only no_scalars) (none_to n k) (none_from n k)
 exact_row n k (suc m) p e = exact_as (RowOf n k (suc m)) (exact_then e (λ s. exact_map (λ ss. scalar s ss) (exact_row n k m p e))) (row_to n k m)
     (row_from n k m)
@@ -93,7 +93,7 @@ whole_body_from : (n k : ℕ) (f : Bool) (m : ℕ) → is_negative m ≡ false �
 whole_body_from n k f m h y c (inl r) = let e : is_negative m ≡ true = r.0 in absurd cc
 whole_body_from n k f m h y c (inr r) = r.1
 
-array_body : (n k : ℕ) (f : Bool) (p : Reader ScalarData) → Exact (ShallowS n k) p → (m : ℕ)
+array_body : (n k : ℕ) (f : Bool) (p : Decoder ScalarData) → Exact (ShallowS n k) p → (m : ℕ)
     → Exact (ArrayBody n k f m) (λ octets. cond (is_negative m) (no_dims_at f octets >>= λ ds. Some (absent k ds.0, ds.1))
     (row_at m p octets >>= λ ss. dims_at f m ss.1 >>= λ ds. Some (many k ss.0 ds.0, ds.1)))
 array_body n k f p e m =
@@ -133,6 +133,6 @@ array_from n k f y b (inr r) =
     let g = j.4 in
     (row_length r.0, (j.0, j.1, j.2, j.3.0, inr (not_negative_at (row_length r.0) j.3.1, (r.0, (g.0, g.1, g.2, (refl, g.3, r.3), (r.1, r.2, g.4))))))
 
-pub exact_array : (n k : ℕ) (f : Bool) (p : ℕ → Reader ScalarData) → Exact (ShallowS n k) (p k) → Exact (ArrayOf n k f) (array_at p k f)
-unfolding array_at
+pub exact_array : (n k : ℕ) (f : Bool) (p : ℕ → Decoder ScalarData) → Exact (ShallowS n k) (p k) → Exact (ArrayOf n k f) (variant_array_at p k f)
+unfolding variant_array_at
 exact_array n k f p e = exact_as (ArrayOf n k f) (exact_then (exact_number 4) (λ m. array_body n k f (p k) e m)) (array_to n k f) (array_from n k f)

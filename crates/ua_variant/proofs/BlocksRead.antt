@@ -14,7 +14,7 @@ use Rattle.ua_wire.proofs.Readers.{bind_some, some_is}
 use Rattle.ua_builtin.specs.DateTime.{date_time as date_time_format}
 use Rattle.ua_builtin.specs.Guid.{guid as guid_format}
 use Rattle.ua_builtin.specs.Status.{status_code as status_code_format}
-use Rattle.ua_diagnostic.specs.Parts.{Reader}
+use Rattle.ua_diagnostic.specs.Parts.{Decoder}
 use Rattle.ua_diagnostic.proofs.Extents.{never_some}
 use Rattle.ua_wire.specs.Format.{GivesBy}
 use Rattle.ua_wire.specs.declared.fault.ReadFault.{ReadFault}
@@ -26,7 +26,7 @@ use Rattle.ua_variant.specs.Data.{guid, byte_string, xml_element, node_id, expan
 use Rattle.ua_variant.specs.Data.{extension_object, reserved, ScalarData, leaf, data_value, variant, diagnostic, ScalarsData, no_scalars, scalar}
 use Rattle.ua_variant.specs.Decoding.{row_at, scalar_at, scalars_at, data_value_at, variant_at}
 use Rattle.ua_diagnostic.specs.Diagnostic.{diagnostic_at}
-use Rattle.ua_variant.specs.Encodable.{kind_of, row_length}
+use Rattle.ua_variant.specs.Encodable.{kind_of_scalar, row_length}
 use Rattle.ua_variant.specs.Encoding.{EncodesScalar, EncodesRow}
 use Rattle.ua_variant.specs.Leaf.{EncodesLeaf, holds_values, is_reserved, leaf_at, leaf_kind}
 use Rattle.ua_variant.specs.Least.{least_octets}
@@ -73,7 +73,7 @@ leaf_width (localized_text x) b h p = absurd (let e : false ≡ true = p in cc)
 leaf_width (extension_object x) b h p = absurd (let e : false ≡ true = p in cc)
 leaf_width (reserved k x) b h p = absurd (reserved_apart k h.0 p)
 
-scalar_width : (s : ScalarData) (b : List ℕ) → EncodesScalar s b → is_packed_kind (kind_of s) ≡ true → length b ≡ least_octets (kind_of s)
+scalar_width : (s : ScalarData) (b : List ℕ) → EncodesScalar s b → is_packed_kind (kind_of_scalar s) ≡ true → length b ≡ least_octets (kind_of_scalar s)
 scalar_width (leaf l) b h p = leaf_width l b h p
 scalar_width (data_value d) b h p = absurd (let e : false ≡ true = p in cc)
 scalar_width (variant v) b h p = absurd (let e : false ≡ true = p in cc)
@@ -89,7 +89,7 @@ row_width k (scalar s ss) b p h =
 
 -- ---- the reader of a packed type
 
-abbrev pub leaves_at : ℕ → Reader ScalarData
+abbrev pub leaves_at : ℕ → Decoder ScalarData
 leaves_at k = image_read leaf (leaf_at k)
 
 packed_apart : (k : ℕ) → is_packed_kind k ≡ true → holds_values k ≡ false
@@ -106,7 +106,7 @@ bind_same : {A B : Type 0} (o : Option A) (f g : A → Option B) → ((x : A) �
 bind_same None f g e = refl
 bind_same (Some x) f g e = e x
 
-row_same : (p q : Reader ScalarData) → ((octets : List ℕ) → p octets ≡ q octets) → (n : ℕ) (octets : List ℕ) → row_at n p octets ≡ row_at n q octets
+row_same : (p q : Decoder ScalarData) → ((octets : List ℕ) → p octets ≡ q octets) → (n : ℕ) (octets : List ℕ) → row_at n p octets ≡ row_at n q octets
 row_same p q e zero octets = refl
 row_same p q e (suc n) octets =
     ap (λ r. r >>= λ s. row_at n p s.1 >>= λ ss. Some (scalar s.0 ss.0, ss.1)) (e octets)
@@ -189,26 +189,26 @@ front_none_is a None e = refl
 front_none_is a (Some x) e = absurd cc
 
 -- what stands behind a row of which this much was read
-abbrev on_from : Reader ScalarData → ℕ → ScalarsData × List ℕ → Option (ScalarsData × List ℕ)
+abbrev on_from : Decoder ScalarData → ℕ → ScalarsData × List ℕ → Option (ScalarsData × List ℕ)
 on_from p m x = with_front (row_list x.0) (row_at m p x.1)
 
 -- a value in front of a row
 abbrev in_front : ScalarData → ScalarsData × List ℕ → Option (ScalarsData × List ℕ)
 in_front s x = Some (scalar s x.0, x.1)
 
-on_step : (p : Reader ScalarData) (m : ℕ) (s : ScalarData) (o : Option (ScalarsData × List ℕ))
+on_step : (p : Decoder ScalarData) (m : ℕ) (s : ScalarData) (o : Option (ScalarsData × List ℕ))
     → ((o >>= on_from p m) >>= in_front s) ≡ ((o >>= in_front s) >>= on_from p m)
 on_step p m s None = refl
 on_step p m s (Some x) = front_scalar s (row_list x.0) (row_at m p x.1)
 
-split_step : (p : Reader ScalarData) (n m : ℕ) (o : Option (ScalarData × List ℕ))
+split_step : (p : Decoder ScalarData) (n m : ℕ) (o : Option (ScalarData × List ℕ))
     → ((octets : List ℕ) → row_at (n + m) p octets ≡ (row_at n p octets >>= on_from p m))
     → (o >>= λ s. row_at (n + m) p s.1 >>= in_front s.0) ≡ ((o >>= λ s. row_at n p s.1 >>= in_front s.0) >>= on_from p m)
 split_step p n m None e = refl
 split_step p n m (Some s) e = ap (λ r. r >>= in_front s.0) (e s.1) ∙ on_step p m s.0 (row_at n p s.1)
 
 -- a row in two parts
-row_split : (p : Reader ScalarData) (n m : ℕ) (octets : List ℕ) → row_at (n + m) p octets ≡ (row_at n p octets >>= on_from p m)
+row_split : (p : Decoder ScalarData) (n m : ℕ) (octets : List ℕ) → row_at (n + m) p octets ≡ (row_at n p octets >>= on_from p m)
 row_split p zero m octets = let e : 0 + m ≡ m = omega arith in ap (λ (k : ℕ). row_at k p octets) e ∙ sym (front_nothing (row_at m p octets))
 row_split p (suc n) m octets = let e : suc n + m ≡ suc (n + m) = omega arith in ap (λ (k : ℕ). row_at k p octets) e
     ∙ split_step p n m (p octets) (row_split p n m)
@@ -282,7 +282,7 @@ pub leaves_push : {X : Type 0} (f : X → LeafData) (xs : List X) (x : X) → ma
 leaves_push f xs x = ap (map leaf) (map-append f xs (x ∷ [])) ∙ map-append leaf (map f xs) (f x ∷ [])
 
 -- one more element
-pub leaf_step : {X : Type 0} (f : X → LeafData) (p : Reader ScalarData) (all xs : List X) (x : X) (count counter : ℕ) (old new : List ℕ)
+pub leaf_step : {X : Type 0} (f : X → LeafData) (p : Decoder ScalarData) (all xs : List X) (x : X) (count counter : ℕ) (old new : List ℕ)
     (whole : Option (ScalarsData × List ℕ)) → counter < count → all ≡ xs ++ x ∷ [] → p old ≡ Some (leaf (f x), new)
     → row_behind (map leaf (map f xs)) (count - counter) p old ≡ whole → row_behind (map leaf (map f all)) (count - (counter + 1)) p new ≡ whole
 leaf_step {X} f p all xs x count counter old new whole lt is read so_far =
@@ -290,12 +290,12 @@ leaf_step {X} f p all xs x count counter old new whole lt is read so_far =
     ∙ leaves_push f xs x) read so_far
 
 -- no element where one is owed
-pub leaf_stops : (p : Reader ScalarData) (a : List ScalarData) (count counter : ℕ) (old : List ℕ) (whole : Option (ScalarsData × List ℕ)) → counter < count
+pub leaf_stops : (p : Decoder ScalarData) (a : List ScalarData) (count counter : ℕ) (old : List ℕ) (whole : Option (ScalarsData × List ℕ)) → counter < count
     → p old ≡ None → row_behind a (count - counter) p old ≡ whole → whole ≡ None
 leaf_stops p a count counter old whole lt none so_far = sym so_far ∙ row_stops p a (count - counter) (count - (counter + 1)) old (omega arith) none
 
 -- the last element
-pub leaf_ends : (p : Reader ScalarData) (a : List ScalarData) (rest : ℕ) (old : List ℕ) (whole : Option (ScalarsData × List ℕ)) → rest ≡ 0
+pub leaf_ends : (p : Decoder ScalarData) (a : List ScalarData) (rest : ℕ) (old : List ℕ) (whole : Option (ScalarsData × List ℕ)) → rest ≡ 0
     → row_behind a rest p old ≡ whole → whole ≡ Some (row a, old)
 leaf_ends p a rest old whole none so_far = sym so_far ∙ row_ends p a rest old none
 
@@ -306,7 +306,7 @@ block_within w n h l = Prim.grind (arith, common_steps)
 -- ---- rows of scalars that are not packed
 
 -- no scalar where one is owed
-pub element_stops : {Y : Type 0} (w : Y → ScalarsData) (p : Reader ScalarData) (ss : List Scalar) (count counter : ℕ) (start old new : List ℕ) (e : ReadFault)
+pub element_stops : {Y : Type 0} (w : Y → ScalarsData) (p : Decoder ScalarData) (ss : List Scalar) (count counter : ℕ) (start old new : List ℕ) (e : ReadFault)
     → counter < count → GivesBy scalar_of p old new (Err e)
     → with_front (map scalar_of ss) (row_at (count - counter) p old) ≡ row_at count p start → GivesBy w (row_at count p) start new (Err e)
 element_stops w p ss count counter start old new NoValue lt none so_far = sym so_far

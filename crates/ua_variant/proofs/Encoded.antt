@@ -15,10 +15,10 @@ use Rattle.ua_variant.specs.Leaf.{holds_values}
 use Rattle.ua_variant.proofs.LeavesRead.{leaf_canonical_encodes, leaf_apart}
 use Rattle.ua_variant.specs.Fields.{data_fields, data_flags}
 use Rattle.ua_variant.proofs.FieldFlags.{data_mask, data_mask_low, data_mask_value, data_fields_encodable_as}
-use Rattle.ua_variant.specs.Encodable.{data_fields_encodable, kind_of, is_kind, is_read_kind, is_variant, row_length, variant_fits}
+use Rattle.ua_variant.specs.Encodable.{data_fields_encodable, kind_of_scalar, is_kind, is_read_kind, is_variant, row_length, variant_fits}
 use Rattle.ua_variant.specs.Encodable.{scalar_fits, scalars_fit, data_value_fits, variant_encodable, data_value_encodable}
 use Rattle.ua_diagnostic.proofs.DiagnosticsWritten.{diagnostic_encodes}
-use Rattle.ua_diagnostic.specs.Dimensions.{is_count, dims_encodable, null_count, has_dims, dims_canonical}
+use Rattle.ua_diagnostic.specs.Dimensions.{is_count, dims_encodable, null_count_octets, has_dims, dims_canonical}
 use Rattle.ua_variant.specs.Encoding.{array_octet, EncodesVariant, EncodesScalar, EncodesRow, EncodesDataValue}
 use Rattle.ua_variant.specs.Canonical.{data_fields_canonical, variant_canonical, scalar_canonical, row_canonical, data_value_canonical}
 use Rattle.ua_diagnostic.proofs.DimensionsRead.{eqb_to, count_encodes, null_encodes, dims_encode}
@@ -92,7 +92,7 @@ array_octet_low false k h = omega arith
 
 -- ---- values
 
-not_variant : (s : ScalarData) → IsTrue (not (is_variant s)) → scalar_fits s ≡ true → kind_of s ≡ 24 → ⊥
+not_variant : (s : ScalarData) → IsTrue (not (is_variant s)) → scalar_fits s ≡ true → kind_of_scalar s ≡ 24 → ⊥
 not_variant (leaf l) h fits e =
     let apart : holds_values 24 ≡ false = subst (λ k. holds_values k ≡ false) e (leaf_apart l _ (leaf_canonical_encodes l fits)) in
     let clash : true ≡ false = apart in
@@ -101,7 +101,7 @@ not_variant (data_value d) h fits e = absurd (omega (arith, e))
 not_variant (variant v) h fits e = not_false h
 not_variant (diagnostic d) h fits e = absurd (omega (arith, e))
 
-kind_octet : (s : ScalarData) (b : List ℕ) → EncodesScalar s b → IsOctet (kind_of s) (kind_of s ∷ [])
+kind_octet : (s : ScalarData) (b : List ℕ) → EncodesScalar s b → IsOctet (kind_of_scalar s) (kind_of_scalar s ∷ [])
 kind_octet s b h = let k = kind_within s b h in (omega (arith, k.1), refl)
 
 mutual
@@ -110,17 +110,17 @@ mutual
   variant_encodes (one s) h =
       let w = both_true (not (is_variant s)) (scalar_fits s) h in
       let e = scalar_encodes s w.1 in
-      (not_variant s w.0 w.1, (kind_of s ∷ [], scalar_canonical s, refl, kind_octet s (scalar_canonical s) e, e))
+      (not_variant s w.0 w.1, (kind_of_scalar s ∷ [], scalar_canonical s, refl, kind_octet s (scalar_canonical s) e, e))
   variant_encodes (absent k []) h = (
     kind_read k h,
     refl,
     false,
     (
       array_octet false k ∷ [],
-      null_count,
+      null_count_octets,
       refl,
       (array_octet_low false k (kind_low k h), refl),
-      (null_count, [], sym (append-nil null_count), null_encodes, (refl, refl)),
+      (null_count_octets, [], sym (append-nil null_count_octets), null_encodes, (refl, refl)),
     ),
   )
   variant_encodes (absent k (d ∷ ds)) h = not_false h
@@ -155,9 +155,9 @@ mutual
   pub row_encodes : (k : ℕ) (ss : ScalarsData) → scalars_fit k ss ≡ true → EncodesRow k ss (row_canonical ss)
   row_encodes k no_scalars h = refl
   row_encodes k (scalar s ss) h =
-      let u = both_true (eqb (kind_of s) k && scalar_fits s) (scalars_fit k ss) h in
-      let w = both_true (eqb (kind_of s) k) (scalar_fits s) u.0 in
-      (eqb_to (kind_of s) k w.0, (scalar_canonical s, row_canonical ss, refl, scalar_encodes s w.1, row_encodes k ss u.1))
+      let u = both_true (eqb (kind_of_scalar s) k && scalar_fits s) (scalars_fit k ss) h in
+      let w = both_true (eqb (kind_of_scalar s) k) (scalar_fits s) u.0 in
+      (eqb_to (kind_of_scalar s) k w.0, (scalar_canonical s, row_canonical ss, refl, scalar_encodes s w.1, row_encodes k ss u.1))
 
   pub data_value_encodes : (d : DataValueData) → data_value_fits d ≡ true → EncodesDataValue d (data_value_canonical d)
   data_value_encodes (bare f) h = bare_encodes f h

@@ -3,13 +3,13 @@ use Rattle.std.proofs.Common.{◌≡◌, ◌≢◌, ℕ, ◌+◌, ◌<◌, Bool,
 use Rattle.std.proofs.lemmas.Grind.{common_steps}
 use Rattle.std.proofs.lemmas.List.Recursion.{and_push, and_fails_at, and_at}
 use Rattle.ua_variant.specs.Data.{ScalarData}
-use Rattle.ua_variant.specs.Encodable.{scalars_fit, scalar_fits, kind_of}
+use Rattle.ua_variant.specs.Encodable.{scalars_fit, scalar_fits, kind_of_scalar}
 use Rattle.ua_variant.specs.View.{scalar_of, row}
 use Rattle.ua_variant.specs.declared.values.Scalar.{Scalar}
 use Rattle.ua_variant.proofs.Rows.{seen, seen_next}
 
 abbrev fit : ℕ → ScalarData → Bool
-fit k s = eqb (kind_of s) k && scalar_fits s
+fit k s = eqb (kind_of_scalar s) k && scalar_fits s
 
 pub fit_after : (k : ℕ) (ss : List Scalar) (i : ℕ) (s : Scalar) → i < length ss → s ≡ get_or ss i s
     → scalars_fit k (row (seen (take (i + 1) ss))) ≡ (scalars_fit k (row (seen (take i ss))) && fit k (scalar_of s))
@@ -45,4 +45,4 @@ pub fits_within : (k : ℕ) (ss : List Scalar) (i : ℕ) (s : Scalar) (all : Lis
 fits_within k ss i s all e h is good =
     let here = and_at (λ xs. scalars_fit k (row (map scalar_of xs))) (λ x. fit k (scalar_of x)) refl (λ _ _. refl) ss i s h (ap (λ xs. scalars_fit k (row xs)) e
     ∙ good) in
-    and_second (eqb (kind_of (scalar_of s)) k) (scalar_fits (scalar_of s)) (ap (λ x. fit k (scalar_of x)) is ∙ here)
+    and_second (eqb (kind_of_scalar (scalar_of s)) k) (scalar_fits (scalar_of s)) (ap (λ x. fit k (scalar_of x)) is ∙ here)

@@ -30,7 +30,7 @@ use Rattle.ua_builtin.proofs.NodeIdLawful.{lawful_node_id}
 use Rattle.ua_builtin.proofs.ExpandedNodeIdLawful.{lawful_expanded_node_id}
 use Rattle.ua_builtin.proofs.LocalizedTextLawful.{lawful_localized_text}
 use Rattle.ua_builtin.proofs.ExtensionObjectLawful.{lawful_extension_object}
-use Rattle.ua_diagnostic.specs.Parts.{Reader}
+use Rattle.ua_diagnostic.specs.Parts.{Decoder}
 use Rattle.ua_diagnostic.proofs.PartsLawful.{sound_unwritten}
 use Rattle.ua_variant.specs.Data.{LeafData, boolean, sbyte, byte, int16, uint16, int32, uint32, int64, uint64, float, double, string, date_time, guid}
 use Rattle.ua_variant.specs.Data.{byte_string, xml_element, node_id, expanded_node_id, status_code, qualified_name, localized_text, extension_object, reserved}
@@ -85,7 +85,7 @@ abbrev pub IsLeaf : ℕ → LeafData → List ℕ → Type 0
 IsLeaf k l b = (leaf_kind l ≡ k) × EncodesLeaf l b
 
 -- where the reader finds a value, the octets begin with an encoding of it, and what the reader leaves stands behind
-abbrev pub Sound : {A : Type 0} → (A → List ℕ → Type 0) → Reader A → Type 0
+abbrev pub Sound : {A : Type 0} → (A → List ℕ → Type 0) → Decoder A → Type 0
 Sound {A} p r = (octets : List ℕ) (v : A) (rest : List ℕ) → r octets ≡ Some (v, rest) → Begins p octets v rest
 
 pub sound_if : {A : Type 0} {p : A → List ℕ → Type 0} {r s : List ℕ → Option (A × List ℕ)} (b : Bool) → (b ≡ true → Sound p r) → (b ≡ false → Sound p s)
@@ -109,7 +109,7 @@ leaf_part make f k lawful made octets v rest h =
     let s = (made_exact make f lawful).sound octets v rest h in
     record { front = s.front; parts = s.parts; encoded = leaf_made make f k made v s.front s.encoded }
 
-of_kind : (k j : ℕ) (r : Reader LeafData) → eqb k j ≡ true → Sound (IsLeaf j) r → Sound (IsLeaf k) r
+of_kind : (k j : ℕ) (r : Decoder LeafData) → eqb k j ≡ true → Sound (IsLeaf j) r → Sound (IsLeaf k) r
 of_kind k j r h e = subst (λ i. Sound (IsLeaf i) r) (sym (eqb_is k j h)) e
 
 leaf_sound : (k : ℕ) → Sound (IsLeaf k) (leaf_at k)

@@ -21,7 +21,7 @@ use Rattle.ua_variant.specs.Leaf.{EncodesLeaf, leaf_kind, is_reserved}
 use Rattle.ua_variant.proofs.LeavesRead.{leaf_starts, if_true}
 use Rattle.ua_variant.specs.Least.{least_octets}
 use Rattle.ua_variant.specs.Fields.{data_fields}
-use Rattle.ua_variant.specs.Encodable.{kind_of, row_length}
+use Rattle.ua_variant.specs.Encodable.{kind_of_scalar, row_length}
 use Rattle.ua_variant.specs.Encoding.{EncodesVariant, EncodesScalar, EncodesRow, EncodesDataValue}
 use Rattle.ua_diagnostic.proofs.Lengths.{optional_takes, both_take, octet_takes, diagnostic_takes, dims_take}
 
@@ -108,7 +108,7 @@ leaf_least (extension_object x) b h = extension_object_least x b h
 leaf_least (reserved k x) b h = subst (λ n. n ≤ length b) (sym (if_true (is_reserved k) 4 _ h.0)) (counted_least x b h.1)
 
 -- an element takes the least octets of its type id
-scalar_least : (s : ScalarData) (b : List ℕ) → EncodesScalar s b → least_octets (kind_of s) ≤ length b
+scalar_least : (s : ScalarData) (b : List ℕ) → EncodesScalar s b → least_octets (kind_of_scalar s) ≤ length b
 unfolding least_octets
 scalar_least (leaf l) b h = leaf_least l b h
 scalar_least (data_value (bare f)) b h = let j = h.1 in octet_takes h.0 0 b j.0 j.1 j.2 j.3 (omega arith)

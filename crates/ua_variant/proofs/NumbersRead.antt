@@ -12,7 +12,7 @@ use Rattle.byteorder.specs.Numbers.{little_from-take}
 use Rattle.ua_wire.specs.Exact.{◌>>=◌, image_read}
 use Rattle.ua_wire.specs.Number.{number_at}
 use Rattle.ua_wire.proofs.NumbersRead.{number_at-octets}
-use Rattle.ua_diagnostic.specs.Parts.{Reader}
+use Rattle.ua_diagnostic.specs.Parts.{Decoder}
 use Rattle.ua_variant.specs.Blocks.{before, with_front, row_behind}
 use Rattle.ua_variant.specs.Decoding.{row_at}
 use Rattle.ua_variant.specs.Data.{LeafData, ScalarData, leaf, ScalarsData, no_scalars}
@@ -71,7 +71,7 @@ next_place : (w i : ℕ) → w * i + w ≡ w * (i + 1)
 next_place w i = Prim.grind (arith, common_steps)
 
 -- one more number, as the loop over places meets it
-pub number_step : {X : Type 0} (f : X → LeafData) (p : Reader ScalarData) (whole : Option (ScalarsData × List ℕ)) (w i : ℕ) (octets : List ℕ) (xs : List X)
+pub number_step : {X : Type 0} (f : X → LeafData) (p : Decoder ScalarData) (whole : Option (ScalarsData × List ℕ)) (w i : ℕ) (octets : List ℕ) (xs : List X)
     (x : X) → i < length xs
     → p (drop (w * i) octets) ≡ Some (leaf (f x), drop w (drop (w * i) octets))
     → row_behind (map leaf (map f (take i xs))) (length xs - i) p (drop (w * i) octets) ≡ whole
@@ -87,7 +87,7 @@ no_octets [] h = refl
 no_octets (x ∷ b) h = absurd (omega (arith, h))
 
 -- all numbers, where the loop ends
-pub numbers_end : {X : Type 0} (f : X → LeafData) (p : Reader ScalarData) (whole : Option (ScalarsData × List ℕ)) (w i : ℕ) (octets : List ℕ) (xs : List X)
+pub numbers_end : {X : Type 0} (f : X → LeafData) (p : Decoder ScalarData) (whole : Option (ScalarsData × List ℕ)) (w i : ℕ) (octets : List ℕ) (xs : List X)
     → i ≡ length xs → length octets ≡ length xs * w
     → row_behind (map leaf (map f (take i xs))) (length xs - i) p (drop (w * i) octets) ≡ whole → whole ≡ Some (row (map leaf (map f xs)), [])
 numbers_end {X} f p whole w i octets xs is all so_far =
@@ -150,7 +150,7 @@ numbers_after {X} f old out part i n xs so_far more =
     ∙ row_two (map leaf (map f (take i xs))) (map leaf (map f (take n (drop i xs))))))
 
 -- numbers that were read, behind the elements that there are
-pub numbers_behind : {X : Type 0} (f : X → LeafData) (p : Reader ScalarData) (n : ℕ) (block : List ℕ) (items xs all : List X) → all ≡ items ++ xs
+pub numbers_behind : {X : Type 0} (f : X → LeafData) (p : Decoder ScalarData) (n : ℕ) (block : List ℕ) (items xs all : List X) → all ≡ items ++ xs
     → row_at n p block ≡ Some (row (map leaf (map f xs)), [])
     → row_behind (map leaf (map f items)) n p block ≡ Some (row (map leaf (map f all)), [])
 numbers_behind {X} f p n block items xs all is read =

@@ -12,12 +12,12 @@ use Rattle.ua_diagnostic.specs.Diagnostic.{DiagnosticData}
 use Rattle.ua_variant.specs.Measure.{variant_depth, scalar_depth, data_value_depth}
 use Rattle.ua_variant.specs.View.{value_within}
 use Rattle.ua_builtin.specs.Flags.{has}
-use Rattle.ua_diagnostic.specs.Parts.{Reader, when, Joins, Nothing, IsOctet, Optional, optional_read}
+use Rattle.ua_diagnostic.specs.Parts.{Decoder, when, Joins, Nothing, IsOctet, Optional, optional_read}
 use Rattle.ua_diagnostic.proofs.PartsRead.{exact_octet, exact_then, exact_map, exact_as, exact_when, exact_optional}
 use Rattle.ua_variant.specs.Leaf.{leaf_kind, leaf_at, holds_values}
 use Rattle.ua_variant.proofs.LeavesRead.{exact_leaf, leaf_apart, Sound, sound_if, eqb_is}
 use Rattle.ua_variant.specs.Fields.{data_fields}
-use Rattle.ua_variant.specs.Encodable.{kind_of}
+use Rattle.ua_variant.specs.Encodable.{kind_of_scalar}
 use Rattle.ua_variant.specs.Encoding.{EncodesVariant, EncodesScalar, EncodesDataValue}
 use Rattle.ua_variant.specs.Decoding.{data_value_step, scalar_at}
 use Rattle.ua_diagnostic.proofs.DiagnosticsRead.{Shallow}
@@ -42,7 +42,7 @@ ShallowD n = Within EncodesDataValue data_value_depth n
 
 -- a scalar of the type id k, of the depth n at most
 abbrev pub ShallowS : ℕ → ℕ → ScalarData → List ℕ → Type 0
-ShallowS n k s b = (kind_of s ≡ k) × EncodesScalar s b × (scalar_depth s ≤ n)
+ShallowS n k s b = (kind_of_scalar s ≡ k) × EncodesScalar s b × (scalar_depth s ≤ n)
 
 -- ---- DataValue
 
@@ -51,7 +51,7 @@ abbrev Body : ℕ → ℕ → DataValueData → List ℕ → Type 0
 Body n m y b = IsTrue (leb m 63)
     × ((v : Option VariantData) × Joins (Optional (ShallowV n) (has m 1) v) (λ c. (f : DataFields) × (y ≡ value_within v f) × (data_fields m).encodes f c) b)
 
-body : (n m : ℕ) (r : Reader VariantData) → Exact (ShallowV n) r
+body : (n m : ℕ) (r : Decoder VariantData) → Exact (ShallowV n) r
     → Exact (Body n m)
     (λ octets. when (leb m 63) (optional_read (has m 1) r octets >>= λ v. (data_fields m).decode v.1 >>= λ f. Some (value_within v.0 f.0, f.1)))
 body n m r e =
@@ -104,7 +104,7 @@ data_value_back n (valued v f) b r =
       ),
     )
 
-pub exact_data_value_step : (n : ℕ) (r : Reader VariantData) → Exact (ShallowV n) r → Exact (ShallowD (suc n)) (data_value_step r)
+pub exact_data_value_step : (n : ℕ) (r : Decoder VariantData) → Exact (ShallowV n) r → Exact (ShallowD (suc n)) (data_value_step r)
 unfolding data_value_step
 exact_data_value_step n r e = exact_as (ShallowD (suc n)) (exact_then exact_octet (λ m. body n m r e)) (data_value_to n) (data_value_back n)
 
@@ -123,9 +123,9 @@ if_false : {A : Type 0} (b : Bool) (x y : A) → b ≡ false → cond b x y ≡ 
 if_false true x y h = absurd cc
 if_false false x y h = refl
 
-module _ (n : ℕ) (dv : Reader DataValueData) (v : Reader VariantData) (dg : Reader DiagnosticData)
+module _ (n : ℕ) (dv : Decoder DataValueData) (v : Decoder VariantData) (dg : Decoder DiagnosticData)
     (ed : Exact (ShallowD n) dv) (ev : Exact (ShallowV n) v) (eg : Exact (Shallow n) dg) where
-  at_kind : (k j : ℕ) (r : Reader ScalarData) → k ≡ j → Sound (ShallowS n j) r → Sound (ShallowS n k) r
+  at_kind : (k j : ℕ) (r : Decoder ScalarData) → k ≡ j → Sound (ShallowS n j) r → Sound (ShallowS n k) r
   at_kind k j r h e = subst (λ i. Sound (ShallowS n i) r) (sym h) e
 
   scalar_sound : (k : ℕ) → Sound (ShallowS n k) (scalar_at dv v dg k)
@@ -138,7 +138,7 @@ module _ (n : ℕ) (dv : Reader DataValueData) (v : Reader VariantData) (dg : Re
       (λ h. sound_as (ShallowS n k) leaf (exact_leaf k) (λ x b s. (s.0, s.1, omega arith)))
 
   scalar_complete : (s : ScalarData) (front rest : List ℕ) → EncodesScalar s front → scalar_depth s ≤ n
-      → scalar_at dv v dg (kind_of s) (front ++ rest) ≡ Some (s, rest)
+      → scalar_at dv v dg (kind_of_scalar s) (front ++ rest) ≡ Some (s, rest)
   unfolding scalar_at
   scalar_complete (leaf l) front rest r h =
       if_false (holds_values (leaf_kind l)) _ (leaf_at (leaf_kind l) (front ++ rest) >>= λ x. Some (leaf x.0, x.1)) (leaf_apart l front r)

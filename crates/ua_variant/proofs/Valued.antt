@@ -4,7 +4,7 @@ use Rattle.ua_wire.proofs.Readers.{both_true}
 use Rattle.ua_variant.specs.Canonical.{data_fields_canonical, data_value_canonical}
 use Rattle.ua_variant.specs.Data.{VariantData, DataFields, bare}
 use Rattle.ua_variant.specs.declared.values.DataValue.{DataValue}
-use Rattle.ua_variant.specs.View.{value_within, data_fields_of, data_value_of, no_fields}
+use Rattle.ua_variant.specs.View.{value_within, data_fields_of, data_value_of, no_data_fields}
 use Rattle.ua_variant.specs.Measure.{variant_count, data_value_count}
 use Rattle.ua_variant.specs.Encodable.{variant_fits, data_value_fits, data_fields_encodable}
 use Rattle.ua_variant.specs.Fields.{data_flags, data_fields}
@@ -39,10 +39,10 @@ valued_counts d v is = counts_at d.value (data_fields_of d) v is
 
 -- ---- a DataValue without any field
 
-pub bare_canonical : data_value_canonical (bare no_fields) ≡ 0 ∷ []
+pub bare_canonical : data_value_canonical (bare no_data_fields) ≡ 0 ∷ []
 unfolding data_fields_canonical data_flags data_fields
 bare_canonical = refl
 
-pub bare_fits : data_value_fits (bare no_fields) ≡ true
+pub bare_fits : data_value_fits (bare no_data_fields) ≡ true
 unfolding data_fields_encodable
 bare_fits = refl

@@ -9,10 +9,10 @@ use Rattle.ua_variant.specs.Data.{VariantData, null, one, absent, many, ScalarDa
 use Rattle.ua_variant.specs.Measure.{variant_depth, scalar_depth, scalars_depth}
 use Rattle.ua_builtin.specs.Flags.{has}
 use Rattle.ua_builtin.proofs.FlagBits.{has_bit, flag_has}
-use Rattle.ua_diagnostic.specs.Parts.{Reader, Joins, Nothing, IsOctet}
+use Rattle.ua_diagnostic.specs.Parts.{Decoder, Joins, Nothing, IsOctet}
 use Rattle.ua_diagnostic.proofs.PartsRead.{exact_octet, exact_then, exact_map, exact_as, exact_if, exact_when, exact_none}
 use Rattle.ua_variant.proofs.LeavesRead.{leaf_kind_within, eqb_is}
-use Rattle.ua_variant.specs.Encodable.{kind_of, is_read_kind}
+use Rattle.ua_variant.specs.Encodable.{kind_of_scalar, is_read_kind}
 use Rattle.ua_variant.specs.Encoding.{EncodesVariant, EncodesScalar, array_octet}
 use Rattle.ua_variant.specs.Decoding.{variant_after, variant_step, variant_at, data_value_at, data_value_step, scalar_at, scalars_at}
 use Rattle.ua_diagnostic.proofs.DiagnosticsRead.{exact_diagnostic}
@@ -26,7 +26,7 @@ After n t y b = ShallowV (suc n) y (t ∷ b)
 head_of : (t k : ℕ) (b a c : List ℕ) → t ∷ b ≡ a ++ c → IsOctet k a → (t ≡ k) × (b ≡ c)
 head_of t k b a c e o = let h : t ∷ b ≡ k ∷ c = e ∙ ap (λ (x : List ℕ). x ++ c) o.1 in (cc, cc)
 
-pub kind_within : (s : ScalarData) (b : List ℕ) → EncodesScalar s b → (0 < kind_of s) × (kind_of s < 32)
+pub kind_within : (s : ScalarData) (b : List ℕ) → EncodesScalar s b → (0 < kind_of_scalar s) × (kind_of_scalar s < 32)
 kind_within (leaf l) b r = leaf_kind_within l b r
 kind_within (data_value d) b r = (omega arith, omega arith)
 kind_within (variant v) b r = (omega arith, omega arith)
@@ -42,7 +42,7 @@ null_to n t h y b r = subst (λ x. ShallowV (suc n) x (t ∷ b)) (sym r.0) ((ome
 null_from : (n t : ℕ) → t ≡ 0 → (y : VariantData) (b : List ℕ) → After n t y b → (y ≡ null) × Nothing b
 null_from n t h null b r = let e : t ∷ b ≡ 0 ∷ [] = r.0.1 in (refl, cc)
 null_from n t h (one s) b r =
-    let j = r.0.1 in let e = head_of t (kind_of s) b j.0 j.1 j.2 j.3 in let k = kind_within s j.1 j.4 in absurd (omega (arith, e.0, k.0))
+    let j = r.0.1 in let e = head_of t (kind_of_scalar s) b j.0 j.1 j.2 j.3 in let k = kind_within s j.1 j.4 in absurd (omega (arith, e.0, k.0))
 null_from n t h (absent k ds) b r = let f = r.0.2 in let j = r.0.3 in let e = head_of t (array_octet f k) b j.0 j.1 j.2 j.3 in absurd
     (omega (arith, e.0, octet_high f k))
 null_from n t h (many k ss ds) b r = let f = r.0.1 in let j = r.0.2 in let e = head_of t (array_octet f k) b j.0 j.1 j.2 j.3 in absurd
@@ -59,7 +59,7 @@ one_to n t low y b r =
     let s = r.1.0 in
     let w = r.1.2 in
     let d : scalar_depth s ≤ n = w.2 in
-    let other : kind_of s ≡ 24 → ⊥ = λ e. not_24 t r.0 (sym w.0 ∙ e) in
+    let other : kind_of_scalar s ≡ 24 → ⊥ = λ e. not_24 t r.0 (sym w.0 ∙ e) in
     subst (λ x. ShallowV (suc n) x (t ∷ b)) (sym r.1.1) ((other, (t ∷ [], b, refl, (omega (arith, w.0), ap (λ (x : ℕ). x ∷ []) (sym w.0)), w.1)), omega arith)
 
 one_from : (n t : ℕ) → t < 128 → (t ≡ 0 → ⊥) → (y : VariantData) (b : List ℕ) → After n t y b → IsTrue (not (eqb t 24))
@@ -67,7 +67,7 @@ one_from : (n t : ℕ) → t < 128 → (t ≡ 0 → ⊥) → (y : VariantData) (
 one_from n t h z null b r = absurd (let e : t ∷ b ≡ 0 ∷ [] = r.0.1 in z cc)
 one_from n t h z (one s) b r =
     let j = r.0.1 in
-    let e = head_of t (kind_of s) b j.0 j.1 j.2 j.3 in
+    let e = head_of t (kind_of_scalar s) b j.0 j.1 j.2 j.3 in
     let d : 1 + scalar_depth s ≤ suc n = r.1 in
     (is_not_24 t (λ i. r.0.0 (sym e.0 ∙ i)), (s, refl, (sym e.0, subst (EncodesScalar s) (sym e.1) j.4, omega arith)))
 one_from n t h z (absent k ds) b r = let f = r.0.2 in let j = r.0.3 in let e = head_of t (array_octet f k) b j.0 j.1 j.2 j.3 in absurd
@@ -126,7 +126,7 @@ wanted_at n t f k y b e h r =
 
 array_back : (n t : ℕ) → 128 ≤ t → (y : VariantData) (b : List ℕ) → After n t y b → Wanted n t y b
 array_back n t h null b r = absurd (let e : t ∷ b ≡ 0 ∷ [] = r.0.1 in let z : t ≡ 0 = cc in omega arith)
-array_back n t h (one s) b r = let j = r.0.1 in let e = head_of t (kind_of s) b j.0 j.1 j.2 j.3 in let k =
+array_back n t h (one s) b r = let j = r.0.1 in let e = head_of t (kind_of_scalar s) b j.0 j.1 j.2 j.3 in let k =
     kind_within s j.1 j.4 in absurd (omega (arith, e.0, k.1))
 array_back n t h (absent k ds) b r =
     let f = r.0.2 in
@@ -154,7 +154,7 @@ leb_is t h = Prim.grind (arith, common_steps)
 leb_no : (t : ℕ) → leb 128 t ≡ false → t < 128
 leb_no t h = Prim.grind (arith, common_steps)
 
-exact_after : (n t : ℕ) (p : ℕ → Reader ScalarData) → ((k : ℕ) → Exact (ShallowS n k) (p k)) → Exact (After n t) (variant_after p t)
+exact_after : (n t : ℕ) (p : ℕ → Decoder ScalarData) → ((k : ℕ) → Exact (ShallowS n k) (p k)) → Exact (After n t) (variant_after p t)
 unfolding variant_after
 exact_after n t p e =
     exact_if (eqb t 0) (λ h. exact_as (After n t) (exact_only null) (null_to n t (eqb_is t 0 h)) (null_from n t (eqb_is t 0 h)))
@@ -170,14 +170,14 @@ no_tag k a c e o = absurd (let h : [] ≡ k ∷ c = e ∙ ap (λ (x : List ℕ).
 
 pub no_octets : (y : VariantData) → EncodesVariant y [] → ⊥
 no_octets null r = absurd (let e : [] ≡ 0 ∷ [] = r.1 in cc)
-no_octets (one s) r = let j = r.1 in no_tag (kind_of s) j.0 j.1 j.2 j.3
+no_octets (one s) r = let j = r.1 in no_tag (kind_of_scalar s) j.0 j.1 j.2 j.3
 no_octets (absent k ds) r = let j = r.3 in no_tag (array_octet r.2 k) j.0 j.1 j.2 j.3
 no_octets (many k ss ds) r = let j = r.2 in no_tag (array_octet r.1 k) j.0 j.1 j.2 j.3
 
 -- the first octet
 tag_low : (y : VariantData) (t : ℕ) (b : List ℕ) → EncodesVariant y (t ∷ b) → t < 256
 tag_low null t b r = let e : t ∷ b ≡ 0 ∷ [] = r.1 in let z : t ≡ 0 = cc in omega arith
-tag_low (one s) t b r = let j = r.1 in let e = head_of t (kind_of s) b j.0 j.1 j.2 j.3 in omega (arith, e.0, j.3.0)
+tag_low (one s) t b r = let j = r.1 in let e = head_of t (kind_of_scalar s) b j.0 j.1 j.2 j.3 in omega (arith, e.0, j.3.0)
 tag_low (absent k ds) t b r = let f = r.2 in let j = r.3 in let e = head_of t (array_octet f k) b j.0 j.1 j.2 j.3 in omega (arith, e.0, j.3.0)
 tag_low (many k ss ds) t b r = let f = r.1 in let j = r.2 in let e = head_of t (array_octet f k) b j.0 j.1 j.2 j.3 in omega (arith, e.0, j.3.0)
 
@@ -185,7 +185,7 @@ tagged_from : (n : ℕ) (y : VariantData) (b : List ℕ) → ShallowV (suc n) y 
 tagged_from n y [] r = absurd (no_octets y r.0)
 tagged_from n y (t ∷ b) r = (t, (t ∷ [], b, refl, (tag_low y t b r.0, refl), r))
 
-exact_step : (n : ℕ) (p : ℕ → Reader ScalarData) → ((k : ℕ) → Exact (ShallowS n k) (p k)) → Exact (ShallowV (suc n)) (variant_step p)
+exact_step : (n : ℕ) (p : ℕ → Decoder ScalarData) → ((k : ℕ) → Exact (ShallowS n k) (p k)) → Exact (ShallowV (suc n)) (variant_step p)
 unfolding variant_step
 exact_step n p e = exact_as (ShallowV (suc n)) (exact_then exact_octet (λ t. exact_after n t p e)) (tagged_to n) (tagged_from n)
 

@@ -5,9 +5,9 @@ use Rattle.ua_variant.specs.Data.{DataFields, VariantData, null, one, absent, ma
 use Rattle.ua_variant.specs.Data.{variant, diagnostic, ScalarsData, no_scalars, scalar, DataValueData, bare, valued}
 use Rattle.ua_variant.specs.Leaf.{leaf_canonical}
 use Rattle.ua_variant.specs.Fields.{data_fields, data_flags}
-use Rattle.ua_variant.specs.Encodable.{kind_of, row_length}
+use Rattle.ua_variant.specs.Encodable.{kind_of_scalar, row_length}
 use Rattle.ua_variant.specs.Encoding.{array_octet}
-use Rattle.ua_diagnostic.specs.Dimensions.{null_count, has_dims, dims_canonical}
+use Rattle.ua_diagnostic.specs.Dimensions.{null_count_octets, has_dims, dims_canonical}
 use Rattle.ua_diagnostic.specs.Diagnostic.{diagnostic_canonical}
 
 -- the canonical encoding of the fields of a DataValue except its value, after the mask
@@ -18,8 +18,8 @@ data_fields_canonical f = (data_fields (data_flags f)).canonical f
 abbrev mutual
   pub variant_canonical : VariantData → List ℕ
   variant_canonical null = 0 ∷ []
-  variant_canonical (one s) = kind_of s ∷ scalar_canonical s
-  variant_canonical (absent k ds) = array_octet false k ∷ null_count
+  variant_canonical (one s) = kind_of_scalar s ∷ scalar_canonical s
+  variant_canonical (absent k ds) = array_octet false k ∷ null_count_octets
   variant_canonical (many k ss ds) = array_octet (has_dims ds) k ∷ (number_octets 4 (row_length ss) ++ (row_canonical ss ++ dims_canonical ds))
 
   pub scalar_canonical : ScalarData → List ℕ

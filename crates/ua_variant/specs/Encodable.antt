@@ -15,11 +15,11 @@ use Rattle.ua_diagnostic.specs.Dimensions.{is_count}
 use Rattle.ua_diagnostic.specs.Diagnostic.{diagnostic_fits}
 
 -- the type id
-abbrev pub kind_of : ScalarData → ℕ
-kind_of (leaf l) = leaf_kind l
-kind_of (data_value d) = 23
-kind_of (variant v) = 24
-kind_of (diagnostic d) = 25
+abbrev pub kind_of_scalar : ScalarData → ℕ
+kind_of_scalar (leaf l) = leaf_kind l
+kind_of_scalar (data_value d) = 23
+kind_of_scalar (variant v) = 24
+kind_of_scalar (diagnostic d) = 25
 
 -- the type ids that are encoded
 abbrev pub is_kind : ℕ → Bool
@@ -67,7 +67,7 @@ abbrev mutual
   -- each of the type id
   pub scalars_fit : ℕ → ScalarsData → Bool
   scalars_fit k no_scalars = true
-  scalars_fit k (scalar s ss) = eqb (kind_of s) k && scalar_fits s && scalars_fit k ss
+  scalars_fit k (scalar s ss) = eqb (kind_of_scalar s) k && scalar_fits s && scalars_fit k ss
 
   pub data_value_fits : DataValueData → Bool
   data_value_fits (bare f) = data_fields_encodable f

@@ -11,7 +11,7 @@ use Rattle.ua_diagnostic.specs.Parts.{Joins, Nothing, IsOctet, IsCount, IsNegati
 use Rattle.ua_builtin.specs.Flags.{has, flag_bit}
 use Rattle.ua_variant.specs.Leaf.{EncodesLeaf}
 use Rattle.ua_variant.specs.Fields.{data_fields}
-use Rattle.ua_variant.specs.Encodable.{kind_of, row_length, is_read_kind}
+use Rattle.ua_variant.specs.Encodable.{kind_of_scalar, row_length, is_read_kind}
 
 -- the first byte of an array: 0x80, 0x40 where dimensions follow, and the type id
 abbrev pub array_octet : Bool → ℕ → ℕ
@@ -25,7 +25,7 @@ array_octet f k = 0x80 + flag_bit 0x40 f + k
 abbrev mutual
   pub EncodesVariant : VariantData → List ℕ → Type 0
   EncodesVariant null b = IsOctet 0 b
-  EncodesVariant (one s) b = (kind_of s ≡ 24 → ⊥) × Joins (IsOctet (kind_of s)) (EncodesScalar s) b
+  EncodesVariant (one s) b = (kind_of_scalar s ≡ 24 → ⊥) × Joins (IsOctet (kind_of_scalar s)) (EncodesScalar s) b
   EncodesVariant (absent k ds) b =
       IsTrue (is_read_kind k) × (ds ≡ []) × (f : Bool) × Joins (IsOctet (array_octet f k)) (Joins IsNegative (EncodesDims f 0 [])) b
   EncodesVariant (many k ss ds) b =
@@ -41,7 +41,7 @@ abbrev mutual
   -- values of the type id k, one after the other
   pub EncodesRow : ℕ → ScalarsData → List ℕ → Type 0
   EncodesRow k no_scalars b = Nothing b
-  EncodesRow k (scalar s ss) b = (kind_of s ≡ k) × Joins (EncodesScalar s) (EncodesRow k ss) b
+  EncodesRow k (scalar s ss) b = (kind_of_scalar s ≡ k) × Joins (EncodesScalar s) (EncodesRow k ss) b
 
   -- a mask of at most 0x3F, if 0x01 is set the value, and the other fields that it announces (OPC
   -- 10000-6, 5.2.2.17)

@@ -10,6 +10,6 @@ abbrev pub levels_if : Bool → ℕ → Option ℕ
 levels_if fits depth = when fits (Some (min depth 0xFFFFFFFF))
 
 -- there is a nesting depth, and it is at most that of a value that is encoded
-abbrev pub is_within : Option ℕ → Bool
-is_within None = false
-is_within (Some n) = leb n most_levels
+abbrev pub is_depth_within : Option ℕ → Bool
+is_depth_within None = false
+is_depth_within (Some n) = leb n most_levels

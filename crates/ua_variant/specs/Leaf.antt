@@ -20,7 +20,7 @@ use Rattle.ua_builtin.specs.LocalizedText.{localized_text as localized_text_form
 use Rattle.ua_builtin.specs.ExtensionObject.{extension_object as extension_object_format}
 use Rattle.ua_variant.specs.Data.{LeafData, boolean, sbyte, byte, int16, uint16, int32, uint32, int64, uint64, float, double, string, date_time, guid}
 use Rattle.ua_variant.specs.Data.{byte_string, xml_element, node_id, expanded_node_id, status_code, qualified_name, localized_text, extension_object, reserved}
-use Rattle.ua_diagnostic.specs.Parts.{unwritten, Reader}
+use Rattle.ua_diagnostic.specs.Parts.{unwritten, Decoder}
 
 -- the type id (OPC 10000-6, 5.1.2)
 abbrev pub leaf_kind : LeafData → ℕ
@@ -111,7 +111,7 @@ leaf_canonical l = (leaf_typed l).format.canonical (leaf_typed l).value
 -- ---- reading, by the type id
 
 -- a scalar of the type id k, in the format of its type; nothing if k is not the id of such a scalar
-unfoldable pub leaf_at : ℕ → Reader LeafData
+unfoldable pub leaf_at : ℕ → Decoder LeafData
 leaf_at k octets =
     cond (is_reserved k) (image_read (reserved k) counted.decode octets) (
     cond (eqb k 1) (image_read boolean boolean_format.decode octets) (

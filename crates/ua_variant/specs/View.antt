@@ -98,8 +98,8 @@ KeepsValue None = Unit {0}
 KeepsValue (Some v) = v ≡ null → ⊥
 
 -- no field of a DataValue
-abbrev pub no_fields : DataFields
-no_fields = record {
+abbrev pub no_data_fields : DataFields
+no_data_fields = record {
   status = None;
   source_timestamp = None;
   source_picoseconds = None;
@@ -109,10 +109,10 @@ no_fields = record {
 
 -- a DataValue among Variants: one without any field if nothing is kept of it
 abbrev pub or_bare : Option DataValueData → DataValueData
-or_bare None = bare no_fields
+or_bare None = bare no_data_fields
 or_bare (Some d) = d
 
 -- what is kept of a DataValue among Variants has a field
-abbrev pub KeepsFields : Option DataValueData → Type 0
-KeepsFields None = Unit {0}
-KeepsFields (Some d) = d ≡ bare no_fields → ⊥
+abbrev pub KeepsDataFields : Option DataValueData → Type 0
+KeepsDataFields None = Unit {0}
+KeepsDataFields (Some d) = d ≡ bare no_data_fields → ⊥

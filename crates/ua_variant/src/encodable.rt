@@ -3,8 +3,8 @@
 ghost use Rattle.std.specs.Prelude.{◌≡◌};
 ghost use Rattle.ua_variant.specs.Encodable.{variant_encodable, data_value_encodable, variant_fits};
 ghost use Rattle.ua_variant.specs.Encodable.{scalar_fits, scalars_fit, data_value_fits};
-ghost use Rattle.ua_variant.specs.Encodable.{data_fields_encodable, kind_of, is_kind, row_length};
-ghost use Rattle.ua_variant.specs.Judging.{levels_if, is_within};
+ghost use Rattle.ua_variant.specs.Encodable.{data_fields_encodable, kind_of_scalar, is_kind, row_length};
+ghost use Rattle.ua_variant.specs.Judging.{levels_if, is_depth_within};
 ghost use Rattle.ua_variant.specs.Measure.{variant_depth, scalar_depth, scalars_depth, data_value_depth};
 ghost use Rattle.ua_variant.specs.View.{row, variant_of, scalar_of, data_value_of, data_fields_of};
 
@@ -37,7 +37,7 @@ impl DataValue {
 impl Scalar {
     /// The type id of the scalar (OPC 10000-6, 5.1.2).
     pub fn kind(&self) -> u8
-        ensures { result ≡ kind_of (scalar_of self.now) }
+        ensures { result ≡ kind_of_scalar (scalar_of self.now) }
     {
         match self {
             Scalar::Boolean(_) => 1,
@@ -89,7 +89,7 @@ pub fn element_count(items: &Scalars) -> usize
 /// Whether there are levels, at most those of a value that is written.
 #[inline]
 fn is_within_most(levels: Option<u32>) -> bool
-    ensures { result ≡ is_within levels }
+    ensures { result ≡ is_depth_within levels }
 {
     match levels {
         None => false,

@@ -8,7 +8,7 @@ ghost use Rattle.ua_diagnostic.specs.Parts.{optional_read};
 ghost use Rattle.ua_variant.specs.Formats.{IsOverlongArray, IsOverlongRow};
 ghost use Rattle.ua_variant.specs.Encodable.{is_read_kind as read_kind};
 ghost use Rattle.ua_variant.specs.Decoding.{variant_at, variant_step, variant_after, data_value_at};
-ghost use Rattle.ua_variant.specs.Decoding.{data_value_step, scalars_at, scalar_at, array_at, elements_at};
+ghost use Rattle.ua_variant.specs.Decoding.{data_value_step, scalars_at, scalar_at, variant_array_at, elements_at};
 ghost use Rattle.ua_variant.specs.Decoding.{row_at, fields_behind, dims_behind, no_dims_behind};
 ghost use Rattle.ua_variant.specs.Onto.{announced_at};
 ghost use Rattle.ua_variant.specs.View.{row, variant_of, scalar_of, data_value_of};
@@ -103,7 +103,7 @@ pub fn read_tagged<S: Source>(
 /// Reads an array after its first byte; nothing is allocated where the bytes left cannot hold so
 /// many elements.
 #[cycle(variants)]
-#[tactic(auto, unfolding(crate::specs::Decoding::array_at))]
+#[tactic(auto, unfolding(crate::specs::Decoding::variant_array_at))]
 fn read_array<S: Source>(
     alloc: Global,
     src: &mut S,
@@ -113,7 +113,7 @@ fn read_array<S: Source>(
 ) -> Result<Variant, ReadFault>
     requires levels { depth ≤ most_levels }
     requires read { read_kind kind ≡ true }
-    ensures exact { GivesBy variant_of (array_at (scalars_at depth) kind flagged) (S.octets src.old)
+    ensures exact { GivesBy variant_of (variant_array_at (scalars_at depth) kind flagged) (S.octets src.old)
         (S.octets src.new) result }
     ensures behind { StaysBehind (S.octets src.old) (S.octets src.new) }
     ensures long { IsOverlongRow kind (S.octets src.old) → IsErrOf result NoValue }
@@ -458,7 +458,7 @@ fn box_tagged<S: Source>(
 /// Reads an array of DataValues or Variants to the heap, after its encoding byte.
 #[cycle(variants)]
 #[inline(always)]
-#[tactic(auto, unfolding(crate::specs::Decoding::array_at))]
+#[tactic(auto, unfolding(crate::specs::Decoding::variant_array_at))]
 fn read_boxed_array<S: Source>(
     alloc: Global,
     src: &mut S,
@@ -469,7 +469,7 @@ fn read_boxed_array<S: Source>(
     requires levels { depth ≤ most_levels }
     requires low { 23 ≤ kind }
     requires high { kind ≤ 24 }
-    ensures exact { Gives (array_at (scalars_at depth) kind flagged) (S.octets src.old) (S.octets src.new) result }
+    ensures exact { Gives (variant_array_at (scalars_at depth) kind flagged) (S.octets src.old) (S.octets src.new) result }
     ensures behind { StaysBehind (S.octets src.old) (S.octets src.new) }
 {
     let count = u32::read_value(alloc, src, 0)?;

@@ -9,7 +9,7 @@ ghost use Rattle.ua_wire.specs.declared.fault.ReadFault.TheVariants.{NoValue};
 ghost use Rattle.ua_diagnostic.specs.Parts.{optional_read};
 ghost use Rattle.ua_variant.specs.Data.{leaf};
 ghost use Rattle.ua_variant.specs.Decoding.{variant_at, variant_step, variant_after, data_value_at};
-ghost use Rattle.ua_variant.specs.Decoding.{data_value_step, scalars_at, array_at, elements_at, row_at};
+ghost use Rattle.ua_variant.specs.Decoding.{data_value_step, scalars_at, variant_array_at, elements_at, row_at};
 ghost use Rattle.ua_variant.specs.Encodable.{is_read_kind as read_kind};
 ghost use Rattle.ua_variant.specs.Formats.{IsOverlongArray, IsOverlongRow};
 ghost use Rattle.ua_variant.specs.Leaf.{leaf_at};
@@ -128,7 +128,7 @@ fn skip_tagged<S: Source>(alloc: Global, src: &mut S, depth: u32, tag: u8) -> Re
 
 /// Skips an array after its first byte.
 #[cycle(skips)]
-#[tactic(auto, unfolding(crate::specs::Decoding::array_at))]
+#[tactic(auto, unfolding(crate::specs::Decoding::variant_array_at))]
 fn skip_array<S: Source>(
     alloc: Global,
     src: &mut S,
@@ -138,7 +138,7 @@ fn skip_array<S: Source>(
 ) -> Result<(), ReadFault>
     requires levels { depth ≤ most_levels }
     requires read { read_kind kind ≡ true }
-    ensures exact { Gives (skipped (array_at (scalars_at depth) kind flagged)) (S.octets src.old)
+    ensures exact { Gives (skipped (variant_array_at (scalars_at depth) kind flagged)) (S.octets src.old)
         (S.octets src.new) result }
     ensures behind { StaysBehind (S.octets src.old) (S.octets src.new) }
     ensures long { IsOverlongRow kind (S.octets src.old) → IsErrOf result NoValue }

@@ -3,7 +3,7 @@
 ghost use Rattle.std.specs.Prelude.{◌≡◌, ◌↔◌, None, length, map, option_map, IfOk, IfSome};
 ghost use Rattle.ua_variant.specs.Data.{bare, leaf, null};
 ghost use Rattle.ua_variant.specs.Packed.{packed_leaves};
-ghost use Rattle.ua_variant.specs.View.{data_value_of, elements_of, no_fields, or_bare, or_null, scalar_of, variant_of};
+ghost use Rattle.ua_variant.specs.View.{data_value_of, elements_of, no_data_fields, or_bare, or_null, scalar_of, variant_of};
 
 use crate::boxed::Boxed;
 use crate::packed::{Pack, Packed};
@@ -215,11 +215,11 @@ impl Model for BoxedDataValue {
     ghost coded = { coded_data_value (Prim.hlevel (codes, coded_diagnostic (Prim.hlevel codes))) };
 
     ghost use Rattle.std.specs.Prelude.{option_map};
-    ghost use Rattle.ua_variant.specs.View.{data_value_of, or_bare, KeepsFields};
+    ghost use Rattle.ua_variant.specs.View.{data_value_of, or_bare, KeepsDataFields};
 
     ghost view = { λ a. or_bare (option_map (λ b. data_value_of b.value) a.inner) };
 
-    ghost invariant = { λ a. KeepsFields (option_map (λ b. data_value_of b.value) a.inner) };
+    ghost invariant = { λ a. KeepsDataFields (option_map (λ b. data_value_of b.value) a.inner) };
 
     ghost size = { λ d. 2 * data_value_count d };
 
@@ -289,13 +289,13 @@ impl Model for Scalars {
 
 impl DataValue {
     ghost use Rattle.std.specs.Prelude.{◌≡◌, ◌↔◌, IsTrue};
-    ghost use Rattle.ua_variant.specs.View.{no_fields};
+    ghost use Rattle.ua_variant.specs.View.{no_data_fields};
     ghost use Rattle.ua_variant.specs.Data.{bare};
 
     /// A DataValue without any field.
     #[inline]
     pub fn empty() -> DataValue
-        ensures { data_value_of result ≡ bare no_fields }
+        ensures { data_value_of result ≡ bare no_data_fields }
     {
         DataValue {
             value: None,
@@ -310,7 +310,7 @@ impl DataValue {
     /// Whether no field is present.
     #[inline]
     pub fn is_empty(&self) -> bool
-        ensures { IsTrue result ↔ (data_value_of self.now ≡ bare no_fields) }
+        ensures { IsTrue result ↔ (data_value_of self.now ≡ bare no_data_fields) }
     {
         self.value.is_none()
             && self.status.is_none()
@@ -432,7 +432,7 @@ impl BoxedDataValue {
     /// A DataValue without any field.
     #[inline]
     pub(crate) fn empty() -> BoxedDataValue
-        ensures { result ≡ bare no_fields }
+        ensures { result ≡ bare no_data_fields }
     {
         BoxedDataValue { inner: None }
     }
@@ -454,7 +454,7 @@ impl BoxedDataValue {
     #[inline]
     pub fn get(&self) -> Option<&DataValue>
         ensures value { or_bare (option_map (λ d. data_value_of d.now) result) ≡ self.now }
-        ensures none { result ≡ None ↔ (self.now ≡ bare no_fields) }
+        ensures none { result ≡ None ↔ (self.now ≡ bare no_data_fields) }
     {
         match &self.inner {
             Some(value) => Some(value.as_ref()),

@@ -6,7 +6,7 @@ use Rattle.ua_wire.specs.Exact.{Follows, Joined, Image}
 use Rattle.ua_wire.specs.Number.{IsNumber, number_octets}
 use Rattle.ua_wire.specs.Format.{Flat, TakesSome}
 use Rattle.ua_wire.specs.Least.{TakesLeast}
-use Rattle.ua_wire.specs.Signed.{signed, octets_of}
+use Rattle.ua_wire.specs.Signed.{signed, width_octets}
 use Rattle.ua_wire.specs.FloatBits.{float_bits}
 use Rattle.ua_wire.specs.DoubleBits.{double_bits}
 use Rattle.ua_wire.specs.Counted.{AreOctets, EncodesCounted, counted, text}
@@ -47,8 +47,8 @@ pub chosen_least : {A : Type 0} (n : ℕ) (test : Bool) (f g : Flat A) → Takes
 chosen_least n true f g one other = one
 chosen_least n false f g one other = other
 
-pub signed_least : (w : Width) → TakesLeast (octets_of w) (signed w).encodes
-signed_least w v b h = number_least (octets_of w) h.of b h.encoded
+pub signed_least : (w : Width) → TakesLeast (width_octets w) (signed w).encodes
+signed_least w v b h = number_least (width_octets w) h.of b h.encoded
 
 pub float_bits_least : TakesLeast 4 float_bits.encodes
 unfolding float_bits

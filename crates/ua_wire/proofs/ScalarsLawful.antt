@@ -9,9 +9,9 @@ use mir.Val.{hbits}
 use Rattle.ua_wire.specs.Number.{IsNumber}
 use Rattle.ua_wire.specs.Format.{flat, IsSound, IsLawful, TakesSome}
 use Rattle.ua_wire.specs.Boolean.{boolean, is_set, octet_of}
-use Rattle.ua_wire.specs.Signed.{signed, in_range, octets_of}
-use Rattle.ua_wire.specs.FloatBits.{float_bits, of_bits}
-use Rattle.ua_wire.specs.DoubleBits.{double_bits, of_bits as double_of_bits}
+use Rattle.ua_wire.specs.Signed.{signed, in_range, width_octets}
+use Rattle.ua_wire.specs.FloatBits.{float_bits, float_from_bits}
+use Rattle.ua_wire.specs.DoubleBits.{double_bits, double_from_bits as double_of_bits}
 use Rattle.ua_wire.proofs.Lawfulness.{sound_number, sound_made, sound_image, lawful_flat, number_starts, image_starts}
 
 -- ---- Booleans
@@ -41,13 +41,13 @@ pub signed_back : (w : Width) (z : ℤ) → IsTrue (in_range w z) → z ≡ cast
 signed_back w z h = sym (to_z-of_z w z (fits_in_range w z h))
 
 pub sound_signed : (w : Width) → IsSound (signed w)
-sound_signed w = sound_image (cast_signed w) (cast_unsigned w) (in_range w) (signed_back w) (sound_number (octets_of w))
+sound_signed w = sound_image (cast_signed w) (cast_unsigned w) (in_range w) (signed_back w) (sound_number (width_octets w))
 
-signed_some : (w : Width) (k : ℕ) → octets_of w ≡ suc k → TakesSome (IsNumber (octets_of w))
+signed_some : (w : Width) (k : ℕ) → width_octets w ≡ suc k → TakesSome (IsNumber (width_octets w))
 signed_some w k e = rw e (number_starts k)
 
-pub signed_starts : (w : Width) (k : ℕ) → octets_of w ≡ suc k → TakesSome (signed w).encodes
-signed_starts w k e = image_starts (cast_signed w) (IsNumber (octets_of w)) (signed_some w k e)
+pub signed_starts : (w : Width) (k : ℕ) → width_octets w ≡ suc k → TakesSome (signed w).encodes
+signed_starts w k e = image_starts (cast_signed w) (IsNumber (width_octets w)) (signed_some w k e)
 
 pub lawful_signed_8 : IsLawful (flat (signed w8))
 lawful_signed_8 = lawful_flat (sound_signed w8) (signed_starts w8 0 refl)
@@ -65,11 +65,11 @@ lawful_signed_64 = lawful_flat (sound_signed w64) (signed_starts w64 7 refl)
 
 pub sound_float_bits : IsSound float_bits
 unfolding float_bits
-sound_float_bits = sound_made of_bits (λ v. v.bits) (λ v. refl) (sound_number 4)
+sound_float_bits = sound_made float_from_bits (λ v. v.bits) (λ v. refl) (sound_number 4)
 
 pub float_bits_starts : TakesSome float_bits.encodes
 unfolding float_bits
-float_bits_starts = image_starts of_bits (IsNumber 4) (number_starts 3)
+float_bits_starts = image_starts float_from_bits (IsNumber 4) (number_starts 3)
 
 pub lawful_float_bits : IsLawful (flat float_bits)
 lawful_float_bits = lawful_flat sound_float_bits float_bits_starts

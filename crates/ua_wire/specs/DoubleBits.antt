@@ -5,9 +5,9 @@ use Rattle.ua_wire.specs.Join.{number, made}
 use Rattle.ua_wire.specs.declared.double_bits.DoubleBits.{DoubleBits}
 
 -- the Double with this bit pattern
-abbrev pub of_bits : ℕ → DoubleBits
-of_bits n = record { bits = n }
+abbrev pub double_from_bits : ℕ → DoubleBits
+double_from_bits n = record { bits = n }
 
 -- the bit pattern of an IEEE 754 number of 64 bits, the least significant byte first
 unfoldable pub double_bits : Flat DoubleBits
-double_bits = made of_bits (λ v. v.bits) (number 8)
+double_bits = made double_from_bits (λ v. v.bits) (number 8)

@@ -6,9 +6,9 @@ use Rattle.ua_wire.specs.Join.{number, made}
 use Rattle.ua_wire.specs.declared.float_bits.FloatBits.{FloatBits}
 
 -- the Float with this bit pattern
-abbrev pub of_bits : ℕ → FloatBits
-of_bits n = record { bits = n }
+abbrev pub float_from_bits : ℕ → FloatBits
+float_from_bits n = record { bits = n }
 
 -- the bit pattern of an IEEE 754 number of 32 bits, the least significant byte first
 unfoldable pub float_bits : Flat FloatBits
-float_bits = made of_bits (λ v. v.bits) (number 4)
+float_bits = made float_from_bits (λ v. v.bits) (number 4)

@@ -11,9 +11,9 @@ in_range w (pos n) = nat_lt n (2 ^ hbits w)
 in_range w (negsuc n) = nat_lt n (2 ^ hbits w)
 
 -- how many bytes a number of the signed type takes
-abbrev pub octets_of : Width → ℕ
-octets_of w = bits w / 8
+abbrev pub width_octets : Width → ℕ
+width_octets w = bits w / 8
 
 -- a signed number: the bytes of its two's complement
 abbrev pub signed : Width → Flat ℤ
-signed w = image (cast_signed w) (cast_unsigned w) (in_range w) (number (octets_of w))
+signed w = image (cast_signed w) (cast_unsigned w) (in_range w) (number (width_octets w))

@@ -4,10 +4,10 @@ ghost use Rattle.std.specs.Prelude.{◌≡◌, ◌++◌, ◌∷◌, [], List, No
 ghost use Rattle.ua_chunk.specs.Assembling.{Stands, last_number, octet_limit, chunk_limit};
 ghost use Rattle.ua_chunk.specs.Delivered.{delivered};
 ghost use Rattle.ua_chunk.specs.Open.{open_octets};
-ghost use Rattle.ua_chunk.specs.Refusal.{refusal, IsFor};
+ghost use Rattle.ua_chunk.specs.Refusal.{chunk_refusal, IsFor};
 ghost use Rattle.ua_chunk.specs.Sequence.{may_follow};
 ghost use Rattle.ua_chunk.specs.Gathered.{bodies, gathered};
-ghost use Rattle.ua_chunk.specs.View.{items_of, HasParts};
+ghost use Rattle.ua_chunk.specs.View.{delivered_items, HasParts};
 ghost use Rattle.ua_chunk.specs.declared.chunk.Chunk.{Chunk};
 
 use bytes::Bytes;
@@ -21,7 +21,7 @@ pub fn accept_next(
     chunk: Chunk,
 ) -> Result<Option<Delivered>, AssembleFault>
     ensures given { (cs : List Chunk) → Stands assembler.old cs →
-        IfOk result (λ d. delivered (cs ++ chunk ∷ []) ≡ delivered cs ++ items_of d) }
+        IfOk result (λ d. delivered (cs ++ chunk ∷ []) ≡ delivered cs ++ delivered_items d) }
     ensures stands { (cs : List Chunk) → Stands assembler.old cs
         → OnOk result (Stands assembler.new (cs ++ chunk ∷ [])) }
 {
@@ -34,7 +34,7 @@ pub fn accept_by_reason(
     chunk: Chunk,
 ) -> Result<Option<Delivered>, AssembleFault>
     ensures faults { (cs : List Chunk) → Stands assembler.old cs →
-        let reason = refusal (octet_limit assembler.old) (chunk_limit assembler.old) (last_number assembler.old) cs
+        let reason = chunk_refusal (octet_limit assembler.old) (chunk_limit assembler.old) (last_number assembler.old) cs
         chunk in
         MatchResult result (λ _. reason ≡ None) (IsFor reason) }
 {

@@ -1,7 +1,7 @@
 //! Frames that are read.
 
 ghost use Rattle.std.specs.Prelude.{List, ℕ};
-ghost use Rattle.ua_frame.specs.Reader.{StandsAfter, Answers, Takes};
+ghost use Rattle.ua_frame.specs.Reader.{StandsAfter, AnswersFragment, Takes};
 ghost use Rattle.ua_frame.specs.declared.frame.Frame.{Frame};
 
 use bytes::Bytes;
@@ -14,7 +14,7 @@ pub fn take_frame(
     piece: &[u8],
 ) -> Result<(usize, Option<Frame>), FrameFault>
     ensures stands { (octets : List ℕ) (frames : List Frame) → StandsAfter reader.old octets frames
-        → Answers reader.old piece.now result reader.new octets frames }
+        → AnswersFragment reader.old piece.now result reader.new octets frames }
 {
     reader.take(piece)
 }

@@ -3,7 +3,7 @@
 ghost use Rattle.std.specs.Prelude.{◌≡◌, IfOk};
 ghost use Rattle.ua_exchange.specs.Programs.{begun_over};
 ghost use Rattle.ua_exchange.specs.Replies.{state_behind};
-ghost use Rattle.ua_nodes.specs.Sound.{IsSound};
+ghost use Rattle.ua_nodes.specs.Sound.{AreNodesSound};
 
 use std::alloc::Global;
 use ua_builtin::DateTime;
@@ -22,7 +22,7 @@ pub fn exchange_over(
     cuts_down: &[usize],
     moment: DateTime,
 ) -> Result<Transcript, PairFault>
-    requires sound { IsSound table }
+    requires sound { AreNodesSound table }
     requires same { before.old ≡ begun_over table }
     ensures services { IfOk result (λ t. t.services ≡ state_behind (begun_over table) moment turns.now) }
 {

@@ -2,8 +2,8 @@
 
 ghost use Rattle.std.specs.Prelude.{◌≡◌, IfOk, OnOk};
 ghost use Rattle.ua_variant.specs.View.{data_value_of};
-ghost use Rattle.ua_nodes.specs.Read.{answer_octets, read_answer};
-ghost use Rattle.ua_nodes.specs.Sound.{IsSound};
+ghost use Rattle.ua_nodes.specs.Read.{result_octets, read_answer};
+ghost use Rattle.ua_nodes.specs.Sound.{AreNodesSound};
 ghost use Rattle.ua_nodes.specs.Table.{node_at};
 ghost use Rattle.ua_nodes.specs.Within.{IsWithin};
 ghost use Rattle.ua_nodes.specs.Write.{nodes_take};
@@ -39,9 +39,9 @@ pub fn append_answers(
     most: Option<usize>,
     out: &mut Vec<u8>,
 ) -> Result<(), AllocError>
-    requires sound { IsSound nodes.now }
+    requires sound { AreNodesSound nodes.now }
     ensures ok { OnOk result
-        (IsWithin most (answer_octets nodes.now stamps moment) items.now out.old.items out.new.items) }
+        (IsWithin most (result_octets nodes.now stamps moment) items.now out.old.items out.new.items) }
 {
     nodes.append_items(alloc, items, stamps, moment, most, out)
 }

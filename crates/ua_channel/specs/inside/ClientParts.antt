@@ -12,7 +12,7 @@ use Rattle.ua_chunk.specs.Delivered.{given}
 use Rattle.ua_chunk.specs.Gathered.{ends, gathered, bodies}
 use Rattle.ua_chunk.specs.Refusal.{reasons}
 use Rattle.ua_chunk.specs.Sequence.{may_follow}
-use Rattle.ua_chunk.specs.View.{items_of, HasParts}
+use Rattle.ua_chunk.specs.View.{delivered_items, HasParts}
 use Rattle.ua_chunk.specs.declared.chunk.Chunk.{Chunk}
 use Rattle.ua_chunk.specs.declared.delivered.Delivered.{Delivered}
 use Rattle.ua_chunk.specs.declared.fault.AssembleFault.{AssembleFault}
@@ -21,15 +21,15 @@ use Rattle.ua_opening.specs.declared.open.OpenAnswer.TheVariants.{Open as Opened
 use Rattle.ua_opening.specs.declared.secure_channel.OpenResponse.{OpenResponse}
 use Rattle.ua_channel.specs.Asks.{Asking, Placed, is_in}
 use Rattle.ua_channel.specs.Client.{client_side, InPhase, IsClientDone, client_bound_behind}
-use Rattle.ua_channel.specs.ClientAnswers.{Tells}
+use Rattle.ua_channel.specs.ClientAnswers.{TellsOfEvent}
 use Rattle.ua_channel.specs.ClientAsks.{Talks}
-use Rattle.ua_channel.specs.ClientTable.{client_reasons, is_other, is_awaited, is_bad, result_of, code_in, is_outside, of_ack}
-use Rattle.ua_channel.specs.ClientTokens.{answer_in, responses, opened_ids, channel_in, held_tokens, from_last}
+use Rattle.ua_channel.specs.ClientTable.{client_reasons, is_other, is_awaited, is_bad_answer, result_of, code_in_error, is_outside, of_ack}
+use Rattle.ua_channel.specs.ClientTokens.{answer_in, open_responses, opened_ids, first_channel, held_tokens, from_last}
 use Rattle.ua_channel.specs.ClientTold.{ClientTold, ClientTold as told, Why, ours, peers, client_tells, told_item}
 use Rattle.ua_channel.specs.Content.{Opening, Content}
 use Rattle.ua_channel.specs.Content.Content.{Opens, Sends}
 use Rattle.ua_channel.specs.inside.Ends.{ComesBy}
-use Rattle.ua_channel.specs.ClientEvents.{event_parts, told_by}
+use Rattle.ua_channel.specs.ClientEvents.{event_parts, client_told_of_event}
 use Rattle.ua_channel.specs.inside.Parts.{IsFaultFor, MayEndIn, parts_in}
 use Rattle.ua_channel.specs.Received.{Received, after, nothing_received, listed}
 use Rattle.ua_channel.specs.declared.end_fault.EndFault.{EndFault}
@@ -65,7 +65,7 @@ Judged reasons Good (Err fault) = IsStopFor reasons fault
 
 -- why the body of an ERR stops a channel, by the Error that it is
 abbrev pub error_reasons : Option ErrorFrame → List (Why × Bool)
-error_reasons e = (ours 0x8007_0000, is_none e) ∷ (peers (code_in e), true) ∷ []
+error_reasons e = (ours 0x8007_0000, is_none e) ∷ (peers (code_in_error e), true) ∷ []
 
 -- why the body of an ACK is rejected, by the Acknowledge that it is
 abbrev pub ack_reasons : Limits → Option Ack → List (Why × Bool)
@@ -87,7 +87,7 @@ Issues r issued = (r.channel_id ≡ issued.channel) × (r.token_id ≡ issued.to
 
 -- why the body of an OPN is rejected, by the response that it is
 abbrev pub body_reasons : Option OpenAnswer → List (Why × Bool)
-body_reasons answer = (ours 0x8007_0000, is_none answer) ∷ (ours (result_of answer), is_bad answer) ∷ []
+body_reasons answer = (ours 0x8007_0000, is_none answer) ∷ (ours (result_of answer), is_bad_answer answer) ∷ []
 
 -- the response is an OpenSecureChannel response that issues this token
 pub record IsAnsweredBy (answer : Option OpenAnswer) (issued : IssuedToken) : Type 0 where
@@ -99,10 +99,10 @@ pub record IsAnsweredBy (answer : Option OpenAnswer) (issued : IssuedToken) : Ty
 -- RequestId
 abbrev pub answer_reasons : Received → List Asking → Answer → List (Why × Bool)
 answer_reasons before asked a =
-    (ours 0x807F_0000, is_other (channel_in (responses before.openings)) a.channel)
+    (ours 0x807F_0000, is_other (first_channel (open_responses before.openings)) a.channel)
     ∷ (ours 0x8087_0000, is_in a.token (held_tokens before))
     ∷ (ours 0x8088_0000, not (may_follow before.last a.sequence))
-    ∷ (ours 0x8009_0000, not (is_awaited (responses before.openings) (opened_ids before.openings) asked a.request))
+    ∷ (ours 0x8009_0000, not (is_awaited (open_responses before.openings) (opened_ids before.openings) asked a.request))
     ∷ []
 
 -- the response is that of an OPN, a good one, and only what remains is against it
@@ -125,7 +125,7 @@ JudgesAnswer o (Err fault) = (limits : Limits) (before : Received) (asked : List
 -- what is told, if something is
 abbrev pub told_by_frame : Option Event → List ClientTold
 told_by_frame None = []
-told_by_frame (Some e) = told_by e ∷ []
+told_by_frame (Some e) = client_told_of_event e ∷ []
 
 -- ---- an open channel
 
@@ -158,8 +158,8 @@ pub record IsOpenedBy (limits : Limits) (agreed : Agreed) (c : Content) (t : Tal
   pub ack_is : (after (greeted agreed) c).ack ≡ Some agreed.ack
 
 -- why an open channel rejects a good response, by what is kept of it
-abbrev pub renewal_reasons : Talking → Answer → List (Why × Bool)
-renewal_reasons t a =
+abbrev pub kept_renewal_reasons : Talking → Answer → List (Why × Bool)
+kept_renewal_reasons t a =
     (ours 0x807F_0000, not (a.channel == t.channel))
     ∷ (ours 0x8087_0000, is_in a.token t.tokens.items)
     ∷ (ours 0x8088_0000, not (may_follow (last_number t.assembler) a.sequence))
@@ -180,8 +180,8 @@ abbrev pub TellsRenewal : Talking → Answer → List Chunk → Talking → Opti
 TellsRenewal old a cs new e = (e ≡ Some (event.Renewed a.token)) × IsRenewedWith old a cs new
 
 -- the channel and the token of a chunk, as far as they may be wrong
-abbrev pub token_reasons : Talking → Chunk → List (Why × Bool)
-token_reasons t c = (ours 0x807F_0000, not (c.channel == t.channel)) ∷ (ours 0x8087_0000, not (is_in c.token t.tokens.items)) ∷ []
+abbrev pub chunk_token_reasons : Talking → Chunk → List (Why × Bool)
+chunk_token_reasons t c = (ours 0x807F_0000, not (c.channel == t.channel)) ∷ (ours 0x8087_0000, not (is_in c.token t.tokens.items)) ∷ []
 
 -- why a client's channel stops for what an assembler rejects
 abbrev pub why_of : AssembleFault → Why
@@ -201,7 +201,7 @@ known_reasons t cs c = refused_reasons t cs c ++ unasked_reasons t c.request
 
 -- why an open channel rejects a chunk after these, by what is kept of it
 abbrev pub chunk_reasons : Talking → List Chunk → Chunk → List (Why × Bool)
-chunk_reasons t cs c = token_reasons t c ++ known_reasons t cs c
+chunk_reasons t cs c = chunk_token_reasons t c ++ known_reasons t cs c
 
 -- the first of the tokens is before the last occurrence of n, or n does not occur
 abbrev pub drops_first : ℕ → List ℕ → Bool
@@ -217,17 +217,17 @@ abbrev pub left_pending : Chunk → List ℕ → List ℕ
 left_pending c ids = left_behind (ends c) c.request ids
 
 -- what is kept of a channel whose assembler accepted a chunk after these
-pub record IsAccepted (old : Talking) (cs : List Chunk) (c : Chunk) (new : Talking) (d : Option Delivered) : Type 0 where
+pub record IsChunkAccepted (old : Talking) (cs : List Chunk) (c : Chunk) (new : Talking) (d : Option Delivered) : Type 0 where
   pub new_is : new ≡ record old { assembler = new.assembler }
   pub stands : Stands new.assembler (cs ++ c ∷ [])
   pub last_is : last_number new.assembler ≡ Some c.sequence
   pub limits : SameLimits old.assembler new.assembler
-  pub items_are : given cs c ≡ items_of d
+  pub items_are : given cs c ≡ delivered_items d
   pub parts_are : HasParts d (bodies (gathered cs c))
 
 -- an event is what was delivered, in the same parts
 pub record DeliversEvent (d : Option Delivered) (e : Option Event) : Type 0 where
-  pub tells : map told_item (items_of d) ≡ told_by_frame e
+  pub tells : map told_item (delivered_items d) ≡ told_by_frame e
   pub parts : event_parts e ≡ parts_in d
 
 -- what is kept of a channel with what a chunk of this request and token delivered, which it ended
@@ -257,7 +257,7 @@ any_event e = Unit {0}
 -- ---- what a channel makes of a frame
 
 -- an open channel took a frame with this content, and tells this
-pub record TakesFrame (limits : Limits) (before : Received) (asked : List Asking) (c : Content) (new : Talking) (e : Option Event) : Type 0 where
+pub record ClientTakesFrame (limits : Limits) (before : Received) (asked : List Asking) (c : Content) (new : Talking) (e : Option Event) : Type 0 where
   pub tells : client_tells before c ≡ told_by_frame e
   pub parts : MayEndIn before.messages c (event_parts e)
   pub talks : Talks limits new (after before c) asked
@@ -274,25 +274,25 @@ pub record TookFrame (limits : Limits) (before : Received) (asked : List Asking)
 -- ---- a fragment
 
 -- the bytes end with the frame of this event
-abbrev pub ComesTo : Event → ClientChannel → List Placed → List ℕ → List ClientTold → Type 0
-ComesTo e new asks octets before = ComesBy client_side false new.end asks octets before e
+abbrev pub EndsWithEvent : Event → ClientChannel → List Placed → List ℕ → List ClientTold → Type 0
+EndsWithEvent e new asks octets before = ComesBy client_side false new.end asks octets before e
 
 -- ---- what is answered
 
 -- the event of a channel that this stops, or the fault of its call
-abbrev pub failure_of : EndFault → Result ClientEvent ClientTakeFault
-failure_of (Refused code) = Ok (client_event.Failed code false)
-failure_of (Peer code) = Ok (client_event.Failed code true)
-failure_of OutOfMemory = Err take_fault.OutOfMemory
-failure_of Closed = Err take_fault.Closed
+abbrev pub failure_of_step : EndFault → Result ClientEvent ClientTakeFault
+failure_of_step (Refused code) = Ok (client_event.Failed code false)
+failure_of_step (Peer code) = Ok (client_event.Failed code true)
+failure_of_step OutOfMemory = Err take_fault.OutOfMemory
+failure_of_step Closed = Err take_fault.Closed
 
 -- the outcome of a call with an event
 abbrev pub AnswersEvent : DateTime → Result ClientEvent ClientTakeFault → ClientChannel → List Placed → List ℕ → List ClientTold → Type 0
-AnswersEvent moment (Ok e) new asks octets before = Tells moment e new asks octets before
+AnswersEvent moment (Ok e) new asks octets before = TellsOfEvent moment e new asks octets before
 AnswersEvent moment (Err take_fault.OutOfMemory) new asks octets before = IsClientDone new
 AnswersEvent moment (Err take_fault.Closed) new asks octets before = ⊥
 
 -- an outcome with the number of bytes that were taken
-abbrev pub counted : {A F : Type 0} → ℕ → Result A F → Result (ℕ × A) F
-counted n (Ok a) = Ok (n, a)
-counted n (Err fault) = Err fault
+abbrev pub outcome_counted : {A F : Type 0} → ℕ → Result A F → Result (ℕ × A) F
+outcome_counted n (Ok a) = Ok (n, a)
+outcome_counted n (Err fault) = Err fault

@@ -78,11 +78,11 @@ ComesBy S false x k octets told e = EndTells S x k octets told (S.tells e) × Ha
 ComesBy S true x k octets told e = EndOver S x k octets (told ++ S.tells e ∷ [])
 
 -- with a fault
-abbrev pub FailsBy : {R P E : Type 0} (S : Side R P E) → EndCore R P → (k : S.Key) → List ℕ → List S.Told → EndFault → Type 0
-FailsBy S x k octets told (Refused code) = EndStops S x k octets told ((rules_by S x k).of_header code.code)
-FailsBy S x k octets told (Peer code) = MatchOption (S.peer code.code) ⊥ (λ (why : S.Why). EndStops S x k octets told why)
-FailsBy S x k octets told OutOfMemory = EndStarves S x k octets told
-FailsBy S x k octets told Closed = ⊥
+abbrev pub EndFailsBy : {R P E : Type 0} (S : Side R P E) → EndCore R P → (k : S.Key) → List ℕ → List S.Told → EndFault → Type 0
+EndFailsBy S x k octets told (Refused code) = EndStops S x k octets told ((rules_by S x k).of_header code.code)
+EndFailsBy S x k octets told (Peer code) = MatchOption (S.peer code.code) ⊥ (λ (why : S.Why). EndStops S x k octets told why)
+EndFailsBy S x k octets told OutOfMemory = EndStarves S x k octets told
+EndFailsBy S x k octets told Closed = ⊥
 
 -- ---- a frame, a call of the reader, a fragment
 
@@ -101,13 +101,13 @@ JudgesWhole S new k frames f (Err fault) = RefusedBy S new.rules k frames f faul
 abbrev pub EndSteps : {R P E : Type 0} (S : Side R P E) → List ℕ → ℕ → Result (Option E) EndFault → EndCore R P → (k : S.Key) → List ℕ → List S.Told → Type 0
 EndSteps S piece n (Ok None) new k octets told = EndGoes S new k (octets ++ take n piece) told
 EndSteps S piece n (Ok (Some e)) new k octets told = ComesBy S (S.closes e) new k (octets ++ take n piece) told e
-EndSteps S piece n (Err fault) new k octets told = FailsBy S new k (octets ++ take n piece) told fault
+EndSteps S piece n (Err fault) new k octets told = EndFailsBy S new k (octets ++ take n piece) told fault
 
 -- the steps of a fragment, up to the first event or fault; with none the whole fragment is taken
 abbrev pub EndNexts : {R P E : Type 0} (S : Side R P E) → List ℕ → ℕ → Result (Option E) EndFault → EndCore R P → (k : S.Key) → List ℕ → List S.Told → Type 0
 EndNexts S piece n (Ok None) new k octets told = (n ≡ length piece) × EndGoes S new k (octets ++ piece) told
 EndNexts S piece n (Ok (Some e)) new k octets told = (0 < n) × (n ≤ length piece) × ComesBy S (S.closes e) new k (octets ++ take n piece) told e
-EndNexts S piece n (Err fault) new k octets told = (n ≤ length piece) × FailsBy S new k (octets ++ take n piece) told fault
+EndNexts S piece n (Err fault) new k octets told = (n ≤ length piece) × EndFailsBy S new k (octets ++ take n piece) told fault
 
 -- this many bytes of a fragment were taken since that state, and nothing was told
 pub record EndTook {R P E : Type 0} (S : Side R P E) (old now : EndCore R P) (piece : List ℕ) (taken : ℕ) : Type 0 where

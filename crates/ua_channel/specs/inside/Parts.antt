@@ -7,7 +7,7 @@ use Rattle.ua_chunk.specs.declared.chunk.Chunk.{Chunk}
 use Rattle.ua_channel.specs.Content.{Content}
 use Rattle.ua_chunk.specs.declared.delivered.Delivered.{Delivered}
 use Rattle.ua_chunk.specs.declared.delivered.Delivered.TheVariants.{Whole, Aborted}
-use Rattle.ua_channel.specs.MessageParts.{EndsIn}
+use Rattle.ua_channel.specs.MessageParts.{EndsMessageIn}
 use Rattle.ua_channel.specs.declared.end_fault.EndFault.{EndFault}
 use Rattle.ua_channel.specs.declared.end_fault.EndFault.TheVariants.{Refused, Peer, OutOfMemory, Closed}
 
@@ -19,7 +19,7 @@ pub record HasShape (f : Frame) : Type 0 where
 -- a frame with this content, after these chunks, ends a message in these parts, if one is returned
 abbrev pub MayEndIn : List Chunk → Content → Option (List (List ℕ)) → Type 0
 MayEndIn before c None = Unit {0}
-MayEndIn before c (Some parts) = EndsIn before c parts
+MayEndIn before c (Some parts) = EndsMessageIn before c parts
 
 -- the parts of what an assembler returns, if it is a whole message
 abbrev pub parts_in : Option Delivered → Option (List (List ℕ))

@@ -20,7 +20,7 @@ use Rattle.ua_channel.specs.Content.{Content, opening_of}
 use Rattle.ua_channel.specs.Content.Content.{Greets, Opens}
 use Rattle.ua_channel.specs.inside.Parts.{IsFaultFor, MayEndIn}
 use Rattle.ua_channel.specs.Received.{Received, after}
-use Rattle.ua_channel.specs.ServerEvents.{told_of, parts_of}
+use Rattle.ua_channel.specs.ServerEvents.{server_told_of_event, parts_of_event}
 use Rattle.ua_channel.specs.ServerRefusals.{type_wanted, server_reasons}
 use Rattle.ua_channel.specs.ServerRules.{receive_size}
 use Rattle.ua_channel.specs.ServerStands.{Stays}
@@ -49,7 +49,7 @@ JudgesHello limits body (Err fault) =
 -- ---- OPN
 
 -- a request with these contents
-pub record AsksFor (r : OpenRequest) (a : Asked) : Type 0 where
+pub record AreContentsOfRequest (r : OpenRequest) (a : Asked) : Type 0 where
   pub kind : a.kind ≡ r.request_type
   pub mode : a.mode ≡ r.security_mode
   pub handle : a.handle ≡ r.request_header.request_handle
@@ -59,7 +59,7 @@ pub record AsksFor (r : OpenRequest) (a : Asked) : Type 0 where
 pub record IsAskedIn (octets : List ℕ) (a : Asked) : Type 0 where
   pub request : OpenRequest
   pub reads : body_of (message 446 open_request) octets ≡ Some request
-  pub asks : AsksFor request a
+  pub asks : AreContentsOfRequest request a
 
 -- what is decoded of the bytes after a sequence header
 abbrev pub ReadsAsked : List ℕ → Result Asked EndFault → Type 0
@@ -95,14 +95,14 @@ JudgesOpening channel count body (Err fault) = IsRefusalFor (λ code. (limits : 
 -- what is told by an event, if there is one
 abbrev pub told_list : Option Event → List Told
 told_list None = []
-told_list (Some e) = told_of e ∷ []
+told_list (Some e) = server_told_of_event e ∷ []
 
 -- a frame with this content is taken after what was received, and tells this, a message in its
 -- parts
 pub record TakesSo (limits : Limits) (channel : ℕ) (before : Received) (c : Content) (e : Option Event) : Type 0 where
   pub accepted : first_reason (server_reasons limits channel before c) ≡ None
   pub tells : server_tells limits before c ≡ told_list e
-  pub parts : MayEndIn before.messages c (parts_of e)
+  pub parts : MayEndIn before.messages c (parts_of_event e)
 
 -- a frame with this content is rejected with this code after what was received
 abbrev pub IsRefused : Limits → ℕ → Received → Content → ℕ → Type 0

@@ -14,8 +14,8 @@ ghost use Rattle.ua_channel.specs.Client.{client_bound_behind, held_octets, call
 ghost use Rattle.ua_channel.specs.Client.{closing_refused, JudgesLength, SendsCall, SendsRenewal, SendsClosing};
 ghost use Rattle.ua_channel.specs.ClientAnswers.{ClientAnswers, ComesInParts, ClientProgress, parts_handed};
 ghost use Rattle.ua_channel.specs.ClientAsks.{call_reasons, closing_reasons, renewing_reasons};
-ghost use Rattle.ua_channel.specs.ClientAsks.{AnswersFor, IsCalled, IsClosed, IsRenewed, JudgesBy};
-ghost use Rattle.ua_channel.specs.inside.ClientParts.{AnswersEvent, ComesTo, counted};
+ghost use Rattle.ua_channel.specs.ClientAsks.{AnswersFor, IsCalled, IsCloseWith, IsRenewalWith, JudgesBy};
+ghost use Rattle.ua_channel.specs.inside.ClientParts.{AnswersEvent, EndsWithEvent, outcome_counted};
 ghost use Rattle.ua_channel.specs.ClientSends.{AreFramesOf, hello_frame, hello_to};
 ghost use Rattle.ua_channel.specs.ClientTold.{ClientTold};
 ghost use Rattle.ua_channel.specs.Received.{received};
@@ -229,7 +229,7 @@ impl ClientChannel {
             → AnswersFor (first_reason (renewing_reasons (received frames) (asked_in asks))) result }
         ensures renews { (asks : List Placed) (octets : List ℕ) (frames : List Frame) (rest : List ℕ)
             → ClientStands self.old asks octets frames rest
-            → IfOk result (λ r. IsRenewed (received frames) (asked_in asks) (client_next self.old) moment r.0 r.1.items
+            → IfOk result (λ r. IsRenewalWith (received frames) (asked_in asks) (client_next self.old) moment r.0 r.1.items
             (client_next self.new)) }
         ensures stands { (asks : List Placed) (octets : List ℕ) (frames : List Frame) (rest : List ℕ)
             → ClientStands self.old asks octets frames rest
@@ -254,7 +254,7 @@ impl ClientChannel {
             → AnswersFor (first_reason (closing_reasons (received frames))) result }
         ensures closes { (asks : List Placed) (octets : List ℕ) (frames : List Frame) (rest : List ℕ)
             → ClientStands self.old asks octets frames rest
-            → IfOk result (λ out. IsClosed (received frames) (asked_in asks) (client_next self.old) moment out.items) }
+            → IfOk result (λ out. IsCloseWith (received frames) (asked_in asks) (client_next self.old) moment out.items) }
         ensures done { OnOk result (IsClientDone self.new) }
         ensures unchanged { OnErr result (self.new ≡ self.old) }
         ensures same { SameClient self.old self.new }
@@ -273,7 +273,7 @@ impl ClientChannel {
             → AnswersFor (first_reason (closing_reasons (received frames))) result }
         ensures closes { (asks : List Placed) (octets : List ℕ) (frames : List Frame) (rest : List ℕ)
             → ClientStands self.now asks octets frames rest
-            → IfOk result (λ out. IsClosed (received frames) (asked_in asks) (client_next self.now) moment out.items) }
+            → IfOk result (λ out. IsCloseWith (received frames) (asked_in asks) (client_next self.now) moment out.items) }
     {
         match &self.end.phase {
             Phase::Open(talking) => {
@@ -297,10 +297,10 @@ impl ClientChannel {
     /// The event that is returned. `moment` is the timestamp of an OPN request.
     fn answer(&mut self, event: Event, moment: DateTime) -> Result<ClientEvent, ClientTakeFault>
         ensures answers { (asks : List Placed) (octets : List ℕ) (told : List ClientTold)
-            → ComesTo event self.old asks octets told
+            → EndsWithEvent event self.old asks octets told
             → AnswersEvent moment result self.new asks octets told }
         ensures parts { (asks : List Placed) (octets : List ℕ) (told : List ClientTold)
-            → ComesTo event self.old asks octets told
+            → EndsWithEvent event self.old asks octets told
             → IfOk result (λ e. ComesInParts (parts_handed e) self.new asks octets) }
         ensures same { SameClient self.old self.new }
         ensures next { client_next self.new ≡ client_next self.old }
@@ -329,12 +329,12 @@ impl ClientChannel {
     ) -> Taken<Result<ClientEvent, ClientTakeFault>>
         ensures answers { (asks : List Placed) (octets : List ℕ) (told : List ClientTold)
             → ClientGoes self.old asks octets told
-            → ClientAnswers moment piece.now (counted result.size result.outcome) self.new asks octets told }
+            → ClientAnswers moment piece.now (outcome_counted result.size result.outcome) self.new asks octets told }
         ensures parts { (asks : List Placed) (octets : List ℕ) (told : List ClientTold)
             → ClientGoes self.old asks octets told
             → IfOk result.outcome
             (λ e. ComesInParts (parts_handed e) self.new asks (octets ++ take result.size piece.now)) }
-        ensures progress { ClientProgress piece.now (counted result.size result.outcome) }
+        ensures progress { ClientProgress piece.now (outcome_counted result.size result.outcome) }
         ensures within { result.size ≤ length piece.now }
         ensures starves { (asks : List Placed) (octets : List ℕ) (told : List ClientTold)
             → ClientGoes self.old asks octets told → IsErrOf result.outcome OutOfMemory

@@ -47,11 +47,11 @@ pub enum Event {
 
 impl ClientEvent {
     ghost use Rattle.std.specs.Prelude.{◌≡◌};
-    ghost use Rattle.ua_channel.specs.inside.ClientParts.{failure_of};
+    ghost use Rattle.ua_channel.specs.inside.ClientParts.{failure_of_step};
 
     /// The event of a channel that this stops, or the fault of its call.
     pub(crate) fn from_fault(fault: EndFault) -> Result<ClientEvent, ClientTakeFault>
-        ensures { result ≡ failure_of fault }
+        ensures { result ≡ failure_of_step fault }
     {
         match fault {
             EndFault::Refused(code) => Ok(ClientEvent::Failed { code, peer: false }),

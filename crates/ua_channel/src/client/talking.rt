@@ -8,13 +8,13 @@ ghost use Rattle.ua_chunk.specs.Assembling.{Stands};
 ghost use Rattle.ua_chunk.specs.declared.chunk.Chunk.{Chunk};
 ghost use Rattle.ua_channel.specs.Asks.{Asking};
 ghost use Rattle.ua_channel.specs.Asks.Asking.{Call, Renewal};
-ghost use Rattle.ua_channel.specs.ClientAsks.{Talks, call_lane, renew_reasons, is_too_large, Calls, Renews, AnswersFor};
+ghost use Rattle.ua_channel.specs.ClientAsks.{Talks, call_lane, renew_reasons, is_too_large, Calls, AsksRenewal, AnswersFor};
 ghost use Rattle.ua_channel.specs.inside.ClientAsking.{more_reasons, AnswersCall, JudgesCall, AsBefore};
 ghost use Rattle.ua_channel.specs.inside.ClientParts.{Judged, greeted, first_reasons, IsOpenedWith, IsOpenedBy};
-ghost use Rattle.ua_channel.specs.inside.ClientParts.{renewal_reasons, IsRenewedWith, TellsRenewal, token_reasons};
+ghost use Rattle.ua_channel.specs.inside.ClientParts.{kept_renewal_reasons, IsRenewedWith, TellsRenewal, chunk_token_reasons};
 ghost use Rattle.ua_channel.specs.inside.ClientParts.{chunk_reasons, refused_reasons, unasked_reasons, known_reasons};
-ghost use Rattle.ua_channel.specs.inside.ClientParts.{any_event, drops_first, left_behind, IsAccepted};
-ghost use Rattle.ua_channel.specs.inside.ClientParts.{IsDeliveredWith, IsTakenWith, TakesFrame, DeliversEvent};
+ghost use Rattle.ua_channel.specs.inside.ClientParts.{any_event, drops_first, left_behind, IsChunkAccepted};
+ghost use Rattle.ua_channel.specs.inside.ClientParts.{IsDeliveredWith, IsTakenWith, ClientTakesFrame, DeliversEvent};
 ghost use Rattle.ua_channel.specs.ClientSends.{AreFramesOf};
 ghost use Rattle.ua_channel.specs.ClientTable.{client_reasons, answer_gate, reply_gate};
 ghost use Rattle.ua_channel.specs.ClientTokens.{from_last};
@@ -161,7 +161,7 @@ impl Talking {
     /// Takes the answer to a renewal.
     fn on_answer(&mut self, answer: Answer) -> Result<(), EndFault>
         ensures { (cs : List Chunk) → Stands self.old.assembler cs
-            → Judged (renewal_reasons self.old answer) (λ _. IsRenewedWith self.old answer cs self.new) result }
+            → Judged (kept_renewal_reasons self.old answer) (λ _. IsRenewedWith self.old answer cs self.new) result }
     {
         if answer.channel != self.channel {
             return Err(EndFault::Refused(StatusCode::BAD_TCP_SECURE_CHANNEL_UNKNOWN));
@@ -186,7 +186,7 @@ impl Talking {
     /// Takes the response to a renewal, and returns the token as an event.
     fn on_renewed(&mut self, answer: Answer) -> Result<Option<Event>, EndFault>
         ensures { (cs : List Chunk) → Stands self.old.assembler cs
-            → Judged (renewal_reasons self.old answer) (TellsRenewal self.old answer cs self.new) result }
+            → Judged (kept_renewal_reasons self.old answer) (TellsRenewal self.old answer cs self.new) result }
     {
         match self.on_answer(answer) {
             Ok(()) => Ok(Some(Event::Renewed(answer.token))),
@@ -196,7 +196,7 @@ impl Talking {
 
     /// Whether a chunk is on this channel, under a token that is held.
     fn judge_chunk(&self, chunk: &Chunk) -> Result<(), EndFault>
-        ensures { Judged (token_reasons self.now chunk.now) any_event result }
+        ensures { Judged (chunk_token_reasons self.now chunk.now) any_event result }
     {
         if chunk.channel != self.channel {
             return Err(EndFault::Refused(StatusCode::BAD_TCP_SECURE_CHANNEL_UNKNOWN));
@@ -210,7 +210,7 @@ impl Talking {
     /// Takes what the assembler makes of a chunk.
     fn accept(&mut self, chunk: Chunk) -> Result<Option<Delivered>, EndFault>
         ensures { (cs : List Chunk) → Stands self.old.assembler cs
-            → Judged (refused_reasons self.old cs chunk) (IsAccepted self.old cs chunk self.new) result }
+            → Judged (refused_reasons self.old cs chunk) (IsChunkAccepted self.old cs chunk self.new) result }
     {
         match self.assembler.accept(chunk) {
             Ok(delivered) => Ok(delivered),
@@ -269,7 +269,7 @@ impl Talking {
         ensures { (limits : Limits) (before : Received) (asked : List Asking) → Talks limits self.old before asked
             → LetsIn (reply_gate self.old.agreed.ack.send_buffer_size) frame
             → Judged (client_reasons limits before asked (content frame))
-            (TakesFrame limits before asked (content frame) self.new) result }
+            (ClientTakesFrame limits before asked (content frame) self.new) result }
     {
         match frame.kind {
             Kind::Msg => self.on_chunk(read_chunk(frame)),
@@ -399,7 +399,7 @@ impl Talking {
         numbers: &mut Numbers,
     ) -> Result<(u32, Vec<u8>), AskFault>
         ensures answers { AnswersFor (first_reason (renew_reasons self.old)) result }
-        ensures asked { IfOk result (λ r. Renews self.old numbers.old.next moment r.0 r.1.items numbers.new.next) }
+        ensures asked { IfOk result (λ r. AsksRenewal self.old numbers.old.next moment r.0 r.1.items numbers.new.next) }
         ensures talks { (limits : Limits) (before : Received) (asked : List Asking) → Talks limits self.old before asked
             → IfOk result (λ r. Talks limits self.new before (asked ++ Renewal r.0 ∷ [])) }
         ensures agreed { self.new.agreed ≡ self.old.agreed }

@@ -10,7 +10,7 @@ use Rattle.ua_client.specs.declared.reply.Reply.{Reply}
 use Rattle.ua_loopback.specs.Accepted as judged
 use Rattle.ua_loopback.specs.Beginning.{Beginning}
 use Rattle.ua_loopback.specs.Faults.{FailsAt}
-use Rattle.ua_loopback.specs.Replies.{turns_replies, turns_state}
+use Rattle.ua_loopback.specs.Replies.{replies_to_turns, turns_state}
 use Rattle.ua_loopback.specs.Says.{server_output}
 use Rattle.ua_loopback.specs.Sends.{conversation_octets}
 use Rattle.ua_loopback.specs.Turns.{conversation_told}
@@ -32,12 +32,12 @@ pub record ConversesBy (limits : Limits) (address : Option (List ℕ)) (first : 
   pub closed : OnOk t.outcome (t.stage ≡ Ended Closed)
   pub sent : OnOk t.outcome (t.up.items ≡ conversation_octets limits limits address channel moment (served_turns turns))
   pub heard : OnOk t.outcome (ServerCloses limits channel t.up.items (conversation_told limits limits address (served_turns turns)))
-  pub replied : OnOk t.outcome (map (λ (r : Reply). Some r) t.replies.items ≡ turns_replies (beginning_by limits first moment) limits address first 1
+  pub replied : OnOk t.outcome (map (λ (r : Reply). Some r) t.replies.items ≡ replies_to_turns (beginning_by limits first moment) limits address first 1
       (served_turns turns))
   pub state : OnOk t.outcome (t.services ≡ turns_state first moment (served_turns turns))
-  pub accepted : OnOk t.outcome (judged.AreAccepted (judged.acknowledged limits limits address) (served_turns turns))
+  pub accepted : OnOk t.outcome (judged.AreAcceptedUnder (judged.acknowledged limits limits address) (served_turns turns))
   pub refused : IfErr t.outcome (λ fault. judged.IsTurnFault fault
-      → judged.FirstRefused (judged.acknowledged limits limits address) (served_turns turns) t.taken fault)
+      → judged.FirstRefusedUnder (judged.acknowledged limits limits address) (served_turns turns) t.taken fault)
   pub fails : IfErr t.outcome (λ fault. url_length address ≤ 4095 → FailsAt t.stage fault)
 
 -- the same with the limits and the address of the program

@@ -51,6 +51,6 @@ FindsCrowded turns (Some place) = FirstCrowded turns place
 FindsCrowded turns None = HaveRoom turns
 
 -- the operations before such a place, or all of them
-abbrev pub front_of : Option ℕ → List Turn → List Turn
-front_of (Some place) turns = take place turns
-front_of None turns = turns
+abbrev pub turns_before : Option ℕ → List Turn → List Turn
+turns_before (Some place) turns = take place turns
+turns_before None turns = turns

@@ -15,18 +15,18 @@ use Rattle.ua_services.specs.declared.request.Request.{Request}
 use Rattle.ua_server.specs.State.{State}
 use Rattle.ua_client.specs.Carried.{Carries}
 use Rattle.ua_client.specs.Client.{closing_at}
-use Rattle.ua_client.specs.Hearing.{channel_of, untaken_of}
+use Rattle.ua_client.specs.Hearing.{channel_of_connection, untaken_of}
 use Rattle.ua_client.specs.Opening.{IsOpened}
 use Rattle.ua_client.specs.ClientPlace.{ClientPlace, StandsAt}
 use Rattle.ua_client.specs.declared.connection.Connection.{Connection}
 use Rattle.ua_client.specs.declared.fault.ClientFault.{ClientFault}
 use Rattle.ua_client.specs.declared.fault.ClientFault.TheVariants as fault
 use Rattle.ua_client.specs.declared.reply.Reply.{Reply}
-use Rattle.ua_loopback.specs.Accepted.{AreAccepted, acknowledged}
+use Rattle.ua_loopback.specs.Accepted.{AreAcceptedUnder, acknowledged}
 use Rattle.ua_loopback.specs.Beginning.{Beginning}
-use Rattle.ua_loopback.specs.Course.{Course, opening_octets}
+use Rattle.ua_loopback.specs.Course.{ClientCourse, opening_octets}
 use Rattle.ua_loopback.specs.Faults.{DoneBefore, IsDoneOf}
-use Rattle.ua_loopback.specs.Replies.{HaveMisanswer, turn_state, turns_replies, turns_state}
+use Rattle.ua_loopback.specs.Replies.{HaveMisanswer, turn_state, replies_to_turns, turns_state}
 use Rattle.ua_loopback.specs.Says.{server_output, state_told}
 use Rattle.ua_loopback.specs.Sends.{conversation_octets, turns_octets}
 use Rattle.ua_loopback.specs.Talking.{TalksAt}
@@ -54,18 +54,18 @@ broken_fault other = other
 
 -- what is told of a fault over a transport to a server in the same process, whose connection has
 -- this progress
-abbrev pub fault_at : Stage → ClientFault → ClientFault
-fault_at far.Going f = f
-fault_at (far.Ended end) f = f
-fault_at far.Broken f = broken_fault f
+abbrev pub fault_at_stage : Stage → ClientFault → ClientFault
+fault_at_stage far.Going f = f
+fault_at_stage (far.Ended end) f = f
+fault_at_stage far.Broken f = broken_fault f
 
 -- and of the outcome of a client
 abbrev pub outcome_at : Stage → Result (Unit {0}) ClientFault → Result (Unit {0}) ClientFault
 outcome_at stage (Ok done) = Ok done
-outcome_at stage (Err f) = Err (fault_at stage f)
+outcome_at stage (Err f) = Err (fault_at_stage stage f)
 
 -- what a client with these limits and such a server send to open a channel can be encoded
-pub record CanOpen (b : Beginning) (limits : Limits) (url : Option (List ℕ)) (moment : DateTime) : Type 0 where
+pub record CanOpenTo (b : Beginning) (limits : Limits) (url : Option (List ℕ)) (moment : DateTime) : Type 0 where
   pub hello_fits : IsTrue (hello.encodable (hello_to limits url))
   pub url_fits : IsTrue (text.encodable url)
   pub ack_fits : IsTrue (ack.encodable (ack_to (hello_to limits url) b.limits))
@@ -75,12 +75,12 @@ pub record CanOpen (b : Beginning) (limits : Limits) (url : Option (List ℕ)) (
 
 -- a client that did these operations over a transport: its state, what went over the transport, and
 -- the replies
-pub record Stays (moment : DateTime) (opening : List ℕ) (opened : ClientPlace) (turns : List (Option (List Request))) (x : Connection)
+pub record StaysAfterTurns (moment : DateTime) (opening : List ℕ) (opened : ClientPlace) (turns : List (Option (List Request))) (x : Connection)
     (before now : Option Traffic) (replies : List Reply) : Type 0 where
   pub site : ClientPlace
-  pub at : StandsAt (channel_of x) site
+  pub at : StandsAt (channel_of_connection x) site
   pub sent : List ℕ
-  pub course : Course moment opened turns site sent replies
+  pub course : ClientCourse moment opened turns site sent replies
   pub got : List ℕ
   pub carried : IfTrafficKnown (Carries got (opening ++ sent)) before now
   pub got_is : got ≡ site.octets ++ untaken_of x
@@ -89,14 +89,14 @@ pub record Stays (moment : DateTime) (opening : List ℕ) (opened : ClientPlace)
 -- in step after them
 pub record StaysTalking (b : Beginning) (limits : Limits) (url : Option (List ℕ)) (moment : DateTime) (opened : ClientPlace)
     (turns : List (Option (List Request))) (x : Connection) (first now : Option Traffic) (replies : List Reply) : Type 0 where
-  pub stays : Stays moment (opening_octets limits url moment) opened turns x first now replies
+  pub stays : StaysAfterTurns moment (opening_octets limits url moment) opened turns x first now replies
   pub sent_is : stays.sent ≡ turns_octets (acknowledged b.limits limits url) b.channel moment 1 2 2 turns
-  pub replied : map (λ (r : Reply). Some r) replies ≡ turns_replies b limits url b.first 1 turns
+  pub replied : map (λ (r : Reply). Some r) replies ≡ replies_to_turns b limits url b.first 1 turns
   pub talks : TalksAt (record { server = b; limits = limits; url = url; turns = turns; octets = opening_octets limits url moment ++ stays.sent }) stays.site x
       now
 
 -- a client opened its channel over a transport to such a server
-pub record Went (b : Beginning) (limits : Limits) (url : Option (List ℕ)) (moment : DateTime) (x : Connection) (first now : Option Traffic) : Type 0 where
+pub record HasOpenedTo (b : Beginning) (limits : Limits) (url : Option (List ℕ)) (moment : DateTime) (x : Connection) (first now : Option Traffic) : Type 0 where
   pub channel : ClientChannel
   pub opened : ClientPlace
   pub opens : IsOpened channel opened.octets
@@ -112,12 +112,12 @@ pub record Talked (b : Beginning) (limits : Limits) (url : Option (List ℕ)) (m
   pub opened_at : StandsAt channel opened
   pub last : ClientPlace
   pub sent : List ℕ
-  pub course : Course moment opened turns last sent replies
+  pub course : ClientCourse moment opened turns last sent replies
   pub got : List ℕ
   pub carried : IfTrafficKnown (Carries got (opening_octets limits url moment ++ (sent ++ closing_at last moment))) first now
-  pub accepted : AreAccepted (acknowledged b.limits limits url) turns
+  pub accepted : AreAcceptedUnder (acknowledged b.limits limits url) turns
   pub up_is : opening_octets limits url moment ++ (sent ++ closing_at last moment) ≡ conversation_octets b.limits limits url b.channel moment turns
-  pub replied : map (λ (r : Reply). Some r) replies ≡ turns_replies b limits url b.first 1 turns
+  pub replied : map (λ (r : Reply). Some r) replies ≡ replies_to_turns b limits url b.first 1 turns
   pub state_is : state_told b (opening_told b.limits limits url ++ turns_told 1 2 turns) ≡ turns_state b.first b.moment turns
   pub took : last.octets ≡ server_output b (opening_octets limits url moment ++ (sent ++ closing_at last moment))
   pub closes : ServerCloses b.limits b.channel (opening_octets limits url moment ++ (sent ++ closing_at last moment))
@@ -132,7 +132,7 @@ pub record StaysBefore (b : Beginning) (limits : Limits) (url : Option (List ℕ
   pub stays : StaysTalking b limits url moment opened done x first now replies
 
 -- the same for one operation after others
-pub record StaysBehind (b : Beginning) (limits : Limits) (url : Option (List ℕ)) (moment : DateTime) (opened : ClientPlace)
+pub record StaysBehindTurn (b : Beginning) (limits : Limits) (url : Option (List ℕ)) (moment : DateTime) (opened : ClientPlace)
     (before : List (Option (List Request))) (turn : Option (List Request)) (x : Connection) (first now : Option Traffic) (replies : List Reply) : Type 0 where
   pub done : List (Option (List Request))
   pub done_is : IsDoneOf before turn done

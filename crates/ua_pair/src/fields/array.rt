@@ -2,7 +2,7 @@
 
 ghost use Rattle.std.specs.Prelude.{◌≡◌, ◌++◌, map, string_bytes, OnOk};
 ghost use Rattle.std.specs.Fmt.{decimal};
-ghost use Rattle.ua_pair.specs.Tree.{AreElementsBehind, IsBehind, array, elements, elements_of, line};
+ghost use Rattle.ua_pair.specs.Tree.{AreElementsBehind, IsBehind, array, elements, tree_elements, line};
 
 use crate::fields::lines::{Lines, Place, deeper_margin, push_line, push_start};
 use std::alloc::{AllocError, Global};
@@ -17,7 +17,7 @@ fn push_elements<T: Lines>(
     items: &[T],
 ) -> Result<(), AllocError>
     ensures { OnOk result (AreElementsBehind place.entry.style place.entry.margin.now place.entry.path.now 0
-        (string_bytes out.old) (elements_of (map T.tree items.now)) (string_bytes out.new)) }
+        (string_bytes out.old) (tree_elements (map T.tree items.now)) (string_bytes out.new)) }
 {
     for (index, item) in items.iter().enumerate() {
         place.push_element(alloc, out, index, item)?;
@@ -44,7 +44,7 @@ fn push_items<T: Lines>(
     items: &[T],
 ) -> Result<(), AllocError>
     ensures { OnOk result (IsBehind place.entry.style place.entry.margin.now place.entry.path.now (string_bytes out.old)
-        (array (elements (elements_of (map T.tree items.now)))) (string_bytes out.new)) }
+        (array (elements (tree_elements (map T.tree items.now)))) (string_bytes out.new)) }
 {
     push_count(out, place, items.len())?;
     let margin = deeper_margin(alloc, place.margin)?;

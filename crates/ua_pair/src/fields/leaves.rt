@@ -51,9 +51,9 @@ fn push_text_line<T: Text>(
 }
 
 impl<T: Text> Lines for Option<T> {
-    ghost use Rattle.ua_pair.specs.Leaves.{optional};
+    ghost use Rattle.ua_pair.specs.Leaves.{optional_tree};
 
-    ghost tree = { optional T.leaf };
+    ghost tree = { optional_tree T.leaf };
 
     fn push_lines(&self, alloc: Global, out: &mut String, place: Place) -> Result<(), AllocError> {
         match self {
@@ -113,9 +113,9 @@ impl Text for bool {
 }
 
 impl Lines for bool {
-    ghost use Rattle.ua_pair.specs.Leaves.{boolean};
+    ghost use Rattle.ua_pair.specs.Leaves.{boolean_tree};
 
-    ghost tree = { boolean };
+    ghost tree = { boolean_tree };
 
     fn push_lines(&self, alloc: Global, out: &mut String, place: Place) -> Result<(), AllocError> {
         push_text_line(alloc, out, place, self)
@@ -138,9 +138,9 @@ impl Text for u8 {
 }
 
 impl Lines for u8 {
-    ghost use Rattle.ua_pair.specs.Leaves.{number};
+    ghost use Rattle.ua_pair.specs.Leaves.{number_tree};
 
-    ghost tree = { number };
+    ghost tree = { number_tree };
 
     fn push_lines(&self, alloc: Global, out: &mut String, place: Place) -> Result<(), AllocError> {
         push_text_line(alloc, out, place, self)
@@ -163,9 +163,9 @@ impl Text for u32 {
 }
 
 impl Lines for u32 {
-    ghost use Rattle.ua_pair.specs.Leaves.{number};
+    ghost use Rattle.ua_pair.specs.Leaves.{number_tree};
 
-    ghost tree = { number };
+    ghost tree = { number_tree };
 
     fn push_lines(&self, alloc: Global, out: &mut String, place: Place) -> Result<(), AllocError> {
         push_text_line(alloc, out, place, self)
@@ -188,9 +188,9 @@ impl Text for i32 {
 }
 
 impl Lines for i32 {
-    ghost use Rattle.ua_pair.specs.Leaves.{signed};
+    ghost use Rattle.ua_pair.specs.Leaves.{signed_tree};
 
-    ghost tree = { signed };
+    ghost tree = { signed_tree };
 
     fn push_lines(&self, alloc: Global, out: &mut String, place: Place) -> Result<(), AllocError> {
         push_text_line(alloc, out, place, self)
@@ -246,9 +246,9 @@ impl Text for DateTime {
 }
 
 impl Lines for DateTime {
-    ghost use Rattle.ua_pair.specs.Leaves.{date_time};
+    ghost use Rattle.ua_pair.specs.Leaves.{date_time_tree};
 
-    ghost tree = { date_time };
+    ghost tree = { date_time_tree };
 
     fn push_lines(&self, alloc: Global, out: &mut String, place: Place) -> Result<(), AllocError> {
         push_text_line(alloc, out, place, self)
@@ -271,9 +271,9 @@ impl Text for StatusCode {
 }
 
 impl Lines for StatusCode {
-    ghost use Rattle.ua_pair.specs.Leaves.{status_code};
+    ghost use Rattle.ua_pair.specs.Leaves.{status_code_tree};
 
-    ghost tree = { status_code };
+    ghost tree = { status_code_tree };
 
     fn push_lines(&self, alloc: Global, out: &mut String, place: Place) -> Result<(), AllocError> {
         push_text_line(alloc, out, place, self)
@@ -296,9 +296,9 @@ impl Text for UaString {
 }
 
 impl Lines for UaString {
-    ghost use Rattle.ua_pair.specs.Leaves.{string};
+    ghost use Rattle.ua_pair.specs.Leaves.{string_tree};
 
-    ghost tree = { string };
+    ghost tree = { string_tree };
 
     fn push_lines(&self, alloc: Global, out: &mut String, place: Place) -> Result<(), AllocError> {
         push_text_line(alloc, out, place, self)
@@ -321,9 +321,9 @@ impl Text for UaBytes {
 }
 
 impl Lines for UaBytes {
-    ghost use Rattle.ua_pair.specs.Leaves.{byte_string};
+    ghost use Rattle.ua_pair.specs.Leaves.{byte_string_tree};
 
-    ghost tree = { byte_string };
+    ghost tree = { byte_string_tree };
 
     fn push_lines(&self, alloc: Global, out: &mut String, place: Place) -> Result<(), AllocError> {
         push_text_line(alloc, out, place, self)
@@ -346,9 +346,9 @@ impl Text for NodeId {
 }
 
 impl Lines for NodeId {
-    ghost use Rattle.ua_pair.specs.Leaves.{node_id};
+    ghost use Rattle.ua_pair.specs.Leaves.{node_id_tree};
 
-    ghost tree = { node_id };
+    ghost tree = { node_id_tree };
 
     fn push_lines(&self, alloc: Global, out: &mut String, place: Place) -> Result<(), AllocError> {
         push_text_line(alloc, out, place, self)
@@ -377,9 +377,9 @@ impl Text for QualifiedName {
 }
 
 impl Lines for QualifiedName {
-    ghost use Rattle.ua_pair.specs.Leaves.{qualified_name};
+    ghost use Rattle.ua_pair.specs.Leaves.{qualified_name_tree};
 
-    ghost tree = { qualified_name };
+    ghost tree = { qualified_name_tree };
 
     fn push_lines(&self, alloc: Global, out: &mut String, place: Place) -> Result<(), AllocError> {
         push_text_line(alloc, out, place, self)
@@ -408,9 +408,9 @@ impl Text for LocalizedText {
 }
 
 impl Lines for LocalizedText {
-    ghost use Rattle.ua_pair.specs.Leaves.{localized_text};
+    ghost use Rattle.ua_pair.specs.Leaves.{localized_text_tree};
 
-    ghost tree = { localized_text };
+    ghost tree = { localized_text_tree };
 
     fn push_lines(&self, alloc: Global, out: &mut String, place: Place) -> Result<(), AllocError> {
         push_text_line(alloc, out, place, self)
@@ -465,9 +465,9 @@ impl Text for ExtensionObject {
 }
 
 impl Lines for ExtensionObject {
-    ghost use Rattle.ua_pair.specs.Leaves.{extension_object};
+    ghost use Rattle.ua_pair.specs.Leaves.{extension_object_tree};
 
-    ghost tree = { extension_object };
+    ghost tree = { extension_object_tree };
 
     fn push_lines(&self, alloc: Global, out: &mut String, place: Place) -> Result<(), AllocError> {
         push_text_line(alloc, out, place, self)

@@ -5,12 +5,12 @@ ghost use Rattle.std.specs.List.{list_any};
 ghost use Rattle.ua_exchange.specs.Accepted.{AreAccepted};
 ghost use Rattle.ua_exchange.specs.Exchanged.{IsRefusedFor, down_octets};
 ghost use Rattle.ua_exchange.specs.Turns.{up_octets};
-ghost use Rattle.ua_session.specs.Conversed.{Converses};
-ghost use Rattle.ua_session.specs.ScriptFaults.{Stops, place_in};
+ghost use Rattle.ua_session.specs.Conversed.{ConversesByScript};
+ghost use Rattle.ua_session.specs.ScriptFaults.{StopsScriptLines, place_in};
 ghost use Rattle.ua_session.specs.ScriptPrinted.{AreLoopLines, IsTextOf, told_fault};
 ghost use Rattle.ua_session.specs.ScriptPrinted.{is_bad_reply, script_has_bad, script_told};
 ghost use Rattle.ua_session.specs.Script.{script_moment, script_turns as turns_of_script};
-ghost use Rattle.ua_nodes.specs.Sound.{IsSound};
+ghost use Rattle.ua_nodes.specs.Sound.{AreNodesSound};
 
 use crate::answer::is_bad_response;
 use crate::looping::fault::LoopFault;
@@ -54,7 +54,7 @@ fn turn_in(fault: PairFault) -> Option<usize>
 
 /// Why the client operations of a script are not run.
 fn stopped_by(fault: PairFault, lines: &[ScriptLine]) -> LoopFault
-    ensures { IsRefusedFor (turns_of_script lines.now) fault → Stops lines.now result }
+    ensures { IsRefusedFor (turns_of_script lines.now) fault → StopsScriptLines lines.now result }
 {
     let Some(index) = turn_in(fault) else {
         return LoopFault::NoMemory;
@@ -73,8 +73,8 @@ fn converse(
     lines: &[ScriptLine],
     cut: u16,
 ) -> Result<Transcript, LoopFault>
-    requires sound { IsSound nodes }
-    ensures { Converses nodes lines.now result }
+    requires sound { AreNodesSound nodes }
+    ensures { ConversesByScript nodes lines.now result }
 {
     let turns = script_turns(alloc, lines)?;
     let cuts = [usize::from(cut)];
@@ -125,9 +125,9 @@ pub fn run_lines(
     names: bool,
     plain: bool,
 ) -> Result<Looped, LoopFault>
-    requires sound { IsSound nodes }
+    requires sound { AreNodesSound nodes }
     ensures accepted { IfOk result (λ l. AreAccepted (turns_of_script lines.now)) }
-    ensures refused { IfErr result (λ fault. Stops lines.now fault) }
+    ensures refused { IfErr result (λ fault. StopsScriptLines lines.now fault) }
     ensures up { IfOk result (λ l. l.up.items ≡ up_octets script_moment (turns_of_script lines.now)) }
     ensures down { IfOk result (λ l. l.down.items ≡ down_octets nodes script_moment (turns_of_script lines.now)) }
     ensures text { IfOk result (λ l. IsTextOf plain names (script_told names nodes lines.now) (string_bytes l.text)) }

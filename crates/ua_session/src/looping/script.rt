@@ -4,7 +4,7 @@ ghost use Rattle.std.specs.Prelude.{◌≡◌, ◌+◌, ◌∷◌, [], min, IfOk
 ghost use Rattle.ua_channel.specs.ClientAsks.{no_id};
 ghost use Rattle.ua_exchange.specs.declared.turn.Turn.TheVariants.{Ask};
 ghost use Rattle.ua_session.specs.ScriptFaults.{Unread};
-ghost use Rattle.ua_session.specs.Script.{opening, read_of_node, script_turns as turns_of_script};
+ghost use Rattle.ua_session.specs.Script.{session_opening_turns, read_of_node, script_turns as turns_of_script};
 ghost use Rattle.ua_session.specs.Script.{step_turn as turn_of_step, token as own_token, write_to_node};
 ghost use Rattle.ua_texts.specs.Script.{AsksFor};
 
@@ -97,7 +97,7 @@ fn step_turn(alloc: Global, step: &Step, handle: u32) -> Result<Turn, AllocError
 
 /// The client operations that begin the session.
 fn opening_turns(alloc: Global) -> Result<Vec<Turn>, AllocError>
-    ensures { IfOk result (λ turns. turns.items ≡ opening) }
+    ensures { IfOk result (λ turns. turns.items ≡ session_opening_turns) }
 {
     let mut turns = Vec::new(alloc);
     let create = create_session_request(alloc, local_url(alloc, PORT)?, MOMENT, 2)?;

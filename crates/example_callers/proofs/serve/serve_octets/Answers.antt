@@ -1,6 +1,6 @@
 use Rattle.std.proofs.Common.{Err, ◌++◌, ◌≤◌, List, ℕ, length, drop, refl, sym, subst, ◌∙◌, ap, arith, length-drop}
 use Rattle.std.proofs.lemmas.List.{take_rest}
-use Rattle.example_callers.specs.Serve.{BreaksOff}
+use Rattle.example_callers.specs.Serve.{BreaksOffServing}
 use Rattle.example_callers.proofs.Pieces.{not_pushed, pushed}
 use Rattle.example_callers.proofs.Serving.{all_answers, all_ends, all_leaves, broken, ended_answers, ended_ends, ended_leaves}
 use Rattle.example_callers.proofs.Serving.{lost_then, says_ended, served_more, served_none, takes_none, takes_some}
@@ -23,7 +23,7 @@ returns-in-Err-clause-memory c = λ b before serves dated.
 
 pub returns-then-is_err-clause-breaks : goal.returns-then-is_err-clause-breaks
 returns-then-is_err-clause-breaks c = λ b before serves dated.
-    subst (λ (o : List ℕ). BreaksOff b before (before ++ c.args.octets.now) c.args.out.now.items o c.step.new.services)
+    subst (λ (o : List ℕ). BreaksOffServing b before (before ++ c.args.octets.now) c.args.out.now.items o c.step.new.services)
     (sym (not_pushed _ _ _ _ c.if-is_err.ensures.value c.extend_from_slice.ensures.items))
     (lost_then c.args.moment c.args.octets.now c.args.server.now c.args.services.now c.loop-at.server c.step.new.self c.loop-at.services c.step.new.services
     c.loop-at.at c.args.out.now.items c.loop-at.out.items c.loop-at.invariant.0

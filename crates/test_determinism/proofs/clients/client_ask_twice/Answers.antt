@@ -2,7 +2,7 @@ use Rattle.std.proofs.Common.{List, ℕ, [], ◌≡◌}
 use Rattle.ua_channel.specs.Asks.{Placed}
 use Rattle.ua_channel.specs.Asks.Asking.{Call}
 use Rattle.ua_channel.specs.Client.{phase_of, client_next, call_refused, SendsCall}
-use Rattle.ua_channel.specs.ClientTokens.{responses}
+use Rattle.ua_channel.specs.ClientTokens.{open_responses}
 use Rattle.ua_channel.specs.ClientTold.{ClientTold}
 use Rattle.ua_channel.specs.Received.{received}
 use Rattle.ua_channel.specs.declared.client.fault.AskFault.TheVariants.{OutOfMemory}
@@ -13,7 +13,7 @@ use Rattle.test_determinism.proofs.clients.client_ask_twice.Goals as goal
 
 phases : (c : goal.After-ask-second) (asks : List Placed) (octets : List ℕ) (told : List ClientTold)
     → ClientsAlike c.args.one.now c.args.two.now asks octets told → SamePhase (phase_of c.args.one.now) (phase_of c.args.two.now)
-phases c asks octets told s = alike_phases (λ frames. responses (received frames).openings ≡ []) _ _ asks octets told s
+phases c asks octets told s = alike_phases (λ frames. open_responses (received frames).openings ≡ []) _ _ asks octets told s
     (λ z frames rest stands. c.client_is_open.ensures.stands z asks octets frames rest stands)
 
 once : (c : goal.After-ask-second) (asks : List Placed) (octets : List ℕ) (told : List ClientTold) → ClientsAlike c.args.one.now c.args.two.now asks octets told

@@ -1,7 +1,7 @@
 use Rattle.std.proofs.Common.{List, ℕ, [], ◌≡◌}
 use Rattle.ua_channel.specs.Asks.{Placed}
 use Rattle.ua_channel.specs.Client.{phase_of}
-use Rattle.ua_channel.specs.ClientTokens.{responses}
+use Rattle.ua_channel.specs.ClientTokens.{open_responses}
 use Rattle.ua_channel.specs.ClientTold.{ClientTold}
 use Rattle.ua_channel.specs.Received.{received}
 use Rattle.test_determinism.specs.Clients.{ClientsAlike}
@@ -10,7 +10,7 @@ use Rattle.test_determinism.proofs.clients.client_judge_twice.Goals as goal
 
 phases : (c : goal.After-judge-second) (asks : List Placed) (octets : List ℕ) (told : List ClientTold)
     → ClientsAlike c.args.one.now c.args.two.now asks octets told → SamePhase (phase_of c.args.one.now) (phase_of c.args.two.now)
-phases c asks octets told s = alike_phases (λ frames. responses (received frames).openings ≡ []) _ _ asks octets told s
+phases c asks octets told s = alike_phases (λ frames. open_responses (received frames).openings ≡ []) _ _ asks octets told s
     (λ z frames rest stands. c.client_is_open.ensures.stands z asks octets frames rest stands)
 
 pub returns : goal.returns

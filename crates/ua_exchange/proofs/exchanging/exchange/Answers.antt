@@ -3,7 +3,7 @@ use Rattle.ua_exchange.specs.Exchanged.{IsRefusedFor}
 use Rattle.ua_exchange.specs.Programs.{begun_over}
 use Rattle.ua_exchange.specs.declared.turn.Turn.{Turn}
 use Rattle.ua_exchange.specs.inside.Conversed.{IsConversed}
-use Rattle.ua_exchange.specs.inside.Counting.{front_of}
+use Rattle.ua_exchange.specs.inside.Counting.{turns_before}
 use Rattle.ua_exchange.proofs.Conversed.{accepted-turns, all-conversed, down-all, front-conversed, handed-all}
 use Rattle.ua_exchange.proofs.Conversed.{refused-crowded, refused-turn, replies-all, served-fault, services-all, up-all}
 use Rattle.ua_exchange.proofs.exchanging.exchange.Goals as goal
@@ -12,7 +12,7 @@ pub from_client-requires : goal.from_client-requires
 from_client-requires c =
     let first = begun_over c.args.table in
     let k = subst (λ (ts : List Turn). IsConversed first c.args.moment ts c.in_ok-found.found) c.front-asked.ensures c.in_ok-found.ensures in
-    served-fault first c.args.moment (front_of c.find_crowded-crowded.result c.args.turns.now) c.in_ok-found.found c.in-Err.fault k c.in-Err.is
+    served-fault first c.args.moment (turns_before c.find_crowded-crowded.result c.args.turns.now) c.in_ok-found.found c.in-Err.fault k c.in-Err.is
 
 pub returns-in-Err-clause-refused : goal.returns-in-Err-clause-refused
 returns-in-Err-clause-refused c =

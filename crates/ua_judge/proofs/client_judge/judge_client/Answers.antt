@@ -1,7 +1,7 @@
 use Rattle.std.proofs.Common.{[], arith, subst}
 use Rattle.std.proofs.lemmas.List.{take_all}
 use Rattle.ua_channel.specs.ServerRules.{server_rules}
-use Rattle.ua_judge.specs.Verdicts.{GoOn}
+use Rattle.ua_judge.specs.Verdicts.{GoOnFaultless}
 use Rattle.ua_judge.proofs.ServerTakes.{on_end, server_decides, server_follows}
 use Rattle.ua_judge.proofs.client_judge.judge_client.Goals as goal
 
@@ -36,5 +36,5 @@ returns-in-Some c =
 
 pub returns : goal.returns
 returns c =
-    subst (GoOn (server_rules c.args.limits c.args.channel)) (take_all c.loop-at.at c.args.octets.now c.loop-at-test.false)
+    subst (GoOnFaultless (server_rules c.args.limits c.args.channel)) (take_all c.loop-at.at c.args.octets.now c.loop-at-test.false)
     (on_end c.args.limits c.args.channel c.loop-at.server _ c.loop-at.invariant.follows)

@@ -1,6 +1,6 @@
 use Rattle.std.proofs.Common.{◌≡◌, ◌∙◌, ℕ, List, map, ap, subst}
 use Rattle.std.proofs.lemmas.Result.{IfOk-weaker}
-use Rattle.ua_judge.specs.Judged.{channel_of, token_name}
+use Rattle.ua_judge.specs.Judged.{channel_of_openings, token_name}
 use Rattle.ua_judge.specs.Renumbered.{IsRenumbered}
 use Rattle.ua_judge.specs.Verdicts.{IsClientVerdict}
 use Rattle.ua_judge.specs.declared.field.Field.TheVariants.{Token}
@@ -11,8 +11,8 @@ pub returns : goal.returns
 returns c =
     let names : c.in_ok-names.names.items ≡ map token_name c.in_ok-openings.openings.items = c.in_ok-names.ensures
     ∙ ap (map token_name) c.as_slice.ensures.value in
-    let channel : c.channel_of-channel.result ≡ channel_of c.in_ok-openings.openings.items = c.channel_of-channel.ensures
-    ∙ ap channel_of c.as_slice-3.ensures.value in
+    let channel : c.channel_of-channel.result ≡ channel_of_openings c.in_ok-openings.openings.items = c.channel_of-channel.ensures
+    ∙ ap channel_of_openings c.as_slice-3.ensures.value in
     IfOk-weaker c.judge_client.result _ _
     (λ verdict is. record {
       openings = c.in_ok-openings.openings.items;

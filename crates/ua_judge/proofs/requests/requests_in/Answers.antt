@@ -1,7 +1,7 @@
 use Rattle.std.proofs.Common.{◌∙◌, ap, ◌++◌, ℕ}
 use Rattle.std.specs.Prelude.{option_to_list}
 use Rattle.ua_judge.specs.RawFrames.{id_place}
-use Rattle.ua_judge.specs.Requests.{request_at}
+use Rattle.ua_judge.specs.Requests.{request_behind_id}
 use Rattle.ua_judge.proofs.Begins.{end_place, sent_all, sent_more, sent_none, sent_shorter}
 use Rattle.ua_judge.proofs.requests.requests_in.Goals as goal
 
@@ -17,7 +17,7 @@ loop-frame-preserved c =
     c.loop-frame.begun.items c.push_request.new.begun.items s
     c.in-Some.ensures.0 c.in-Some.ensures.1
     (c.in_ok-push_request.ensures.sends s.frames s.begun_are
-    ∙ ap (λ (n : ℕ). c.loop-frame.requests.items ++ option_to_list (request_at s.frames n (id_place c.in-Some.frame.now) c.in-Some.frame.now)) place)
+    ∙ ap (λ (n : ℕ). c.loop-frame.requests.items ++ option_to_list (request_behind_id s.frames n (id_place c.in-Some.frame.now) c.in-Some.frame.now)) place)
     (c.in_ok-push_request.ensures.begun s.frames s.begun_are)
 
 pub returns : goal.returns

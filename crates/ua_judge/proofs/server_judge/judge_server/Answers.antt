@@ -3,7 +3,7 @@ use Rattle.ua_wire.specs.Counted.{counted, text}
 use Rattle.std.proofs.lemmas.Result.{IfOk-weaker}
 use Rattle.ua_frame.proofs.Afters.{AllAfter-nil}
 use Rattle.ua_frame.specs.declared.limits.Limits.{Limits}
-use Rattle.ua_judge.specs.Verdicts.{IsSent, IsVerdictOn, asks_of}
+use Rattle.ua_judge.specs.Verdicts.{IsSent, IsVerdictOn, named_asks_of}
 use Rattle.ua_judge.proofs.ClientTakes.{fit_none}
 use Rattle.ua_judge.proofs.Sending.{decided_by, each_sent, follows_sent, leaves_first, leaves_none, place_sent, sent_by}
 use Rattle.ua_judge.proofs.server_judge.judge_server.Goals as goal
@@ -53,10 +53,10 @@ returns c =
       sent = i;
       each = c.loop-request.invariant.each;
       leaves = leaves_none c.args.limits c.args.requests.now c.args.octets.now c.args.requests.now i verdict (omega (arith, c.loop-request-test.false)) is.0;
-      is = subst (λ (l : Limits). IsVerdictOn l (asks_of (take i c.args.requests.now)) c.args.requests.now c.args.octets.now verdict)
+      is = subst (λ (l : Limits). IsVerdictOn l (named_asks_of (take i c.args.requests.now)) c.args.requests.now c.args.octets.now verdict)
           c.loop-request.invariant.limits is.1;
     })
-    (c.finish.ensures (asks_of (take i c.args.requests.now)) c.loop-request.invariant.follows)
+    (c.finish.ensures (named_asks_of (take i c.args.requests.now)) c.loop-request.invariant.follows)
 
 pub new-client-requires : goal.new-client-requires
 unfolding text counted

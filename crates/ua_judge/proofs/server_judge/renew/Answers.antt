@@ -3,7 +3,7 @@ use Rattle.ua_builtin.specs.Reasons.{first_reason}
 use Rattle.ua_channel.specs.Asks.Asking.{Renewal}
 use Rattle.ua_channel.specs.Client.{ClientStands}
 use Rattle.ua_channel.specs.declared.client.channel.ClientChannel.{ClientChannel}
-use Rattle.ua_judge.specs.Verdicts.{Follows, asking_reasons}
+use Rattle.ua_judge.specs.Verdicts.{GoesOnAfter, asking_reasons}
 use Rattle.ua_judge.proofs.ClientTakes.{judged_so}
 use Rattle.ua_judge.proofs.server_judge.renew.Goals as goal
 
@@ -28,7 +28,7 @@ returns-in-Ok-clause-judged c = λ requests asks octets s. (
 )
 
 pub returns-in-Err-clause-asks : goal.returns-in-Err-clause-asks
-returns-in-Err-clause-asks c = λ requests asks octets s. subst (λ (x : ClientChannel). Follows requests x asks octets) (sym c.in-Err.ensures.unchanged) s
+returns-in-Err-clause-asks c = λ requests asks octets s. subst (λ (x : ClientChannel). GoesOnAfter requests x asks octets) (sym c.in-Err.ensures.unchanged) s
 
 pub returns-in-Err-clause-judged : goal.returns-in-Err-clause-judged
 returns-in-Err-clause-judged c = λ requests asks octets s. (

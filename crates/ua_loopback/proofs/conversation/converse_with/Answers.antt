@@ -1,7 +1,7 @@
 use Rattle.std.proofs.Common.{◌≡◌, ◌<◌, Fits, FitsSigned, List, ap, length, map, rules, subst, w32, w64, ℕ}
 use Rattle.ua_client.specs.Hearing.{most_reads}
 use Rattle.ua_loopback.specs.Kept.{Served}
-use Rattle.ua_loopback.specs.inside.Talking.{CanOpen}
+use Rattle.ua_loopback.specs.inside.Talking.{CanOpenTo}
 use Rattle.ua_loopback.proofs.Failing.{ok_told}
 use Rattle.ua_loopback.proofs.Fitting.{can_open}
 use Rattle.ua_loopback.proofs.Outcomes.{Ran, told_accepted, told_before, told_closed, told_converses, told_ends, told_fails, told_heard}
@@ -10,7 +10,7 @@ use Rattle.ua_loopback.proofs.conversation.converse_with.Given.{Over as Given}
 use Rattle.ua_loopback.proofs.conversation.converse_with.Goals as goal
 
 able : (g : Given) (c : goal.After-outcome_at-told g)
-    → CanOpen (record { limits = c.args.limits; channel = c.args.channel_id; first = c.args.services; moment = c.args.moment })
+    → CanOpenTo (record { limits = c.args.limits; channel = c.args.channel_id; first = c.args.services; moment = c.args.moment })
     c.args.limits c.args.url c.args.moment
 able g c =
     let dated : FitsSigned w64 c.args.moment.ticks = search rules in

@@ -1,7 +1,7 @@
 use Rattle.std.proofs.Common.{◌+◌, ◌∙◌, ℕ, Err, ap, map, refl, subst, sym, take}
 use Rattle.ua_client.specs.Hearing.{failures_behind}
 use Rattle.ua_client.specs.Client.{connection_of}
-use Rattle.ua_loopback.specs.Accepted.{FirstRefused, acknowledged}
+use Rattle.ua_loopback.specs.Accepted.{FirstRefusedUnder, acknowledged}
 use Rattle.ua_loopback.specs.inside.Talking.{StaysBefore}
 use Rattle.ua_loopback.proofs.Courses.{before_next, fails_next, refused_next, taken_all, taken_more, taken_none}
 use Rattle.ua_loopback.proofs.conversation.take_turns.Goals as goal
@@ -32,7 +32,7 @@ returns-clause-stays g c =
 
 pub returns-in-Err-clause-refused : goal.returns-in-Err-clause-refused
 returns-in-Err-clause-refused g c = λ reason b limits url opened first s.
-    subst (λ (n : ℕ). FirstRefused (acknowledged b.limits limits url) (map g.T.AsOperation.turn c.args.turns.now) n c.in-Err.fault)
+    subst (λ (n : ℕ). FirstRefusedUnder (acknowledged b.limits limits url) (map g.T.AsOperation.turn c.args.turns.now) n c.in-Err.fault)
     (sym c.loop-turn.invariant.1)
     (refused_next g.T.AsOperation.turn c.args.moment c.args.turns.now c.loop-turn.turn-index c.args.client.now c.loop-turn.client
     (g.L.Line.traffic c.args.line.now) (g.L.Line.traffic c.loop-turn.line) c.args.replies.now.items c.loop-turn.replies.items c.turn-item.result

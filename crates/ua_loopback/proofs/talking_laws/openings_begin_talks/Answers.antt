@@ -2,13 +2,13 @@ use Rattle.std.proofs.Common.{Fits, FitsSigned, IsTrue, List, Option, rules, w32
 use Rattle.ua_wire.specs.Counted.{text}
 use Rattle.ua_loopback.specs.Beginning.{Beginning}
 use Rattle.ua_loopback.specs.Talking.{CanBegin}
-use Rattle.ua_loopback.specs.inside.Talking.{CanOpen}
+use Rattle.ua_loopback.specs.inside.Talking.{CanOpenTo}
 use Rattle.ua_loopback.proofs.Calling.{opens_fails, opens_stop, opens_talk}
 use Rattle.ua_loopback.proofs.Fitting.{can_open_to}
 use Rattle.ua_loopback.proofs.talking_laws.openings_begin_talks.Goals as goal
 
 able : (c : goal.After-clients_are_settled) (b : Beginning) (url : Option (List ℕ)) → IsTrue (text.encodable url) → CanBegin b
-    → CanOpen b c.args.limits url c.args.moment
+    → CanOpenTo b c.args.limits url c.args.moment
 able c b url fits can =
     let dated : FitsSigned w64 c.args.moment.ticks = search rules in
     let receive : Fits w32 c.args.limits.receive_buffer_size = search rules in

@@ -1,6 +1,6 @@
 use Rattle.std.proofs.Common.{◌≡◌, ◌++◌, ◌⊎◌, ◌∙◌, [], ℕ, List, Option, Some, None, take, refl, sym, ap, subst, string_bytes, arith}
 use Rattle.std.proofs.lemmas.Result.{err_from_is_err_and}
-use Rattle.ua_program.specs.Dissects.{Reads, StopsLast}
+use Rattle.ua_program.specs.Dissects.{ReadsIntoFragment, StopsLast}
 use Rattle.ua_program.specs.declared.output.Stop.{Stop}
 use Rattle.ua_program.proofs.Readings.{at_end_none, last_stops, never_left, none_plain, nothing_read, prints_last, prints_refused, reason_left, stops_next}
 use Rattle.ua_program.proofs.dissect.print_next.Goals as goal
@@ -10,7 +10,7 @@ returns-in_err-print_last-clause-stopped g c = λ content told s.
     let asked = c.args.asked.now in
     let known = g.I.Read.remaining c.args.source.now in
     let after = g.I.Read.remaining c.read_piece.new.source in
-    let read : Reads (Some c.in-Some.n) known after c.read_piece.new.piece = subst (λ (n : Option ℕ). Reads n known after c.read_piece.new.piece) c.in-Some.is
+    let read : ReadsIntoFragment (Some c.in-Some.n) known after c.read_piece.new.piece = subst (λ (n : Option ℕ). ReadsIntoFragment n known after c.read_piece.new.piece) c.in-Some.is
     c.in_ok-n.ensures.read in
     let none = nothing_read c.in-Some.n known after c.read_piece.new.piece read c.if-n-eq0.true
     (let was = c.requires.room in let same = c.read_piece.auto.piece in omega (arith, was, same)) in
@@ -24,7 +24,7 @@ returns-then-n-eq0-clause-prints g c = λ content told s.
     let asked = c.args.asked.now in
     let known = g.I.Read.remaining c.args.source.now in
     let after = g.I.Read.remaining c.read_piece.new.source in
-    let read : Reads (Some c.in-Some.n) known after c.read_piece.new.piece = subst (λ (n : Option ℕ). Reads n known after c.read_piece.new.piece) c.in-Some.is
+    let read : ReadsIntoFragment (Some c.in-Some.n) known after c.read_piece.new.piece = subst (λ (n : Option ℕ). ReadsIntoFragment n known after c.read_piece.new.piece) c.in-Some.is
     c.in_ok-n.ensures.read in
     let none = nothing_read c.in-Some.n known after c.read_piece.new.piece read c.if-n-eq0.true
     (let was = c.requires.room in let same = c.read_piece.auto.piece in omega (arith, was, same)) in
@@ -38,7 +38,7 @@ returns-in_err-push_piece-clause-stopped g c = λ content told s.
     let asked = c.args.asked.now in
     let known = g.I.Read.remaining c.args.source.now in
     let after = g.I.Read.remaining c.read_piece.new.source in
-    let read : Reads (Some c.in-Some.n) known after c.read_piece.new.piece = subst (λ (n : Option ℕ). Reads n known after c.read_piece.new.piece) c.in-Some.is
+    let read : ReadsIntoFragment (Some c.in-Some.n) known after c.read_piece.new.piece = subst (λ (n : Option ℕ). ReadsIntoFragment n known after c.read_piece.new.piece) c.in-Some.is
     c.in_ok-n.ensures.read in
     let p = err_from_is_err_and c.from_residual-in_err-push_piece.result c.from_residual-in_err-push_piece.ensures.1 in
     rw p.1 (stops_next asked.hex asked.file content known c.in_err-push_piece.field-0.0 p.0 p.2
@@ -51,7 +51,7 @@ returns-then-done-clause-prints g c = λ content told s.
     let known = g.I.Read.remaining c.args.source.now in
     let after = g.I.Read.remaining c.read_piece.new.source in
     let piece = take c.in-Some.n c.read_piece.new.piece in
-    let read : Reads (Some c.in-Some.n) known after c.read_piece.new.piece = subst (λ (n : Option ℕ). Reads n known after c.read_piece.new.piece) c.in-Some.is
+    let read : ReadsIntoFragment (Some c.in-Some.n) known after c.read_piece.new.piece = subst (λ (n : Option ℕ). ReadsIntoFragment n known after c.read_piece.new.piece) c.in-Some.is
     c.in_ok-n.ensures.read in
     prints_refused _ asked.hex asked.options c.push_piece.new.digits.half c.push_piece.new.dissector content piece told (string_bytes c.clear.new.self)
     (string_bytes c.push_piece.new.text)

@@ -1,7 +1,7 @@
 use Rattle.std.proofs.Common.{◌≡◌, ◌∷◌, [], List, length, refl, sym, ap, subst, ◌∙◌, map, arith}
 use Rattle.std.specs.Vec.Iter.{into_iter_items}
 use Rattle.ua_node_files.specs.Changed.{entry_of}
-use Rattle.ua_nodes.specs.Sound.{IsSound}
+use Rattle.ua_nodes.specs.Sound.{AreNodesSound}
 use Rattle.ua_nodes.specs.declared.node.Node.{Node}
 use Rattle.ua_program.proofs.Lives.{on_err, taken_all, taken_more, taken_some}
 use Rattle.ua_program.proofs.live.put_all.Goals as goal
@@ -16,7 +16,7 @@ loop-node-preserved c =
     let rest = into_iter_items c.next.new.self in
     let node = c.in-Some.node in
     let steps : into_iter_items at.node-iterator ≡ node ∷ rest = c.in-Some.ensures.steps.0 in
-    let sound : IsSound (map entry_of (node ∷ rest)) = subst (λ (ns : List Node). IsSound (map entry_of ns)) steps at.invariant.sound in
+    let sound : AreNodesSound (map entry_of (node ∷ rest)) = subst (λ (ns : List Node). AreNodesSound (map entry_of ns)) steps at.invariant.sound in
     record {
       taken = taken_more _ _ _ rest node _ _ _ steps at.invariant.taken c.in_ok-put.ensures.put;
       len = let was = at.invariant.len in let gone = c.in-Some.ensures.steps.1 in let short = ap length steps in omega arith;
@@ -26,7 +26,7 @@ loop-node-preserved c =
 pub put-requires : goal.put-requires
 put-requires c =
     let steps = c.in-Some.ensures.steps.0 in
-    let sound = subst (λ (ns : List Node). IsSound (map entry_of ns)) steps c.loop-node.invariant.sound in
+    let sound = subst (λ (ns : List Node). AreNodesSound (map entry_of ns)) steps c.loop-node.invariant.sound in
     record { sound = sound.0 }
 
 pub returns-in_err-put-clause-some : goal.returns-in_err-put-clause-some

@@ -3,7 +3,7 @@ use Rattle.std.proofs.KnownBytes.{Appends-kept}
 use Rattle.std.specs.Fmt.{decimal}
 use Rattle.std.specs.Io.KnownBytes.{Appends}
 use Rattle.std.specs.Prelude.{codes}
-use Rattle.ua_program.specs.Served.{connection_line, no_memory}
+use Rattle.ua_program.specs.Served.{connection_line, no_memory_text}
 use Rattle.ua_program.proofs.Serves.{at_any_ok}
 use Rattle.ua_program.proofs.serve.write_no_memory.Goals as goal
 
@@ -11,7 +11,7 @@ use Rattle.ua_program.proofs.serve.write_no_memory.Goals as goal
 abbrev written : ℕ → List ℕ
 written number = codes "connection " ++ decimal number ++ codes " NoMemory\n"
 
-same_line : (number : ℕ) → written number ≡ connection_line number no_memory
+same_line : (number : ℕ) → written number ≡ connection_line number no_memory_text
 unfolding connection_line
 same_line number = search (rules, append_assoc)
 

@@ -1,5 +1,5 @@
 use Rattle.std.proofs.Common.{arith, [], ℕ, ◌<◌, List, length, refl, sym, subst}
-use Rattle.ua_server.specs.ServingParts.{Keeps}
+use Rattle.ua_server.specs.ServingParts.{OwesNothing}
 use Rattle.ua_server.specs.State.{State, begun}
 use Rattle.ua_server.proofs.Happened.{told-none}
 use Rattle.ua_server.proofs.Handling.{serves-nothing}
@@ -14,7 +14,7 @@ run-requires g c =
 pub returns-in-Ok-clause-serves : goal.returns-in-Ok-clause-serves
 returns-in-Ok-clause-serves g c =
     c.run.ensures.serves c.args.limits c.args.channel_id (begun c.args.services.now, c.args.application.now)
-    (subst (λ (s : State). Keeps g.A.Application.changes c.new-serving.result c.args.limits c.args.channel_id
+    (subst (λ (s : State). OwesNothing g.A.Application.changes c.new-serving.result c.args.limits c.args.channel_id
     (begun c.args.services.now, c.args.application.now) [] [] [] (s, c.args.application.now)) (sym c.begin.ensures)
     (keeps-first g.A.Application.changes c.new-serving.result c.args.limits c.args.channel_id (begun c.args.services.now, c.args.application.now)
     c.new-serving.ensures))
@@ -26,7 +26,7 @@ pub returns-clause-serves : goal.returns-clause-serves
 returns-clause-serves g c =
     serves-nothing g.A.Application.changes c.args.limits c.args.channel_id (begun c.args.services.now, c.args.application.now) g.M.Moments.gives g.W.Watch.notes
     (c.args.moments.now, c.args.watch.now) (g.L.Line.traffic c.args.line.now) c.new-serving.result (c.begin.new.self, c.args.application.now)
-    (subst (λ (s : State). Keeps g.A.Application.changes c.new-serving.result c.args.limits c.args.channel_id
+    (subst (λ (s : State). OwesNothing g.A.Application.changes c.new-serving.result c.args.limits c.args.channel_id
     (begun c.args.services.now, c.args.application.now) [] [] [] (s, c.args.application.now)) (sym c.begin.ensures)
     (keeps-first g.A.Application.changes c.new-serving.result c.args.limits c.args.channel_id (begun c.args.services.now, c.args.application.now)
     c.new-serving.ensures))

@@ -1,7 +1,7 @@
 use Rattle.std.proofs.Common.{ap, ◌∙◌}
 use Rattle.std.proofs.lemmas.Result.{err_from_is_err_and}
 use Rattle.std.specs.Prelude.{Err}
-use Rattle.ua_services.specs.Request.{kind_read, request_read}
+use Rattle.ua_services.specs.Request.{read_as_request, request_read}
 use Rattle.ua_services.specs.declared.request.RequestKind.{RequestKind}
 use Rattle.ua_services.specs.declared.request.RequestKind.TheVariants.{Read}
 use Rattle.ua_services.proofs.RequestRead.{failed}
@@ -23,7 +23,7 @@ returns-in-Read g c =
     let takes = g.T.TakesTypes.takes c.args.types.now in
     let octets = g.S.Source.octets c.args.src.now in
     let rest = g.S.Source.octets c.body_kind.new.src in
-    let is = c.in_ok-kind.ensures.found ∙ ap (λ (k : RequestKind). kind_read k rest) c.in-Read.is in
+    let is = c.in_ok-kind.ensures.found ∙ ap (λ (k : RequestKind). read_as_request k rest) c.in-Read.is in
     let read = whole_is takes Read octets rest c.read_last.result is (λ e. absurd cc) c.read_last.ensures in
     record { read = read; counted = thin_counted takes octets c.read_last.result read }
 
@@ -32,7 +32,7 @@ returns-in-Write g c =
     let takes = g.T.TakesTypes.takes c.args.types.now in
     let octets = g.S.Source.octets c.args.src.now in
     let rest = g.S.Source.octets c.body_kind.new.src in
-    let is = c.in_ok-kind.ensures.found ∙ ap (λ (k : RequestKind). kind_read k rest) c.in-Write.is in
+    let is = c.in_ok-kind.ensures.found ∙ ap (λ (k : RequestKind). read_as_request k rest) c.in-Write.is in
     let read = thin_is takes octets rest c.read_thinned.result is c.read_thinned.ensures in
     record { read = read; counted = thin_counted takes octets c.read_thinned.result read }
 

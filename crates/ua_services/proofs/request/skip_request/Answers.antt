@@ -1,6 +1,6 @@
 use Rattle.std.proofs.lemmas.Result.{err_from_is_err_and}
 use Rattle.std.specs.Prelude.{Err}
-use Rattle.ua_services.specs.Request.{kind_read, request_read}
+use Rattle.ua_services.specs.Request.{read_as_request, request_read}
 use Rattle.ua_services.proofs.RequestRead.{failed}
 use Rattle.ua_services.proofs.RequestSkipped.{body_skipped, skips}
 use Rattle.ua_services.proofs.request.skip_request.Goals as goal
@@ -13,6 +13,6 @@ returns-in_err-kind g c =
 
 pub returns : goal.returns
 returns g c = record {
-  kind = body_skipped c.skip_last.result (request_read (g.S.Source.octets c.args.src.now)) (kind_read c.in_ok-kind.kind (g.S.Source.octets c.body_kind.new.src))
+  kind = body_skipped c.skip_last.result (request_read (g.S.Source.octets c.args.src.now)) (read_as_request c.in_ok-kind.kind (g.S.Source.octets c.body_kind.new.src))
       c.in_ok-kind.ensures.found c.skip_last.ensures;
 }

@@ -1,6 +1,6 @@
 use Rattle.std.proofs.Common.{ap, ap₂, sym, ◌∙◌, arith, ◌&&◌, eqb, map}
 use Rattle.std.proofs.lemmas.Grind.{common_steps}
-use Rattle.ua_variant.specs.Encodable.{kind_of, scalar_fits}
+use Rattle.ua_variant.specs.Encodable.{kind_of_scalar, scalar_fits}
 use Rattle.ua_variant.specs.Judging.{levels_if}
 use Rattle.ua_variant.specs.Measure.{scalars_depth, scalar_depth}
 use Rattle.ua_variant.specs.View.{row, scalar_of, elements_of}
@@ -24,7 +24,7 @@ row_levels_of-returns-then-kind t c =
     (fit_fails c.args.kind c.deref-s-items.result.now c.loop-s.s-index c.s-item.result c.args.items.now (ap (map scalar_of) c.deref-s-items.ensures.value
     ∙ ap elements_of (sym c.in-Mixed.is) ∙ c.elements.ensures) (omega arith) c.s-item.is
     (ap (λ b. b && scalar_fits (scalar_of c.s-item.result))
-    (other_kind (kind_of (scalar_of c.s-item.result)) c.args.kind (λ e. c.if-kind.true (c.kind.ensures ∙ e))))))
+    (other_kind (kind_of_scalar (scalar_of c.s-item.result)) c.args.kind (λ e. c.if-kind.true (c.kind.ensures ∙ e))))))
 
 pub row_levels_of-scalar_levels_of-requires : goal.row_levels_of-scalar_levels_of-requires
 row_levels_of-scalar_levels_of-requires t c = (
@@ -43,7 +43,7 @@ row_levels_of-returns-in-None t c =
     sym (ap (λ b. levels_if b (scalars_depth (row c.args.items.now)))
     (fit_fails c.args.kind c.deref-s-items.result.now c.loop-s.s-index c.s-item.result c.args.items.now (ap (map scalar_of) c.deref-s-items.ensures.value
     ∙ ap elements_of (sym c.in-Mixed.is) ∙ c.elements.ensures) (omega arith) c.s-item.is
-    (and_false (eqb (kind_of (scalar_of c.s-item.result)) c.args.kind) (scalar_fits (scalar_of c.s-item.result)) refused)))
+    (and_false (eqb (kind_of_scalar (scalar_of c.s-item.result)) c.args.kind) (scalar_fits (scalar_of c.s-item.result)) refused)))
 
 pub row_levels_of-loop-s-preserved : goal.row_levels_of-loop-s-preserved
 row_levels_of-loop-s-preserved t c =
@@ -52,6 +52,6 @@ row_levels_of-loop-s-preserved t c =
     record {
       fit = fit_after c.args.kind c.deref-s-items.result.now c.loop-s.s-index c.s-item.result (omega arith) c.s-item.is
           ∙ ap₂ (λ a b. a && b) c.loop-s.invariant.fit
-          (ap₂ (λ a b. a && b) (same_kind (kind_of (scalar_of c.s-item.result)) c.args.kind (sym c.kind.ensures ∙ c.if-kind.false)) found.0);
+          (ap₂ (λ a b. a && b) (same_kind (kind_of_scalar (scalar_of c.s-item.result)) c.args.kind (sym c.kind.ensures ∙ c.if-kind.false)) found.0);
       deepest = grind (arith, common_steps, depth_after c.deref-s-items.result.now c.loop-s.s-index c.s-item.result (omega arith) c.s-item.is, found.1);
     }

@@ -3,7 +3,7 @@ use Rattle.std.specs.Prelude.{ℕ}
 use Rattle.std.proofs.lemmas.Result.{err_from_is_err_and}
 use Rattle.ua_channel.specs.declared.client.event.ClientEvent.{ClientEvent}
 use Rattle.ua_client.specs.Hearing.{Says, failures_behind}
-use Rattle.ua_client.specs.Opening.{is_agreed, open_octets}
+use Rattle.ua_client.specs.Opening.{is_agreed, open_frame_octets}
 use Rattle.ua_client.proofs.Openings.{is_send, not-send, tests-agreed, lacks-first, lacks-more, waits-found, waits-fault}
 use Rattle.ua_client.proofs.connection.Connection.wait_for_opening.Goals as goal
 
@@ -15,7 +15,7 @@ returns-in_err-octets-clause-waits g c =
     let p = err_from_is_err_and c.from_residual.result c.from_residual.ensures.1 in
     rw (p.1, p.2) (waits-fault is_send is_agreed tests-agreed c.args.self.now c.loop-octets.self c.hear.new.self (g.L.Line.traffic c.args.line.now)
     (g.L.Line.traffic c.loop-octets.line) (g.L.Line.traffic c.hear.new.line)
-    c.args.reads.now c.loop-octets.reads c.hear.new.reads c.args.moment c.loop-octets.invariant.lacks (λ octets. octets.items ≡ open_octets c.args.moment)
+    c.args.reads.now c.loop-octets.reads c.hear.new.reads c.args.moment c.loop-octets.invariant.lacks (λ octets. octets.items ≡ open_frame_octets c.args.moment)
     c.in_err-octets.field-0.0 c.in_err-octets.ensures.hears)
 
 pub returns-in_err-octets-clause-failed : goal.returns-in_err-octets-clause-failed
@@ -28,7 +28,7 @@ pub returns-in-Send-clause-waits : goal.returns-in-Send-clause-waits
 returns-in-Send-clause-waits g c =
     waits-found is_send is_agreed tests-agreed c.args.self.now c.loop-octets.self c.hear.new.self (g.L.Line.traffic c.args.line.now)
     (g.L.Line.traffic c.loop-octets.line) (g.L.Line.traffic c.hear.new.line)
-    c.args.reads.now c.loop-octets.reads c.hear.new.reads c.args.moment c.loop-octets.invariant.lacks (λ octets. octets.items ≡ open_octets c.args.moment)
+    c.args.reads.now c.loop-octets.reads c.hear.new.reads c.args.moment c.loop-octets.invariant.lacks (λ octets. octets.items ≡ open_frame_octets c.args.moment)
     c.in_ok-octets.field-0 c.in-Send.octets (ap is_send c.in-Send.is) (λ t s. (subst (λ (e : ClientEvent). Says c.args.moment e t) c.in-Send.is s).0)
     c.in_ok-octets.ensures.hears
 

@@ -4,7 +4,7 @@ use Rattle.indexmap.specs.IndexMap.{get}
 use Rattle.indexmap.proofs.CallerLemmas.{insert_entry-new}
 use Rattle.ua_builtin.specs.declared.node_id.NodeId.{NodeId}
 use Rattle.ua_nodes.specs.declared.node.Variable.{Variable}
-use Rattle.ua_nodes.specs.Sound.{IsSound}
+use Rattle.ua_nodes.specs.Sound.{AreNodesSound}
 use Rattle.ua_nodes.specs.Table.{same_id, variable_of}
 use Rattle.ua_nodes.proofs.SoundWrite.{sound_with}
 use Rattle.ua_nodes.proofs.table.NodeTable.insert.Goals as goal
@@ -27,4 +27,4 @@ returns-clause-ok c =
 
 pub returns-clause-sound : goal.returns-clause-sound
 returns-clause-sound c = λ before node.
-    subst IsSound (sym (returns-clause-ok c)) (sound_with c.args.self.now c.args.node.id (variable_of c.args.node) before node)
+    subst AreNodesSound (sym (returns-clause-ok c)) (sound_with c.args.self.now c.args.node.id (variable_of c.args.node) before node)

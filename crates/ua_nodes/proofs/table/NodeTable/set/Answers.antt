@@ -1,7 +1,7 @@
 use Rattle.std.proofs.Common.{rules, ◌≡◌, MatchResult, None, Some, sym, ap, ◌∙◌, subst}
 use Rattle.std.specs.Map.{set_value}
 use Rattle.ua_nodes.specs.Set.{after_set, set_refusal}
-use Rattle.ua_nodes.specs.Sound.{IsSound}
+use Rattle.ua_nodes.specs.Sound.{AreNodesSound}
 use Rattle.ua_nodes.specs.Table.{Nodes, node_at, same_id}
 use Rattle.ua_nodes.specs.declared.node.Variable.{Variable}
 use Rattle.ua_nodes.proofs.Sets.{kept_at, set_some, set_none, set_sound}
@@ -26,7 +26,7 @@ returns-clause-nodes c =
     ]
 
 pub returns-clause-sound : goal.returns-clause-sound
-returns-clause-sound c = λ before. subst IsSound (sym (returns-clause-nodes c)) (set_sound c.args.id.now c.args.reading c.args.self.now before)
+returns-clause-sound c = λ before. subst AreNodesSound (sym (returns-clause-nodes c)) (set_sound c.args.id.now c.args.reading c.args.self.now before)
 
 pub returns-clause-kept : goal.returns-clause-kept
 returns-clause-kept c =

@@ -2,7 +2,7 @@ use Rattle.std.proofs.Common.{◌≡◌, ◌++◌, ◌∷◌, [], List, length, 
 use Rattle.std.specs.Vec.Iter.{into_iter_items}
 use Rattle.ua_builtin.specs.declared.status_code.StatusCode.{StatusCode}
 use Rattle.ua_structures.specs.declared.attribute.WriteValue.{WriteValue}
-use Rattle.ua_nodes.specs.Sound.{IsSound}
+use Rattle.ua_nodes.specs.Sound.{AreNodesSound}
 use Rattle.ua_nodes.specs.Table.{Nodes, node_at}
 use Rattle.ua_nodes.specs.Write.{after_write, write_answer, write_answers}
 use Rattle.ua_nodes.proofs.SoundWrite.{write_sound}
@@ -45,4 +45,4 @@ returns-clause-nodes c =
 
 pub returns-clause-sound : goal.returns-clause-sound
 returns-clause-sound c = λ before.
-    subst IsSound (sym (returns-clause-nodes c)) (write_sound c.args.items.items c.args.moment c.args.self.now c.moment_is_encodable.ensures before)
+    subst AreNodesSound (sym (returns-clause-nodes c)) (write_sound c.args.items.items c.args.moment c.args.self.now c.moment_is_encodable.ensures before)

@@ -1,6 +1,6 @@
 use Rattle.std.proofs.Common.{◌≡◌, ◌<◌, length, string_bytes, true, refl, rules, sym, ◌∙◌}
 use Rattle.ua_frame.specs.Reader.{TakesFrame, TakesAll}
-use Rattle.ua_pair.specs.Dissecting.{is_going}
+use Rattle.ua_pair.specs.Dissecting.{is_dissecting}
 use Rattle.ua_pair.proofs.Dissections.{takes_frame, takes_part, takes_header}
 use Rattle.ua_pair.proofs.dissector.Dissector.take_next.Goals as goal
 
@@ -9,7 +9,7 @@ tell-requires-clause-let_in c = rw c.in-Ok-default-Some.field-0-1-is at c.in-Ok-
 
 pub returns-in_ok-tell-in-Ok-default-Some : goal.returns-in_ok-tell-in-Ok-default-Some
 returns-in_ok-tell-in-Ok-default-Some c =
-    let goes : is_going c.args.self.now.state ≡ true = sym c.goes_on.ensures ∙ c.if-not-goes_on.false in
+    let goes : is_dissecting c.args.self.now.state ≡ true = sym c.goes_on.ensures ∙ c.if-not-goes_on.false in
     let taken : TakesFrame c.args.self.now.reader c.args.octets.now c.in-Ok-default-Some.size c.in-Ok-default-Some.frame c.take.new.self =
     rw c.in-Ok-default-Some.field-0-1-is at c.in-Ok-default-Some.ensures.takes in
     takes_frame c.args.self.now c.tell.new.self c.args.octets.now c.in-Ok-default-Some.size c.in-Ok-default-Some.frame c.take.new.self
@@ -18,7 +18,7 @@ returns-in_ok-tell-in-Ok-default-Some c =
 
 pub returns-in-Ok-default-None : goal.returns-in-Ok-default-None
 returns-in-Ok-default-None c =
-    let goes : is_going c.args.self.now.state ≡ true = sym c.goes_on.ensures ∙ c.if-not-goes_on.false in
+    let goes : is_dissecting c.args.self.now.state ≡ true = sym c.goes_on.ensures ∙ c.if-not-goes_on.false in
     let some : 0 < length c.args.octets.now = search rules in
     let taken : TakesAll c.args.self.now.reader c.args.octets.now c.in-Ok-default-None.size c.take.new.self =
     rw c.in-Ok-default-None.field-0-1-is at c.in-Ok-default-None.ensures.takes in
@@ -27,7 +27,7 @@ returns-in-Ok-default-None c =
 
 pub returns-in-Some : goal.returns-in-Some
 returns-in-Some c =
-    let goes : is_going c.args.self.now.state ≡ true = sym c.goes_on.ensures ∙ c.if-not-goes_on.false in
+    let goes : is_dissecting c.args.self.now.state ≡ true = sym c.goes_on.ensures ∙ c.if-not-goes_on.false in
     let some : 0 < length c.args.octets.now = search rules in
     takes_header c.args.self.now c.stop.new.self c.args.octets.now goes some c.in-Err.fault c.take.new.self c.in-Some.code _
     c.in-Err.ensures.takes (sym c.in-Some.ensures)

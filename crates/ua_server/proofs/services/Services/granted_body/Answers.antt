@@ -1,13 +1,13 @@
 use Rattle.std.proofs.Common.{rules, ◌≡◌, ◌<◌, ℕ, List, ◌++◌, length, sym, subst}
 use Rattle.ua_builtin.specs.NodeId.{node_id}
-use Rattle.ua_nodes.specs.Read.{answer_octets}
+use Rattle.ua_nodes.specs.Read.{result_octets}
 use Rattle.ua_nodes.specs.Within.{IsWithin}
 use Rattle.ua_builtin.specs.Number.{number_octets}
 use Rattle.ua_opening.specs.Message.{standard}
 use Rattle.ua_services.specs.Response.{response}
 use Rattle.ua_services.specs.declared.response.Response.{Response}
 use Rattle.ua_services.specs.declared.response.Response.TheVariants.{Read as ReadMessage}
-use Rattle.ua_structures.specs.Plain.{values_of}
+use Rattle.ua_structures.specs.Plain.{read_response_of}
 use Rattle.ua_structures.specs.Results.{AddsResponse}
 use Rattle.ua_variant.specs.Formats.{diagnostic_format}
 use Rattle.ua_server.specs.Attributes.{read_answers, values_given}
@@ -26,11 +26,11 @@ returns-clause-body c =
     let nodes = c.self.inside.nodes in
     let id : c.append_front.new.out.items ≡ node_id.canonical (standard 634) = search rules in
     let adds =
-    subst (λ d. AddsResponse (λ old new. IsWithin c.args.most (answer_octets nodes stamps c.args.moment) items (old ++ number_octets 4 (length items)) new)
+    subst (λ d. AddsResponse (λ old new. IsWithin c.args.most (result_octets nodes stamps c.args.moment) items (old ++ number_octets 4 (length items)) new)
     header d c.append_front.new.out.items c.append_read_response.new.out.items)
     c.null.ensures c.in_ok-append_read_response.ensures.ok in
     let parts = written_parts c.args.most header nodes items stamps c.args.moment c.append_front.new.out.items c.append_read_response.new.out.items id adds in
-    let given : values_given c.args.self.now c.args.moment c.args.request.now ≡ ReadMessage (values_of header (read_answers nodes items stamps c.args.moment)) =
+    let given : values_given c.args.self.now c.args.moment c.args.request.now ≡ ReadMessage (read_response_of header (read_answers nodes items stamps c.args.moment)) =
     search rules in
     subst (λ (r : Response). IsBodyWithin c.args.most (response.canonical r) c.append_read_response.new.out.items) (sym given)
     (written_within c.args.most header nodes items stamps c.args.moment parts.0 c.append_read_response.new.out.items parts.1 parts.2)
@@ -43,7 +43,7 @@ returns-clause-some c =
     let items = c.unwrap_or-items.result.now in
     let id : c.append_front.new.out.items ≡ node_id.canonical (standard 634) = search rules in
     let adds =
-    subst (λ d. AddsResponse (λ old new. IsWithin c.args.most (answer_octets nodes stamps c.args.moment) items (old ++ number_octets 4 (length items)) new)
+    subst (λ d. AddsResponse (λ old new. IsWithin c.args.most (result_octets nodes stamps c.args.moment) items (old ++ number_octets 4 (length items)) new)
     header d c.append_front.new.out.items c.append_read_response.new.out.items)
     c.null.ensures c.in_ok-append_read_response.ensures.ok in
     let parts = written_parts c.args.most header nodes items stamps c.args.moment c.append_front.new.out.items c.append_read_response.new.out.items id adds in

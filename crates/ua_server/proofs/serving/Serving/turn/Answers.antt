@@ -2,7 +2,7 @@ use Rattle.std.proofs.Common.{◌≡◌, [], ℕ, List, Err, length, refl, subst
 use Rattle.ua_channel.specs.Line.{IfTrafficKnown}
 use Rattle.ua_server.specs.Happening.{Happens}
 use Rattle.ua_server.specs.Serving.{MovesTraffic}
-use Rattle.ua_server.specs.ServingParts.{Says, counted}
+use Rattle.ua_server.specs.ServingParts.{WritesCounted, sum_up_to_greatest}
 use Rattle.ua_server.specs.declared.serving.Serving.{Serving}
 use Rattle.ua_server.proofs.Turning.{turn-said, turn-unsaid, turn-broken}
 use Rattle.ua_server.proofs.serving.Serving.turn.Goals as goal
@@ -18,7 +18,7 @@ returns-in-Err-clause-failed g c = refl
 
 pub returns-in-Ok-say-clause-turns : goal.returns-in-Ok-say-clause-turns
 returns-in-Ok-say-clause-turns g c = λ limits channel first read written given k.
-    let counted_so : List ℕ → Serving = λ o. record c.step.new.self { written = counted c.step.new.self.written (length o) } in
+    let counted_so : List ℕ → Serving = λ o. record c.step.new.self { written = sum_up_to_greatest c.step.new.self.written (length o) } in
     turn-said g.A.Application.changes limits channel first (Happens g.M.Moments.gives g.W.Watch.notes) (c.args.moments.now, c.args.watch.now)
     (c.step.new.moments, c.step.new.watch) (g.L.Line.traffic c.args.line.now) (g.L.Line.traffic c.say.new.line) c.args.piece.now read written given
     (c.step.new.services, c.step.new.application) c.in-Ok.step c.step.new.self c.say.new.self
@@ -39,7 +39,7 @@ returns-clause-turns g c = λ limits channel first read written given k.
     (c.step.new.moments, c.step.new.watch) (g.L.Line.traffic c.args.line.now) (g.L.Line.traffic c.say.new.line) c.args.piece.now read written given
     (c.step.new.services, c.step.new.application) c.in-Ok.step c.step.new.self c.say.new.self c.in-Err-say.fault
     (c.in-Ok.ensures.steps limits channel first read written given k)
-    (subst (λ (o : List ℕ). Says o (Err c.in-Err-say.fault) c.step.new.self c.say.new.self (g.L.Line.traffic c.args.line.now) (g.L.Line.traffic c.say.new.line))
+    (subst (λ (o : List ℕ). WritesCounted o (Err c.in-Err-say.fault) c.step.new.self c.say.new.self (g.L.Line.traffic c.args.line.now) (g.L.Line.traffic c.say.new.line))
     c.deref.ensures.value c.in-Err-say.ensures.says)
 
 pub returns-clause-failed : goal.returns-clause-failed

@@ -1,5 +1,5 @@
 use Rattle.std.proofs.Common.{ap, arith}
-use Rattle.ua_wire.specs.FloatBits.{of_bits, float_bits}
+use Rattle.ua_wire.specs.FloatBits.{float_from_bits, float_bits}
 use Rattle.ua_variant.specs.Data.{float}
 use Rattle.ua_variant.specs.Leaf.{leaf_at}
 use Rattle.ua_variant.specs.Least.{least_octets}
@@ -14,6 +14,6 @@ pub returns : goal.returns
 unfolding leaf_at least_octets float_bits
 returns c =
     record {
-      read = made_first 4 of_bits float c.args.octets.now (of_bits c.read_u32.result) c.requires.whole (λ i. omega (arith, c.type_inv.octets i))
-          (ap of_bits c.read_u32.ensures);
+      read = made_first 4 float_from_bits float c.args.octets.now (float_from_bits c.read_u32.result) c.requires.whole (λ i. omega (arith, c.type_inv.octets i))
+          (ap float_from_bits c.read_u32.ensures);
     }

@@ -1,6 +1,6 @@
 use Rattle.std.proofs.Common.{◌∙◌, Result, Ok, Err, Some, None, ◌++◌, ap, sym, subst, take}
 use Rattle.ua_channel.specs.ClientAnswers.{ClientAnswers}
-use Rattle.ua_channel.specs.inside.ClientParts.{counted}
+use Rattle.ua_channel.specs.inside.ClientParts.{outcome_counted}
 use Rattle.ua_channel.specs.declared.client.event.ClientEvent.{ClientEvent}
 use Rattle.ua_channel.specs.declared.client.fault.ClientTakeFault.{ClientTakeFault}
 use Rattle.ua_channel.specs.Client.{client_side}
@@ -39,7 +39,7 @@ returns-in-Ok-Some-clause-starves c = λ asks octets told g failed.
 
 pub returns-in-Err-clause-answers : goal.returns-in-Err-clause-answers
 returns-in-Err-clause-answers c = λ asks octets told g.
-    subst (λ (r : Result ClientEvent ClientTakeFault). ClientAnswers c.args.moment c.args.piece.now (counted c.next_event-size.result.size r)
+    subst (λ (r : Result ClientEvent ClientTakeFault). ClientAnswers c.args.moment c.args.piece.now (outcome_counted c.next_event-size.result.size r)
     (with_end c.args.self.now c.next_event-size.new.self) asks octets told) (sym c.from_fault.ensures)
     (answers_fault c.args.moment c.args.piece.now c.next_event-size.result.size c.in-Err.fault (with_end c.args.self.now c.next_event-size.new.self) asks octets
     told

@@ -1,7 +1,7 @@
 use Rattle.std.proofs.Common.{◌≡◌, ◌∙◌, ◌++◌, take, Result, Err, ap, refl, subst}
 use Rattle.std.specs.Prelude.{IfOk}
 use Rattle.ua_channel.specs.ClientAnswers.{ClientAnswers, ComesInParts, parts_handed}
-use Rattle.ua_channel.specs.inside.ClientParts.{counted}
+use Rattle.ua_channel.specs.inside.ClientParts.{outcome_counted}
 use Rattle.ua_channel.specs.declared.client.event.ClientEvent.{ClientEvent}
 use Rattle.ua_channel.specs.declared.client.fault.ClientTakeFault.{ClientTakeFault}
 use Rattle.ua_channel.specs.declared.client.fault.ClientTakeFault.TheVariants as fault
@@ -10,7 +10,7 @@ use Rattle.ua_channel.proofs.client.channel.ClientChannel.take.Goals as goal
 
 pub returns-in-Ok-clause-answers : goal.returns-in-Ok-clause-answers
 returns-in-Ok-clause-answers c = λ asks octets told g.
-    subst (λ (a : Result ClientEvent ClientTakeFault). ClientAnswers c.args.moment c.args.piece.now (counted c.go_on-size.result.size a) c.go_on-size.new.self
+    subst (λ (a : Result ClientEvent ClientTakeFault). ClientAnswers c.args.moment c.args.piece.now (outcome_counted c.go_on-size.result.size a) c.go_on-size.new.self
     asks octets told) c.in-Ok.is (c.go_on-size.ensures.answers asks octets told g)
 
 pub returns-in-Ok-clause-parts : goal.returns-in-Ok-clause-parts
@@ -22,7 +22,7 @@ returns-in-Ok-clause-parts c = λ asks octets told g.
 pub returns-in-Err-clause-answers : goal.returns-in-Err-clause-answers
 returns-in-Err-clause-answers c = λ asks octets told g.
     answers_bound c.args.moment c.args.piece.now c.go_on-size.new.self _ c.args.self.now.end.bound asks octets told c.in-Err.fault refl
-    (subst (λ (a : Result ClientEvent ClientTakeFault). ClientAnswers c.args.moment c.args.piece.now (counted c.go_on-size.result.size a) c.go_on-size.new.self
+    (subst (λ (a : Result ClientEvent ClientTakeFault). ClientAnswers c.args.moment c.args.piece.now (outcome_counted c.go_on-size.result.size a) c.go_on-size.new.self
     asks octets told) c.in-Err.is (c.go_on-size.ensures.answers asks octets told g))
 
 pub returns-in-Err-clause-starves : goal.returns-in-Err-clause-starves
