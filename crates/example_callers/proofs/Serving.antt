@@ -25,7 +25,7 @@ use Rattle.ua_server.specs.declared.step.Step.{Step}
 use Rattle.ua_server.specs.declared.step.StepFault.{StepFault}
 use Rattle.ua_server.specs.declared.step.StepFault.TheVariants as step_fault
 use Rattle.ua_loopback.specs.Beginning.{Beginning}
-use Rattle.ua_loopback.specs.Kept.{EndsAt, Keeps, HasTakenAll}
+use Rattle.ua_loopback.specs.Kept.{EndsAtStage, Keeps, HasTakenAll}
 use Rattle.ua_loopback.specs.Says.{end_by, services_after, reading_at_server, server_output, answer_times, state_told}
 use Rattle.ua_loopback.specs.declared.stage.Stage.TheVariants as stage
 use Rattle.ua_loopback.proofs.Replying.{none_left}
@@ -53,14 +53,14 @@ module _ (b : Beginning) (octets more : List ℕ) (over : end_by b octets ≡ Go
   end_past : end_by b (octets ++ more) ≡ end_by b octets
   end_past = end_is b (octets ++ more) (reading_at_server b octets).frames ((reading_at_server b octets).rest ++ more) (end_by b octets) run_past
 
-not_going : (b : Beginning) (end : Ending) (octets : List ℕ) → EndsAt (stage.Ended end) b octets → end_by b octets ≡ Going → ⊥
+not_going : (b : Beginning) (end : Ending) (octets : List ℕ) → EndsAtStage (stage.Ended end) b octets → end_by b octets ≡ Going → ⊥
 not_going b ending.Closed octets e going = let no : ◌≡◌ {A = End ℕ} Over Going = sym e ∙ going in absurd cc
 not_going b (ending.Refused code) octets e going = let no : ◌≡◌ {A = End ℕ} (Stopped code.code) Going = sym e ∙ going in absurd cc
 not_going b ending.NoClose octets e going = absurd e
 not_going b ending.Cut octets e going = absurd e
 
-ends_past : (b : Beginning) (end : Ending) (octets all : List ℕ) → end_by b all ≡ end_by b octets → EndsAt (stage.Ended end) b octets
-    → EndsAt (stage.Ended end) b all
+ends_past : (b : Beginning) (end : Ending) (octets all : List ℕ) → end_by b all ≡ end_by b octets → EndsAtStage (stage.Ended end) b octets
+    → EndsAtStage (stage.Ended end) b all
 ends_past b ending.Closed octets all same e = same ∙ e
 ends_past b (ending.Refused code) octets all same e = same ∙ e
 ends_past b ending.NoClose octets all same e = absurd e
@@ -207,7 +207,7 @@ module _ (moment : DateTime) (octets : List ℕ) (first : Server) (began : State
       pub ended_leaves : later ≡ services_after b (before ++ octets)
       ended_leaves = keeps.leaves ∙ (sym (left_past b up front.more over) ∙ ap (services_after b) (sym front.parts))
 
-      pub ended_ends : EndsAt (stage.Ended end) b (before ++ octets)
+      pub ended_ends : EndsAtStage (stage.Ended end) b (before ++ octets)
       ended_ends = ends_past b end up (before ++ octets) (ap (end_by b) front.parts ∙ end_past b up front.more over) keeps.ends
 
       pub ended_answers : (new : List ℕ) → new ≡ out ++ step.out.items → AnswersNewBytes b before (before ++ octets) old new
@@ -338,7 +338,7 @@ module _ (moment : DateTime) (octets : List ℕ) (first : Server) (began : State
   pub all_answers : AnswersNewBytes b before (before ++ octets) old out
   all_answers = record { more = done.added; said_is = sym all_keeps.down_is; added_is = done.added_is }
 
-  pub all_ends : EndsAt stage.Going b (before ++ octets)
+  pub all_ends : EndsAtStage stage.Going b (before ++ octets)
   all_ends = all_keeps.ends
 
 -- ---- from the beginning of a connection

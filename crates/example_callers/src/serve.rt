@@ -3,7 +3,7 @@
 ghost use Rattle.std.specs.Prelude.{◌≡◌, ◌<◌, ◌++◌, [], ℕ, List, None, Ok, Err, IfErr, IfOk, OnErr, OnOk, length};
 ghost use Rattle.ua_channel.specs.ServerStands.{IsDone};
 ghost use Rattle.ua_loopback.specs.Beginning.{Beginning};
-ghost use Rattle.ua_loopback.specs.Kept.{EndsAt, HasTakenAll};
+ghost use Rattle.ua_loopback.specs.Kept.{EndsAtStage, HasTakenAll};
 ghost use Rattle.ua_loopback.specs.Says.{services_after, server_output};
 ghost use Rattle.ua_server.specs.Served.{channel_in};
 ghost use Rattle.ua_server.specs.State.{begun};
@@ -38,7 +38,7 @@ pub fn serve_octets(
     ensures answers { (b : Beginning) (before : List ℕ) → HasTakenAll b server.old services.old before → moment ≡ b.moment
         → OnOk result (AnswersNewBytes b before (before ++ octets.now) out.old.items out.new.items) }
     ensures ends { (b : Beginning) (before : List ℕ) → HasTakenAll b server.old services.old before → moment ≡ b.moment
-        → IfOk result (λ end. EndsAt (stage_of end) b (before ++ octets.now)) }
+        → IfOk result (λ end. EndsAtStage (stage_of end) b (before ++ octets.now)) }
     // If an allocation fails, the services are as a prefix of the bytes leaves them, and what is
     // added is the server's output for a prefix of that.
     ensures breaks { (b : Beginning) (before : List ℕ) → HasTakenAll b server.old services.old before → moment ≡ b.moment
@@ -86,7 +86,7 @@ pub fn serve_connection(
         ++ server_output (record { limits = limits; channel = channel_id; first = begun services.old; moment = moment })
         octets.now) }
     ensures ends { IfOk result
-        (λ end. EndsAt (stage_of end)
+        (λ end. EndsAtStage (stage_of end)
         (record { limits = limits; channel = channel_id; first = begun services.old; moment = moment }) octets.now) }
     ensures breaks { OnErr result
         (BreaksOffServing (record { limits = limits; channel = channel_id; first = begun services.old; moment = moment }) []

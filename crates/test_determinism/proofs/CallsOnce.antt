@@ -6,10 +6,10 @@ use Rattle.ua_channel.specs.Client.{client_limits}
 use Rattle.ua_channel.specs.Line.{Traffic}
 use Rattle.ua_channel.specs.declared.client.channel.ClientChannel.{ClientChannel}
 use Rattle.ua_services.specs.declared.request.Request.{Request}
-use Rattle.ua_client.specs.Calls.{AllAt, CallsAll, all_of}
+use Rattle.ua_client.specs.Calls.{CallsAll, CallsAllAt, all_of}
 use Rattle.ua_client.specs.Client.{IsLeft, client_channel, connection_of}
 use Rattle.ua_client.specs.Hearing.{channel_of_connection, fault_alone}
-use Rattle.ua_client.specs.Kept.{CallsInto, IntoAt}
+use Rattle.ua_client.specs.Kept.{CallsInto, CallsIntoAt}
 use Rattle.ua_client.specs.ClientPlace.{ClientPlace}
 use Rattle.ua_client.specs.declared.client.Client.{Client}
 use Rattle.ua_client.specs.declared.connection.Connection.{Connection}
@@ -44,7 +44,7 @@ met : {A : Type 0} (view : A → List Reply) (limits : Limits) (requests : List 
     → client_limits (channel_of_connection new) ≡ limits → (a : Result A ClientFault)
     → ((f : ClientFault) → fault_of a ≡ Some f → (f ≡ fault.Ended) ⊎ (f ≡ fault.Read) → more ≡ [])
     → ((f : ClientFault) → fault_of a ≡ Some f → f ≡ fault.OutOfMemory → ⊥) → ((f : ClientFault) → fault_of a ≡ Some f → f ≡ fault.TooLong → ⊥)
-    → AllAt view requests s new sent taken a → Met view limits (channel_of_connection new) requests s (taken ++ more) sent taken a
+    → CallsAllAt view requests s new sent taken a → Met view limits (channel_of_connection new) requests s (taken ++ more) sent taken a
 met view limits requests s new sent taken more same (Ok v) stop had short k = record {
   replies = view v;
   count = length (all_of k.groups) + 0;
@@ -148,7 +148,7 @@ added_by : (limits : Limits) (requests : List Request) (s : ClientPlace) (new : 
     → client_limits (channel_of_connection new) ≡ limits → (a : Result (Unit {0}) CallsFault)
     → ((f : ClientFault) → fault_of (fault_alone a) ≡ Some f → (f ≡ fault.Ended) ⊎ (f ≡ fault.Read) → more ≡ [])
     → ((f : ClientFault) → fault_of (fault_alone a) ≡ Some f → f ≡ fault.OutOfMemory → ⊥)
-    → ((f : ClientFault) → fault_of (fault_alone a) ≡ Some f → f ≡ fault.TooLong → ⊥) → IntoAt requests s new sent taken a added
+    → ((f : ClientFault) → fault_of (fault_alone a) ≡ Some f → f ≡ fault.TooLong → ⊥) → CallsIntoAt requests s new sent taken a added
     → Added limits (channel_of_connection new) requests s (taken ++ more) sent taken added a
 added_by limits requests s new sent taken more added same (Ok done) stop had short k = record {
   count = length (all_of k.groups) + 0;

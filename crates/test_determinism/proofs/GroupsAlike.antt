@@ -13,7 +13,7 @@ use Rattle.ua_client.specs.Calls.{AnsweredAll, AreGroups, BreaksAt, BrokenAll, E
 use Rattle.ua_client.specs.Calls.Rounds.{NoRound, OneRound}
 use Rattle.ua_client.specs.Client.{ends_client}
 use Rattle.ua_client.specs.Hearing.{channel_of_connection}
-use Rattle.ua_client.specs.Kept.{KeepsAt}
+use Rattle.ua_client.specs.Kept.{KeepsRepliesAt}
 use Rattle.ua_client.specs.Replies.{AreAwaited, IsFront, IsMisanswered, IsUntold, LacksAnswer}
 use Rattle.ua_client.specs.ClientPlace.{ClientPlace, StandsAt, id_at}
 use Rattle.ua_client.specs.declared.connection.Connection.{Connection}
@@ -369,12 +369,12 @@ module _ (limits : Limits) (requests : List Request) (s : ClientPlace) (new : Co
         by (fault.Service code) stops memory long k = absurd k
 
     -- what is kept of it is told, and which request is named
-    pub broke_into : (place : ℕ) (kept : List Reply) → BreaksAt requests s new sent taken f → KeepsAt requests s new taken f place kept
+    pub broke_into : (place : ℕ) (kept : List Reply) → BreaksAt requests s new sent taken f → KeepsRepliesAt requests s new taken f place kept
         → Ending true kept place f
     broke_into place kept k q = by f stop had short k q
       where
         by : (g : ClientFault) → ((g ≡ fault.Ended) ⊎ (g ≡ fault.Read) → more ≡ []) → (g ≡ fault.OutOfMemory → ⊥) → (g ≡ fault.TooLong → ⊥)
-            → BreaksAt requests s new sent taken g → KeepsAt requests s new taken g place kept → Ending true kept place g
+            → BreaksAt requests s new sent taken g → KeepsRepliesAt requests s new taken g place kept → Ending true kept place g
         by (fault.Peer code) stops memory long k q = ended_by true kept place (fault.Peer code) (peers code.code) (ByPeer code refl refl) k
             (keeps_ended (peers code.code) kept place q)
         by (fault.Refused code) stops memory long k q = ended_by true kept place (fault.Refused code) (ours code.code) (ByOurs code refl refl) k

@@ -5,7 +5,7 @@ use Rattle.std.proofs.lemmas.List.{append_cancel_left}
 use Rattle.ua_channel.specs.Client.{SameClient, client_limits}
 use Rattle.ua_channel.specs.Line.{Traffic}
 use Rattle.ua_client.specs.Client.{IsLeft, IsReady, client_channel, connection_of, ends_client}
-use Rattle.ua_client.specs.Hearing.{MovesConnection, StopsAt, is_line_fault, most_reads, untaken_of}
+use Rattle.ua_client.specs.Hearing.{MovesConnection, StopsByTraffic, is_line_fault, most_reads, untaken_of}
 use Rattle.ua_client.specs.ClientPlace.{ClientPlace}
 use Rattle.ua_client.specs.declared.client.Client.{Client}
 use Rattle.ua_client.specs.declared.fault.ClientFault.{ClientFault}
@@ -77,7 +77,7 @@ module _ {A : Type 0} (one two x y : Client) (a b : Result A ClientFault) (line 
     (sent also : List ℕ) (m : MovesConnection (connection_of one) (connection_of x) sent line after)
     (n : MovesConnection (connection_of two) (connection_of y) also other later)
     (same : SameClient (client_channel one) (client_channel x)) (same_too : SameClient (client_channel two) (client_channel y))
-    (stops : StopsAt most_reads most_reads m.got (connection_of x) after a) (stops_too : StopsAt most_reads most_reads n.got (connection_of y) later b) where
+    (stops : StopsByTraffic most_reads most_reads m.got (connection_of x) after a) (stops_too : StopsByTraffic most_reads most_reads n.got (connection_of y) later b) where
   p : (t : Traffic) × (line ≡ Some t) × ((more : List ℕ) → untaken_of (connection_of one) ++ t.coming more ≡ coming)
   p = comes_at one line coming stand.comes
 
@@ -103,15 +103,15 @@ module _ {A : Type 0} (one two x y : Client) (a b : Result A ClientFault) (line 
   -- fewer octets came than the most reads
   pub not_long : (f : ClientFault) → fault_of a ≡ Some f → f ≡ fault.TooLong → ⊥
   not_long f e is =
-      let k : StopsAt {A = A} most_reads most_reads m.got (connection_of x) after (Err fault.TooLong) =
-      subst (λ (c : Result A ClientFault). StopsAt most_reads most_reads m.got (connection_of x) after c) (fault_err a fault.TooLong (e ∙ ap Some is)) stops
+      let k : StopsByTraffic {A = A} most_reads most_reads m.got (connection_of x) after (Err fault.TooLong) =
+      subst (λ (c : Result A ClientFault). StopsByTraffic most_reads most_reads m.got (connection_of x) after c) (fault_err a fault.TooLong (e ∙ ap Some is)) stops
       in
       few_reads (connection_of one) (connection_of x) sent line after coming s.octets p.0 m p.1 p.2 stand.few k.1
 
   pub not_long_too : (f : ClientFault) → fault_of b ≡ Some f → f ≡ fault.TooLong → ⊥
   not_long_too f e is =
-      let k : StopsAt {A = A} most_reads most_reads n.got (connection_of y) later (Err fault.TooLong) =
-      subst (λ (c : Result A ClientFault). StopsAt most_reads most_reads n.got (connection_of y) later c) (fault_err b fault.TooLong (e ∙ ap Some is))
+      let k : StopsByTraffic {A = A} most_reads most_reads n.got (connection_of y) later (Err fault.TooLong) =
+      subst (λ (c : Result A ClientFault). StopsByTraffic most_reads most_reads n.got (connection_of y) later c) (fault_err b fault.TooLong (e ∙ ap Some is))
       stops_too in
       few_reads (connection_of two) (connection_of y) also other later coming s.octets q.0 n q.1 q.2 stand.few k.1
 
@@ -136,16 +136,16 @@ module _ {A : Type 0} (one two x y : Client) (a b : Result A ClientFault) (line 
     where
       by : (h : ClientFault) → fault_of a ≡ Some h → (h ≡ fault.Ended) ⊎ (h ≡ fault.Read) → untaken_of (connection_of x) ++ first.last.coming [] ≡ []
       by h e (inl is) =
-          let k : StopsAt {A = A} most_reads most_reads m.got (connection_of x) after (Err fault.Ended) =
-          subst (λ (c : Result A ClientFault). StopsAt most_reads most_reads m.got (connection_of x) after c) (fault_err a fault.Ended (e ∙ ap Some is))
+          let k : StopsByTraffic {A = A} most_reads most_reads m.got (connection_of x) after (Err fault.Ended) =
+          subst (λ (c : Result A ClientFault). StopsByTraffic most_reads most_reads m.got (connection_of x) after c) (fault_err a fault.Ended (e ∙ ap Some is))
           stops in
           ended_more (connection_of x) sent m.taken line after coming first k.0 k.1
       by h e (inr is) = absurd (unbroken h (sym (line_of a h e) ∙ f) is)
 
       by_too : (h : ClientFault) → fault_of b ≡ Some h → (h ≡ fault.Ended) ⊎ (h ≡ fault.Read) → untaken_of (connection_of y) ++ second.last.coming [] ≡ []
       by_too h e (inl is) =
-          let k : StopsAt {A = A} most_reads most_reads n.got (connection_of y) later (Err fault.Ended) =
-          subst (λ (c : Result A ClientFault). StopsAt most_reads most_reads n.got (connection_of y) later c) (fault_err b fault.Ended (e ∙ ap Some is))
+          let k : StopsByTraffic {A = A} most_reads most_reads n.got (connection_of y) later (Err fault.Ended) =
+          subst (λ (c : Result A ClientFault). StopsByTraffic most_reads most_reads n.got (connection_of y) later c) (fault_err b fault.Ended (e ∙ ap Some is))
           stops_too in
           ended_more (connection_of y) also n.taken other later coming second k.0 k.1
       by_too h e (inr is) = absurd (unbroken h (sym (line_of b h e) ∙ g) is)
@@ -160,10 +160,10 @@ module _ {A : Type 0} (one two x y : Client) (a b : Result A ClientFault) (line 
 
   at_read : IsErrOf a fault.Read → IsErrOf b fault.Read → ComeAlike after later → Both
   at_read f g c =
-      let k : StopsAt {A = A} most_reads most_reads m.got (connection_of x) after (Err fault.Read) =
-      subst (λ (d : Result A ClientFault). StopsAt most_reads most_reads m.got (connection_of x) after d) f stops in
-      let l : StopsAt {A = A} most_reads most_reads n.got (connection_of y) later (Err fault.Read) =
-      subst (λ (d : Result A ClientFault). StopsAt most_reads most_reads n.got (connection_of y) later d) g stops_too in
+      let k : StopsByTraffic {A = A} most_reads most_reads m.got (connection_of x) after (Err fault.Read) =
+      subst (λ (d : Result A ClientFault). StopsByTraffic most_reads most_reads m.got (connection_of x) after d) f stops in
+      let l : StopsByTraffic {A = A} most_reads most_reads n.got (connection_of y) later (Err fault.Read) =
+      subst (λ (d : Result A ClientFault). StopsByTraffic most_reads most_reads n.got (connection_of y) later d) g stops_too in
       record {
         more = [];
         rest = [];

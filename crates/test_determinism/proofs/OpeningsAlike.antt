@@ -13,10 +13,10 @@ use Rattle.ua_channel.specs.ClientTold.{ClientTold, Why, ours, peers}
 use Rattle.ua_channel.specs.ClientTold.ClientTold.{Agreed, Opened}
 use Rattle.ua_channel.specs.Line.{Traffic}
 use Rattle.ua_channel.specs.declared.client.channel.ClientChannel.{ClientChannel}
-use Rattle.ua_channel_laws.proofs.ClientReadings.{goes_behind}
+use Rattle.ua_channel_laws.proofs.ClientReadsOnce.{goes_behind}
 use Rattle.ua_client.specs.Client.{IsFresh, IsOpenedOver, OpensClient, OpensNothing, connection_of}
-use Rattle.ua_client.specs.Hearing.{BreaksOff, StopsAt, channel_of_connection, most_reads, untaken_of}
-use Rattle.ua_client.specs.Opening.{BreaksWaiting, IsOpened, Opens, OpensAt, hello_octets, open_frame_octets}
+use Rattle.ua_client.specs.Hearing.{BreaksOff, StopsByTraffic, channel_of_connection, most_reads, untaken_of}
+use Rattle.ua_client.specs.Opening.{BreaksWaiting, IsOpened, Opens, OpensAfter, hello_octets, open_frame_octets}
 use Rattle.ua_client.specs.Renewing.{IsSettled}
 use Rattle.ua_client.specs.ClientPlace.{ClientPlace, StandsAt}
 use Rattle.ua_client.specs.declared.client.Client.{Client}
@@ -78,7 +78,7 @@ module _ {A : Type 0} (R : Rules ClientTold Why) (limits : Limits) (url : Option
       Waited f (Stopped why) p e told said
       (ended_reads R (channel_of_connection new) [] h.moves.taken (untaken_of new ++ r.last.coming []) coming told why rules r.parts w)
 
-  ran_out : (told : List ClientTold) → a ≡ Err fault.Ended → StopsAt {A = A} most_reads most_reads h.moves.got new after (Err fault.Ended)
+  ran_out : (told : List ClientTold) → a ≡ Err fault.Ended → StopsByTraffic {A = A} most_reads most_reads h.moves.got new after (Err fault.Ended)
       → SaidAt hello (open_frame_octets moment) h.sent told → ClientGoes (channel_of_connection new) [] h.moves.taken told → To
   ran_out told p stops said g = Waited fault.Ended Going p (ByEnd refl refl) told said
       (goes_reads R (channel_of_connection new) [] h.moves.taken coming told rules (ended_all new h.sent h.moves.taken line after coming r stops.0 stops.1) g)
@@ -89,13 +89,13 @@ module _ {A : Type 0} (R : Rules ClientTold Why) (limits : Limits) (url : Option
   waited f why e p of (inl w) = ended f why [] e p (inl (w.0, refl)) (of [] w.1)
   waited f why e p of (inr w) = ended f why (Agreed w.1.0 ∷ []) e p (inr (w.1.0, w.0, refl)) (of (Agreed w.1.0 ∷ []) w.1.1)
 
-  waited_out : a ≡ Err fault.Ended → StopsAt {A = A} most_reads most_reads h.moves.got new after (Err fault.Ended)
+  waited_out : a ≡ Err fault.Ended → StopsByTraffic {A = A} most_reads most_reads h.moves.got new after (Err fault.Ended)
       → BreaksWaiting hello (open_frame_octets moment) (channel_of_connection new) h.sent h.moves.taken fault.Ended → To
   waited_out p stops (inl w) = ran_out [] p stops (inl (w.0, refl)) w.1
   waited_out p stops (inr w) = ran_out (Agreed w.1.0 ∷ []) p stops (inr (w.1.0, w.0, refl)) w.1.1
 
-  opens_by : (b : Result A ClientFault) → a ≡ b → OpensAt hello (open_frame_octets moment) (channel_of_connection new) h.sent h.moves.taken b
-      → StopsAt most_reads most_reads h.moves.got new after b → line_failed_calling b ≡ false → ¬ (IsErrOf b fault.OutOfMemory) → To
+  opens_by : (b : Result A ClientFault) → a ≡ b → OpensAfter hello (open_frame_octets moment) (channel_of_connection new) h.sent h.moves.taken b
+      → StopsByTraffic most_reads most_reads h.moves.got new after b → line_failed_calling b ≡ false → ¬ (IsErrOf b fault.OutOfMemory) → To
   opens_by (Ok v) e k stops unbroken had = Done v e k.0 k.1
   opens_by (Err fault.Write) e k stops unbroken had = absurd (true_false unbroken)
   opens_by (Err fault.Read) e k stops unbroken had = absurd (true_false unbroken)
@@ -112,8 +112,8 @@ module _ {A : Type 0} (R : Rules ClientTold Why) (limits : Limits) (url : Option
   -- what was told where a read failed
   at_read : ClientGoes (channel_of_connection old) [] [] [] → a ≡ Err fault.Read → (told : List ClientTold) × SaidAt hello (open_frame_octets moment) h.sent told
       × ClientGoes (channel_of_connection new) [] h.moves.taken told × (untaken_of new ≡ [])
-  at_read goes e = by (subst (λ (b : Result A ClientFault). OpensAt hello (open_frame_octets moment) (channel_of_connection new) h.sent h.moves.taken b) e (h.answers goes))
-      (subst (λ (b : Result A ClientFault). StopsAt most_reads most_reads h.moves.got new after b) e h.stops)
+  at_read goes e = by (subst (λ (b : Result A ClientFault). OpensAfter hello (open_frame_octets moment) (channel_of_connection new) h.sent h.moves.taken b) e (h.answers goes))
+      (subst (λ (b : Result A ClientFault). StopsByTraffic most_reads most_reads h.moves.got new after b) e h.stops)
     where
       by : BreaksWaiting hello (open_frame_octets moment) (channel_of_connection new) h.sent h.moves.taken fault.Read → untaken_of new ≡ [] → (told : List ClientTold)
           × SaidAt hello (open_frame_octets moment) h.sent told × ClientGoes (channel_of_connection new) [] h.moves.taken told × (untaken_of new ≡ [])

@@ -16,8 +16,8 @@ use Rattle.ua_channel.specs.Line.{Traffic}
 use Rattle.ua_channel.specs.Received.{Received, received}
 use Rattle.ua_channel.specs.declared.client.channel.ClientChannel.{ClientChannel}
 use Rattle.ua_client.specs.Carried.{Carries}
-use Rattle.ua_client.specs.Client.{Closes, ClosesAt, HasFailedOrClosed, IsLeft, client_channel, closing_at, connection_of, ends_client}
-use Rattle.ua_client.specs.Hearing.{StopsAt, channel_of_connection, most_reads, untaken_of}
+use Rattle.ua_client.specs.Client.{Closes, ClosesChannelAt, HasFailedOrClosed, IsLeft, client_channel, closing_at, connection_of, ends_client}
+use Rattle.ua_client.specs.Hearing.{StopsByTraffic, channel_of_connection, most_reads, untaken_of}
 use Rattle.ua_client.specs.Opening.{GoesWithout, EndsWithout}
 use Rattle.ua_client.specs.Renewing.{IsRefusal, IsRenewed, Renews, RenewsAt, asks_renewed, is_renewed, refused_by, renewal_at}
 use Rattle.ua_client.specs.ClientPlace.{ClientPlace, StandsAt}
@@ -51,7 +51,7 @@ true_false e = cc
 abbrev ClosesTo : ClientPlace → DateTime → List ℕ → Result (Unit {0}) ClientFault → Type 0
 ClosesTo s moment sent a = (a ≡ Ok tt) × (sent ≡ closing_at s moment)
 
-closes_to : (s : ClientPlace) (moment : DateTime) (sent : List ℕ) (a : Result (Unit {0}) ClientFault) → ClosesAt s moment sent a → line_failed_calling a ≡ false
+closes_to : (s : ClientPlace) (moment : DateTime) (sent : List ℕ) (a : Result (Unit {0}) ClientFault) → ClosesChannelAt s moment sent a → line_failed_calling a ≡ false
     → ¬ (IsErrOf a fault.OutOfMemory) → ClosesTo s moment sent a
 closes_to s moment sent (Ok u) h unbroken had = (refl, h)
 closes_to s moment sent (Err fault.Write) h unbroken had = absurd (true_false unbroken)
@@ -94,7 +94,7 @@ closed_once one two moment a b line after other later s coming stand had faults 
 
     by_faults : CallsAlike a b line after other later → ClosedOnce a b line after other later
     by_faults (NoFault f g) = unfailed f g
-    by_faults (AtRead f g c) = absurd (subst (λ (z : Result (Unit {0}) ClientFault). ClosesAt s moment h.sent z) f (h.answers s stand.first))
+    by_faults (AtRead f g c) = absurd (subst (λ (z : Result (Unit {0}) ClientFault). ClosesChannelAt s moment h.sent z) f (h.answers s stand.first))
     by_faults (AtWrite f g w) = record { answers = f ∙ sym g; written = w }
 
 -- ---- one place
@@ -151,7 +151,7 @@ module _ (R : Rules ClientTold Why) (old new : Connection) (moment : DateTime) (
       (ended_reads R (channel_of_connection new) (asks_renewed s) (s.octets ++ h.moves.taken) (untaken_of new ++ r.last.coming []) (s.octets ++ coming)
       (s.told ++ w.1.heard) why rules parts w.1.ended)
 
-  ran_out : a ≡ Err fault.Ended → StopsAt {A = Unit {0}} most_reads most_reads h.moves.got new after (Err fault.Ended) → (h.sent ≡ renewal_at s moment)
+  ran_out : a ≡ Err fault.Ended → StopsByTraffic {A = Unit {0}} most_reads most_reads h.moves.got new after (Err fault.Ended) → (h.sent ≡ renewal_at s moment)
       × GoesWithout is_renewed (channel_of_connection new) (asks_renewed s) (s.octets ++ h.moves.taken) s.told
       → RenewsTo R (s.octets ++ coming) s moment (channel_of_connection new) h.sent h.moves.taken a
   ran_out p stops w =
@@ -160,7 +160,7 @@ module _ (R : Rules ClientTold Why) (old new : Connection) (moment : DateTime) (
       (ap (λ (o : List ℕ). s.octets ++ o) (ended_all new h.sent h.moves.taken line after coming r stops.0 stops.1)) w.1.goes)
 
   renews_by : (b : Result (Unit {0}) ClientFault) → a ≡ b → RenewsAt s moment (channel_of_connection new) h.sent h.moves.taken b
-      → StopsAt most_reads most_reads h.moves.got new after b → line_failed_calling b ≡ false → ¬ (IsErrOf b fault.OutOfMemory)
+      → StopsByTraffic most_reads most_reads h.moves.got new after b → line_failed_calling b ≡ false → ¬ (IsErrOf b fault.OutOfMemory)
       → RenewsTo R (s.octets ++ coming) s moment (channel_of_connection new) h.sent h.moves.taken a
   renews_by (Ok u) e k stops unbroken had = Done e k.0 k.1.0 k.1.1
   renews_by (Err fault.Write) e k stops unbroken had = absurd (true_false unbroken)

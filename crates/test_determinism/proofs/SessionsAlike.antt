@@ -13,7 +13,7 @@ use Rattle.ua_services.specs.declared.request.Request.{Request}
 use Rattle.ua_client.specs.Calls.{sent_at}
 use Rattle.ua_client.specs.Client.{IsLeft, client_channel, connection_of}
 use Rattle.ua_client.specs.Hearing.{channel_of_connection}
-use Rattle.ua_client.specs.Session.{ActivatesBehind, BeginsAt, BeginsSessionAs, Replies, ServesAt, activating_at}
+use Rattle.ua_client.specs.Session.{ActivatesBehind, BeginsSessionAs, BeginsSessionAt, Replies, ServesAt, activating_at}
 use Rattle.ua_client.specs.Session.{brings_any, brings_token, creating_at, reply_failure, token_in}
 use Rattle.ua_client.specs.ClientPlace.{ClientPlace, StandsAt}
 use Rattle.ua_client.specs.declared.client.Client.{Client}
@@ -279,7 +279,7 @@ module _ (limits : Limits) (url policy_id : Option (List ℕ)) (moment : DateTim
 
   begun_by : (result : Result NodeId ClientFault) → ((f : ClientFault) → fault_of result ≡ Some f → (f ≡ fault.Ended) ⊎ (f ≡ fault.Read) → more ≡ [])
       → ((f : ClientFault) → fault_of result ≡ Some f → f ≡ fault.OutOfMemory → ⊥)
-      → ((f : ClientFault) → fault_of result ≡ Some f → f ≡ fault.TooLong → ⊥) → BeginsAt url policy_id moment s new sent taken result
+      → ((f : ClientFault) → fault_of result ≡ Some f → f ≡ fault.TooLong → ⊥) → BeginsSessionAt url policy_id moment s new sent taken result
       → Comes (fault_of result) (token_of result)
   begun_by (Ok token) stop had short k = created_by (Ok tt) (Some token) (λ given. given ≡ token) (λ given e none. ap Some (sym e)) (λ f e. none_some f e) stop
       had short k

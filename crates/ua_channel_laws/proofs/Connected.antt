@@ -20,10 +20,10 @@ use Rattle.ua_channel_laws.specs.Rounds.{round_down, round_up, rounds_asks, roun
 use Rattle.ua_channel_laws.specs.ServerReads.{ServerReads, greeted_at, with_token}
 use Rattle.ua_channel.specs.ServerSends.{opened_frame}
 use Rattle.ua_channel.specs.ServerTold.{Told, Told as told}
-use Rattle.ua_channel_laws.proofs.ClientReading.{reads_ack, reads_opened}
+use Rattle.ua_channel_laws.proofs.ClientReadsMessages.{reads_ack, reads_opened}
 use Rattle.ua_channel_laws.proofs.Groups.{asks_outgoing, in_step_answers, reads_answers, reads_outgoing}
 use Rattle.ua_channel_laws.proofs.InStep.{in_step_opened, lane_from_server}
-use Rattle.ua_channel_laws.proofs.ServerReading.{reads_first, reads_hello}
+use Rattle.ua_channel_laws.proofs.ServerReadsMessages.{reads_first, reads_hello}
 use Rattle.ua_channel_laws.proofs.ClientSending.{next-asks}
 
 -- ---- the opening

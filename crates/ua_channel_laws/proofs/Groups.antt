@@ -32,12 +32,12 @@ use Rattle.ua_channel_laws.specs.ServerReads.{AtServer, ServerReads, with_messag
 use Rattle.ua_channel.specs.ServerSends.{opened_frame, replied}
 use Rattle.ua_channel.specs.ServerTold.{Told, Asked, Opened}
 use Rattle.ua_channel.specs.declared.client.channel.ClientChannel.{ClientChannel}
-use Rattle.ua_channel_laws.proofs.ClientReading.{reads_call, reads_renewed, reads_replied}
-use Rattle.ua_channel_laws.proofs.ClientReading as client
+use Rattle.ua_channel_laws.proofs.ClientReadsMessages.{reads_call, reads_renewed, reads_replied}
+use Rattle.ua_channel_laws.proofs.ClientReadsMessages as client
 use Rattle.ua_channel_laws.proofs.ClientSending.{refuses_call, refuses_renewal}
 use Rattle.ua_channel.proofs.HeldTokens.{stays_in}
 use Rattle.ua_channel_laws.proofs.InStep.{body_for, in_more, in_step_answer, in_step_call, in_step_renewal, in_step_reply, lane_to}
-use Rattle.ua_channel_laws.proofs.ServerReading.{reads_message, reads_renewal}
+use Rattle.ua_channel_laws.proofs.ServerReadsMessages.{reads_message, reads_renewal}
 use Rattle.ua_channel.proofs.Askings.{next-append}
 
 -- ---- reasons

@@ -1,13 +1,13 @@
 mod ServerMessages
 mod Holding
-pub mod ServerReadings
+pub mod ServerReadsOnce
 pub mod Replies
-pub mod ClientReadings
+pub mod ClientReadsOnce
 pub mod ReadOn
 pub mod Written
-pub mod ServerReading
+pub mod ServerReadsMessages
 mod ClientTakes
-pub mod ClientReading
+pub mod ClientReadsMessages
 pub mod Following
 mod ClientSending
 pub mod InStep

@@ -25,7 +25,7 @@ use Rattle.ua_channel.specs.ServerStands.{limits_of, channel_of, ChannelStands, 
 use Rattle.ua_channel.specs.ServerTold.{Told, request_of, opened_by, told_under, issued, server_tells}
 use Rattle.ua_channel.specs.ServerTold.Told.{Agreed, Opened, Asked, GaveUp, Closed}
 use Rattle.ua_channel.proofs.OneFrameMore.{behind_append, received-push, received-nil}
-use Rattle.ua_channel_laws.proofs.ServerReadings.{stands_once}
+use Rattle.ua_channel_laws.proofs.ServerReadsOnce.{stands_once}
 
 -- ---- what was agreed to
 

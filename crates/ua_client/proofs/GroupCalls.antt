@@ -18,10 +18,10 @@ use Rattle.ua_channel.specs.declared.client.fault.AskFault.{AskFault}
 use Rattle.ua_channel.specs.declared.client.fault.AskFault.TheVariants as ask_fault
 use Rattle.ua_channel.specs.declared.client.phase.Phase.{Phase}
 use Rattle.ua_client.specs.ClientPlace.{ClientPlace, StandsAt, id_at, lane_behind}
-use Rattle.ua_client.specs.Calls.{asked_at, sent_at, refusal_at, AreUntold, Collects, CollectsAt, BreaksAt, IsSentAt, none_for}
+use Rattle.ua_client.specs.Calls.{asked_at, sent_at, refusal_at, AreUntold, Collects, CollectsAfter, BreaksAt, IsSentAt, none_for}
 use Rattle.ua_client.specs.Carried.{Carries, WritesFront}
-use Rattle.ua_client.specs.Hearing.{channel_of_connection, untaken_of, MovesConnection, StopsAt, is_line_fault}
-use Rattle.ua_client.specs.Kept.{CallsGroup, IsGroupRefusedFor, KeepsAt, naming_request}
+use Rattle.ua_client.specs.Hearing.{channel_of_connection, untaken_of, MovesConnection, StopsByTraffic, is_line_fault}
+use Rattle.ua_client.specs.Kept.{CallsGroup, IsGroupRefusedFor, KeepsRepliesAt, naming_request}
 use Rattle.ua_client.specs.Renewing.{IsIdle}
 use Rattle.ua_client.specs.Replies.{front_of}
 use Rattle.ua_client.specs.Told.{told_of}
@@ -184,7 +184,7 @@ group-refused {A} requests few x t reads c replies h place = record {
 
     keeps : (y : ClientFault) (n : ℕ) → AnswersBy {A = Unit {0}} (group_refusal (phase_of (channel_of_connection x)) 0 requests) (Err y)
         → RefusesBy (phase_of (channel_of_connection x)) requests n y → (s : ClientPlace) → StandsAt (channel_of_connection x) s → IsIdle (channel_of_connection x) s
-        → KeepsAt requests s x [] y n []
+        → KeepsRepliesAt requests s x [] y n []
     keeps fault.TooLarge n e k s at idle = (refused fault.TooLarge n s at idle k, refl)
     keeps fault.NotWritable n e k s at idle = (refused fault.NotWritable n s at idle k, refl)
     keeps fault.Exhausted n e k s at idle = (refused fault.Exhausted n s at idle k, refl)
@@ -208,7 +208,7 @@ group-refused {A} requests few x t reads c replies h place = record {
         by-group (phase_of (channel_of_connection x)) 0 requests fault.TooManyTokens e in absurd cc
 
     stops : (y : ClientFault) → AnswersBy {A = Unit {0}} (group_refusal (phase_of (channel_of_connection x)) 0 requests) (Err y)
-        → StopsAt {A = A} reads reads [] x t (Err y)
+        → StopsByTraffic {A = A} reads reads [] x t (Err y)
     stops fault.TooLarge e = tt
     stops fault.NotWritable e = tt
     stops fault.Exhausted e = tt
@@ -354,9 +354,9 @@ module _ (requests : List Request) (old mid : Connection) (first : ℕ) (out : L
     module _ (slots : List (Option Reply)) (had have : List Reply) (kept : have ≡ had ++ front_of slots) where
       collected : {A : Type 0} (result : Result A ClientFault) (c : Collects slots requests first mid new written after reads left result) (s : ClientPlace)
           (at : StandsAt (channel_of_connection old) s)
-          → CollectsAt slots requests (id_at s) new after result (asked_at s requests) (s.octets ++ c.moves.taken) s.told
+          → CollectsAfter slots requests (id_at s) new after result (asked_at s requests) (s.octets ++ c.moves.taken) s.told
       collected result c s at =
-          subst (λ (n : ℕ). CollectsAt slots requests n new after result (asked_at s requests) (s.octets ++ c.moves.taken) s.told) (first-asked s at)
+          subst (λ (n : ℕ). CollectsAfter slots requests n new after result (asked_at s requests) (s.octets ++ c.moves.taken) s.told) (first-asked s at)
           (c.answers (asked_at s requests) s.octets s.told (goes-asked s at) (untold-asked s at law))
 
       -- a reply that does not come, or is none
@@ -380,7 +380,7 @@ module _ (requests : List Request) (old mid : Connection) (first : ℕ) (out : L
           count = added-count had have (front_of slots) kept
 
           breaks : (y : ClientFault) (s : ClientPlace) → IsSentAt requests s out
-              → CollectsAt {A = B} slots requests (id_at s) new after (Err y) (asked_at s requests) (s.octets ++ c.moves.taken) s.told
+              → CollectsAfter {A = B} slots requests (id_at s) new after (Err y) (asked_at s requests) (s.octets ++ c.moves.taken) s.told
               → BreaksAt requests s new out c.moves.taken y
           breaks (fault.Peer code) s sent h = (sent, (h.0, h.1, record { slots = slots; slots_are = h.2.0; missing = h.2.1 }))
           breaks (fault.Refused code) s sent h = (sent, (h.0, h.1, record { slots = slots; slots_are = h.2.0; missing = h.2.1 }))
@@ -397,9 +397,9 @@ module _ (requests : List Request) (old mid : Connection) (first : ℕ) (out : L
           breaks fault.TooManyTokens s sent h = absurd h
           breaks (fault.Service code) s sent h = absurd h
 
-          keeps : (y : ClientFault) (s : ClientPlace) → CollectsAt {A = B} slots requests (id_at s) new after (Err y) (asked_at s requests)
+          keeps : (y : ClientFault) (s : ClientPlace) → CollectsAfter {A = B} slots requests (id_at s) new after (Err y) (asked_at s requests)
               (s.octets ++ c.moves.taken) s.told
-              → KeepsAt requests s new c.moves.taken y (length have - length had) (front_of slots)
+              → KeepsRepliesAt requests s new c.moves.taken y (length have - length had) (front_of slots)
           keeps (fault.Peer code) s h = (count, (h.0, h.1, front-untold requests (id_at s) (s.told ++ h.0) slots h.2.0 h.2.1))
           keeps (fault.Refused code) s h = (count, (h.0, h.1, front-untold requests (id_at s) (s.told ++ h.0) slots h.2.0 h.2.1))
           keeps fault.Ended s h = (count, (h.0, h.1, front-untold requests (id_at s) (s.told ++ h.0) slots h.2.0 h.2.1))
@@ -415,7 +415,7 @@ module _ (requests : List Request) (old mid : Connection) (first : ℕ) (out : L
           keeps fault.TooManyTokens s h = absurd h
           keeps (fault.Service code) s h = absurd h
 
-          stops : (y : ClientFault) → StopsAt {A = B} reads left c.moves.got new after (Err y) → StopsAt {A = A} reads left c.moves.got new after (Err y)
+          stops : (y : ClientFault) → StopsByTraffic {A = B} reads left c.moves.got new after (Err y) → StopsByTraffic {A = A} reads left c.moves.got new after (Err y)
           stops (fault.Peer code) h = h
           stops (fault.Refused code) h = h
           stops fault.Ended h = h

@@ -12,7 +12,7 @@ use Rattle.ua_channel.specs.declared.client.channel.ClientChannel.{ClientChannel
 use Rattle.ua_client.specs.ClientPlace.{ClientPlace, StandsAt}
 use Rattle.ua_client.specs.Calls.{Rounds, all_of, AreGroups, AnsweredAll}
 use Rattle.ua_client.specs.Calls.Rounds.{NoRound, OneRound}
-use Rattle.ua_client.specs.Hearing.{channel_of_connection, most_reads, MovesConnection, StopsAt}
+use Rattle.ua_client.specs.Hearing.{channel_of_connection, most_reads, MovesConnection, StopsByTraffic}
 use Rattle.ua_client.specs.Kept.{CallsGroup, CallsInto}
 use Rattle.ua_client.specs.Renewing.{IsSettled, StandsSettled}
 use Rattle.ua_client.specs.declared.connection.Connection.{Connection}
@@ -199,8 +199,8 @@ module _ (requests group : List Request) (old now new : Connection) (before at t
         stops = stops f.fault g.stops;
       })
     where
-      stops : (y : ClientFault) → StopsAt {A = A} left less g.moves.got new then (Err y)
-          → StopsAt {A = B} most_reads most_reads (c.moves.got ++ g.moves.got) new then (Err y)
+      stops : (y : ClientFault) → StopsByTraffic {A = A} left less g.moves.got new then (Err y)
+          → StopsByTraffic {A = B} most_reads most_reads (c.moves.got ++ g.moves.got) new then (Err y)
       stops fault.TooLong h = (h.0, let l = length-append c.moves.got g.moves.got in let s = c.spent in let few = h.1 in omega (arith, l, s, few))
       stops fault.Ended h = h
       stops (fault.Peer code) h = tt

@@ -23,7 +23,7 @@ use Rattle.ua_channel.specs.declared.client.fault.ClientTakeFault.{ClientTakeFau
 use Rattle.ua_channel.specs.declared.client.fault.ClientTakeFault.TheVariants as take_fault
 use Rattle.ua_client.specs.Carried.{Carries}
 use Rattle.ua_client.specs.Hearing.{channel_of_connection, untaken_of, most_fragment_octets, failure_of, effort, KeepsClient, TellsEvent, MovesConnection, Starved, Listens}
-use Rattle.ua_client.specs.Hearing.{ListensAt, is_channel_fault, of_take_fault, failures_behind, Fills, FillsAt, Hears, HearsAt, is_hearing_fault, StopsAt}
+use Rattle.ua_client.specs.Hearing.{ListensAfter, is_channel_fault, of_take_fault, failures_behind, Fills, FillsByTraffic, Hears, HearsAfter, is_hearing_fault, StopsByTraffic}
 use Rattle.ua_client.specs.declared.connection.Connection.{Connection}
 use Rattle.ua_client.specs.declared.fault.ClientFault.{ClientFault}
 use Rattle.ua_client.specs.declared.fault.ClientFault.TheVariants as fault
@@ -89,7 +89,7 @@ listens-some old new moment n e keeps not good few rest h = record {
 }
 
 failed-at : (moment : DateTime) (code : StatusCode) (peer : Bool) (new : ClientChannel) (asks : List Placed) (octets : List ℕ) (told : List ClientTold)
-    → ClientEnded new asks octets told (record { code = code.code; peer = peer }) → ListensAt moment (Err (failure_of code peer)) new asks octets told
+    → ClientEnded new asks octets told (record { code = code.code; peer = peer }) → ListensAfter moment (Err (failure_of code peer)) new asks octets told
 failed-at moment code true new asks octets told h = h
 failed-at moment code false new asks octets told h = h
 
@@ -124,7 +124,7 @@ starves x y asks octets told same g done = record {
 fault-at : (f : ClientTakeFault) (old new : Connection) (moment : DateTime) (asks : List Placed) (octets : List ℕ) (told : List ClientTold) → KeepsClient old new
     → ClientGoes (channel_of_connection old) asks octets told
     → ClientAnswers moment (untaken_of old) (Err f) (channel_of_connection new) asks octets told
-    → ListensAt moment (Err (of_take_fault f)) (channel_of_connection new) asks (octets ++ []) told
+    → ListensAfter moment (Err (of_take_fault f)) (channel_of_connection new) asks (octets ++ []) told
 fault-at take_fault.Closed old new moment asks octets told keeps g h = h
 fault-at take_fault.OutOfMemory old new moment asks octets told keeps g h = starves (channel_of_connection old) (channel_of_connection new) asks octets told keeps.same g h
 
@@ -276,9 +276,9 @@ module _ (old now mid : Connection) (before at then : Option Traffic) (reads lef
   module _ {A : Type 0} (done : A) (f : Fills now mid at then left less (Ok done)) (new : Connection) (moment : DateTime) where
     listened : (result : Result (Option ClientEvent) ClientFault) (l : Listens mid new moment result) (asks : List Placed) (octets : List ℕ)
         (told : List ClientTold) → ClientGoes (channel_of_connection old) asks octets told
-        → ListensAt moment result (channel_of_connection new) asks (octets ++ (q.moves.taken ++ l.taken)) told
+        → ListensAfter moment result (channel_of_connection new) asks (octets ++ (q.moves.taken ++ l.taken)) told
     listened result l asks octets told g =
-        subst (λ (o : List ℕ). ListensAt moment result (channel_of_connection new) asks o told) (append_assoc octets q.moves.taken l.taken)
+        subst (λ (o : List ℕ). ListensAfter moment result (channel_of_connection new) asks o told) (append_assoc octets q.moves.taken l.taken)
         (l.answers asks (octets ++ q.moves.taken) told (goes-then (Ok done) f asks octets told g))
 
     pub quiet-then : Listens mid new moment (Ok None) → Quiet old new before then reads less
@@ -312,7 +312,7 @@ module _ (old now mid : Connection) (before at then : Option Traffic) (reads lef
         }
 
     listen-fault : (x : ClientFault) (asks : List Placed) (octets : List ℕ) (told : List ClientTold)
-        → ListensAt moment (Err x) (channel_of_connection new) asks octets told → HearsAt moment (Err x) (channel_of_connection new) asks octets told
+        → ListensAfter moment (Err x) (channel_of_connection new) asks octets told → HearsAfter moment (Err x) (channel_of_connection new) asks octets told
     listen-fault (fault.Peer code) asks octets told h = h
     listen-fault (fault.Refused code) asks octets told h = h
     listen-fault fault.OutOfMemory asks octets told h = h
@@ -328,7 +328,7 @@ module _ (old now mid : Connection) (before at then : Option Traffic) (reads lef
     listen-fault fault.Closed asks octets told h = absurd h
     listen-fault fault.TooLong asks octets told h = absurd h
 
-    channel-stops : (x : ClientFault) (got : List ℕ) → is_channel_fault x ≡ true → StopsAt {A = ClientEvent} reads less got new then (Err x)
+    channel-stops : (x : ClientFault) (got : List ℕ) → is_channel_fault x ≡ true → StopsByTraffic {A = ClientEvent} reads less got new then (Err x)
     channel-stops (fault.Peer code) got h = tt
     channel-stops (fault.Refused code) got h = tt
     channel-stops fault.OutOfMemory got h = tt
@@ -370,9 +370,9 @@ module _ (old now mid : Connection) (before at then : Option Traffic) (reads lef
       stops = channel-stops x (q.moves.got ++ f.got) l.faults;
     }
 
-  moment-free : (moment : DateTime) (x : ClientFault) (got : List ℕ) → FillsAt {A = Unit {0}} left less got mid then (Err x)
+  moment-free : (moment : DateTime) (x : ClientFault) (got : List ℕ) → FillsByTraffic {A = Unit {0}} left less got mid then (Err x)
       → (asks : List Placed) (octets : List ℕ) (told : List ClientTold) → ClientGoes (channel_of_connection mid) asks octets told
-      → HearsAt moment (Err x) (channel_of_connection mid) asks octets told
+      → HearsAfter moment (Err x) (channel_of_connection mid) asks octets told
   moment-free moment fault.TooLong got h asks octets told g = g
   moment-free moment fault.Ended got h asks octets told g = g
   moment-free moment fault.Read got h asks octets told g = g
@@ -388,8 +388,8 @@ module _ (old now mid : Connection) (before at then : Option Traffic) (reads lef
   moment-free moment fault.Closed got h asks octets told g = absurd h
   moment-free moment fault.OutOfMemory got h asks octets told g = absurd h
 
-  read-stops : (x : ClientFault) (got : List ℕ) → FillsAt {A = Unit {0}} left less got mid then (Err x)
-      → StopsAt {A = ClientEvent} reads less (q.moves.got ++ got) mid then (Err x)
+  read-stops : (x : ClientFault) (got : List ℕ) → FillsByTraffic {A = Unit {0}} left less got mid then (Err x)
+      → StopsByTraffic {A = ClientEvent} reads less (q.moves.got ++ got) mid then (Err x)
   read-stops fault.TooLong got h = (h.0, let l = length-append q.moves.got got in let s = q.spent in let few = h.1 in omega (arith, l, s, few))
   read-stops fault.Ended got h = h
   read-stops fault.Read got h = h
@@ -405,7 +405,7 @@ module _ (old now mid : Connection) (before at then : Option Traffic) (reads lef
   read-stops fault.Closed got h = absurd h
   read-stops fault.OutOfMemory got h = absurd h
 
-  read-heard : (x : ClientFault) (got : List ℕ) → FillsAt {A = Unit {0}} left less got mid then (Err x) → is_hearing_fault x ≡ true
+  read-heard : (x : ClientFault) (got : List ℕ) → FillsByTraffic {A = Unit {0}} left less got mid then (Err x) → is_hearing_fault x ≡ true
   read-heard (fault.Peer code) got h = refl
   read-heard (fault.Refused code) got h = refl
   read-heard fault.OutOfMemory got h = refl

@@ -15,8 +15,8 @@ use Rattle.ua_channel.specs.Line.{Traffic, one_more}
 use Rattle.ua_channel.specs.declared.client.channel.ClientChannel.{ClientChannel}
 use Rattle.ua_channel.specs.declared.client.event.ClientEvent.{ClientEvent}
 use Rattle.ua_services.specs.declared.request.Request.{Request}
-use Rattle.ua_client.specs.Calls.{AreFrames, AreUntold, Collects, CollectsAt, ClientGoesOn, LastCame, none_for}
-use Rattle.ua_client.specs.Hearing.{channel_of_connection, KeepsClient, MovesConnection, Says, Hears, HearsAt, StopsAt, is_line_fault}
+use Rattle.ua_client.specs.Calls.{AreFrames, AreUntold, Collects, CollectsAfter, ClientGoesOn, LastCame, none_for}
+use Rattle.ua_client.specs.Hearing.{channel_of_connection, KeepsClient, MovesConnection, Says, Hears, HearsAfter, StopsByTraffic, is_line_fault}
 use Rattle.ua_client.specs.Replies.{AreSlots, IsFront, IsUntoldBefore, LacksAnswer, IsMisanswered, FillsSlots, front_of, is_reading_fault}
 use Rattle.ua_client.specs.Told.{IsFirstOf}
 use Rattle.ua_client.specs.declared.connection.Connection.{Connection}
@@ -204,7 +204,7 @@ module _ (requests : List Request) (first : ℕ) (old now new : Connection) (bef
         → ((m : DateTime) (all : List ClientTold) (t : ClientTold) → Says m e t → IsFirstOf all t → AreSlots requests first all slots
         → FillsSlots requests first (all ++ t ∷ []) next (Err x))
         → (asks : List Placed) (octets : List ℕ) (told : List ClientTold) → ClientGoes (channel_of_connection old) asks octets told → AreUntold requests first told
-        → CollectsAt {A = A} next requests first new then (Err x) asks (octets ++ (w.moves.taken ++ h.moves.taken)) told
+        → CollectsAfter {A = A} next requests first new then (Err x) asks (octets ++ (w.moves.taken ++ h.moves.taken)) told
     misread-by A fault.UnknownResponse next same missing filled asks octets told g none =
         behind (λ all. IsMisanswered requests first all × IsFront LacksAnswer (front_of next) requests first all) asks octets told g none
         (first-filled (λ all. IsMisanswered requests first all × IsFront LacksAnswer (front_of next) requests first all) filled asks
@@ -230,9 +230,9 @@ module _ (requests : List Request) (first : ℕ) (old now new : Connection) (bef
   -- a fault of the line or of the channel while replies are missing
   heard-fault : (A : Type 0) (x : ClientFault) (h : Hears now new moment at then left less (Err x)) → list_any is_none slots ≡ true
       → (asks : List Placed) (octets : List ℕ) (told : List ClientTold) → ClientGoes (channel_of_connection old) asks octets told → AreUntold requests first told
-      → CollectsAt {A = A} slots requests first new then (Err x) asks (octets ++ (w.moves.taken ++ h.moves.taken)) told
+      → CollectsAfter {A = A} slots requests first new then (Err x) asks (octets ++ (w.moves.taken ++ h.moves.taken)) told
   heard-fault A x h missing asks octets told g none =
-      by x (subst (λ (o : List ℕ). HearsAt moment (Err x) (channel_of_connection new) asks o (told ++ on.0)) (append_assoc octets w.moves.taken h.moves.taken)
+      by x (subst (λ (o : List ℕ). HearsAfter moment (Err x) (channel_of_connection new) asks o (told ++ on.0)) (append_assoc octets w.moves.taken h.moves.taken)
       (h.answers asks (octets ++ w.moves.taken) (told ++ on.0) on.1))
     where
       on : ClientGoesOn (channel_of_connection now) asks (octets ++ w.moves.taken) told (λ all. AreSlots requests first all slots
@@ -242,8 +242,8 @@ module _ (requests : List Request) (first : ℕ) (old now new : Connection) (bef
       some : AreSlots requests first (told ++ on.0) slots × (list_any is_none slots ≡ true)
       some = (on.2.0, missing)
 
-      by : (y : ClientFault) → HearsAt moment (Err y) (channel_of_connection new) asks (octets ++ (w.moves.taken ++ h.moves.taken)) (told ++ on.0)
-          → CollectsAt {A = A} slots requests first new then (Err y) asks (octets ++ (w.moves.taken ++ h.moves.taken)) told
+      by : (y : ClientFault) → HearsAfter moment (Err y) (channel_of_connection new) asks (octets ++ (w.moves.taken ++ h.moves.taken)) (told ++ on.0)
+          → CollectsAfter {A = A} slots requests first new then (Err y) asks (octets ++ (w.moves.taken ++ h.moves.taken)) told
       by (fault.Peer code) k = (on.0, k, some)
       by (fault.Refused code) k = (on.0, k, some)
       by fault.Ended k = (on.0, k, some)
@@ -260,8 +260,8 @@ module _ (requests : List Request) (first : ℕ) (old now new : Connection) (bef
       by fault.Closed k = absurd k
       by fault.TooManyTokens k = absurd k
 
-  stops-behind : (A : Type 0) (x : ClientFault) (got : List ℕ) → StopsAt {A = ClientEvent} left less got new then (Err x)
-      → StopsAt {A = A} reads less (w.moves.got ++ got) new then (Err x)
+  stops-behind : (A : Type 0) (x : ClientFault) (got : List ℕ) → StopsByTraffic {A = ClientEvent} left less got new then (Err x)
+      → StopsByTraffic {A = A} reads less (w.moves.got ++ got) new then (Err x)
   stops-behind A fault.TooLong got h = (h.0, let l = length-append w.moves.got got in let s = w.spent in let few = h.1 in omega (arith, l, s, few))
   stops-behind A fault.Ended got h = h
   stops-behind A fault.Read got h = h
@@ -298,7 +298,7 @@ module _ (requests : List Request) (first : ℕ) (old now new : Connection) (bef
     stops = reading-stops A x (w.moves.got ++ h.moves.got) few;
   }
     where
-      reading-stops : (B : Type 0) (y : ClientFault) (got : List ℕ) → is_reading_fault y ≡ true → StopsAt {A = B} reads less got new then (Err y)
+      reading-stops : (B : Type 0) (y : ClientFault) (got : List ℕ) → is_reading_fault y ≡ true → StopsByTraffic {A = B} reads less got new then (Err y)
       reading-stops B fault.UnknownResponse got f = tt
       reading-stops B fault.OutOfMemory got f = tt
       reading-stops B fault.TooLong got f = absurd cc

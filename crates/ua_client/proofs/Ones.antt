@@ -4,7 +4,7 @@ use Rattle.std.proofs.Common.{◌∙◌, sym, ap, subst}
 use Rattle.ua_services.specs.declared.request.Request.{Request}
 use Rattle.ua_channel.specs.Line.{Traffic}
 use Rattle.ua_client.specs.Calls.{AnsweredAll, BrokenAll, CallsAll}
-use Rattle.ua_client.specs.Hearing.{channel_of_connection, most_reads, StopsAt}
+use Rattle.ua_client.specs.Hearing.{channel_of_connection, most_reads, StopsByTraffic}
 use Rattle.ua_client.specs.Kept.{CallsInto}
 use Rattle.ua_client.specs.declared.connection.Connection.{Connection}
 use Rattle.ua_client.specs.declared.fault.CallsFault.{CallsFault}
@@ -14,7 +14,7 @@ use Rattle.ua_client.specs.declared.reply.Reply.{Reply}
 
 -- whatever would have been answered
 stops-as : (A B : Type 0) (reads left : ℕ) (got : List ℕ) (new : Connection) (after : Option Traffic) (f : ClientFault)
-    → StopsAt {A = A} reads left got new after (Err f) → StopsAt {A = B} reads left got new after (Err f)
+    → StopsByTraffic {A = A} reads left got new after (Err f) → StopsByTraffic {A = B} reads left got new after (Err f)
 stops-as A B reads left got new after fault.TooLong h = h
 stops-as A B reads left got new after fault.Ended h = h
 stops-as A B reads left got new after fault.Read h = h

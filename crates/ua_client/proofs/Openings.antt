@@ -15,8 +15,8 @@ use Rattle.ua_channel.specs.declared.client.channel.ClientChannel.{ClientChannel
 use Rattle.ua_channel.specs.declared.client.event.ClientEvent.{ClientEvent}
 use Rattle.ua_channel.specs.declared.client.event.ClientEvent.TheVariants as event
 use Rattle.ua_client.specs.Carried.{Carries, IsPart, WritesFront}
-use Rattle.ua_client.specs.Hearing.{channel_of_connection, BreaksOff, KeepsClient, MovesConnection, Says, Starved, Hears, HearsAt, StopsAt, most_reads}
-use Rattle.ua_client.specs.Opening.{is_agreed, is_opened, EndsWithout, GoesWithout, GoesUntil, StarvesWithout, WaitsAt}
+use Rattle.ua_client.specs.Hearing.{channel_of_connection, BreaksOff, KeepsClient, MovesConnection, Says, Starved, Hears, HearsAfter, StopsByTraffic, most_reads}
+use Rattle.ua_client.specs.Opening.{is_agreed, is_opened, EndsWithout, GoesWithout, GoesUntil, StarvesWithout, WaitsAfter}
 use Rattle.ua_client.specs.Opening.{Waits, any_done, hello_octets, open_frame_octets, BreaksOpening, IsOpened, Opens}
 use Rattle.ua_client.specs.declared.connection.Connection.{Connection}
 use Rattle.ua_client.specs.declared.fault.ClientFault.{ClientFault}
@@ -182,14 +182,14 @@ module _ (test : ClientEvent → Bool) (wanted : ClientTold → Bool) (tests : T
     answers = λ asks octets told g.
         let on = w.goes asks octets told g in
         by x asks (octets ++ (w.moves.taken ++ h.moves.taken)) told on.heard on.none
-        (subst (λ (o : List ℕ). HearsAt moment (Err x) (channel_of_connection new) asks o (told ++ on.heard)) (append_assoc octets w.moves.taken h.moves.taken)
+        (subst (λ (o : List ℕ). HearsAfter moment (Err x) (channel_of_connection new) asks o (told ++ on.heard)) (append_assoc octets w.moves.taken h.moves.taken)
         (h.answers asks (octets ++ w.moves.taken) (told ++ on.heard) on.goes));
     faults = h.faults;
     stops = stops x h.moves.got h.stops;
   }
     where
       by : (y : ClientFault) (asks : List Placed) (octets : List ℕ) (told heard : List ClientTold) → list_any wanted heard ≡ false
-          → HearsAt moment (Err y) (channel_of_connection new) asks octets (told ++ heard) → WaitsAt wanted P (Err y) (channel_of_connection new) asks octets told
+          → HearsAfter moment (Err y) (channel_of_connection new) asks octets (told ++ heard) → WaitsAfter wanted P (Err y) (channel_of_connection new) asks octets told
       by (fault.Peer code) asks octets told heard none k = record { heard = heard; none = none; ended = k }
       by (fault.Refused code) asks octets told heard none k = record { heard = heard; none = none; ended = k }
       by fault.Ended asks octets told heard none k = record { heard = heard; none = none; goes = k }
@@ -205,8 +205,8 @@ module _ (test : ClientEvent → Bool) (wanted : ClientTold → Bool) (tests : T
       by fault.TooManyTokens asks octets told heard none k = absurd k
       by fault.Closed asks octets told heard none k = absurd k
 
-      stops : (y : ClientFault) (got : List ℕ) → StopsAt {A = ClientEvent} left less got new then (Err y)
-          → StopsAt {A = A} reads less (w.moves.got ++ got) new then (Err y)
+      stops : (y : ClientFault) (got : List ℕ) → StopsByTraffic {A = ClientEvent} left less got new then (Err y)
+          → StopsByTraffic {A = A} reads less (w.moves.got ++ got) new then (Err y)
       stops fault.TooLong got k = (k.0, let l = length-append w.moves.got got in let s = w.spent in let few = k.1 in omega (arith, l, s, few))
       stops fault.Ended got k = k
       stops fault.Read got k = k
@@ -294,7 +294,7 @@ opened-next goes_on x octets ack u =
 -- what is waited for is what would be told next, so where it was not told nothing was
 told-none : {A : Type 0} (wanted : ClientTold → Bool) (P : A → Type 0) (told : List ClientTold)
     → ((heard : List ClientTold) → list_any wanted heard ≡ false → IsGreeting (told ++ heard) → heard ≡ [])
-    → (x : ClientChannel) (asks : List Placed) (octets : List ℕ) (f : ClientFault) → WaitsAt wanted P (Err f) x asks octets told
+    → (x : ClientChannel) (asks : List Placed) (octets : List ℕ) (f : ClientFault) → WaitsAfter wanted P (Err f) x asks octets told
     → BreaksOff f x asks octets told
 told-none wanted P told next x asks octets f h = by f h
   where
@@ -312,7 +312,7 @@ told-none wanted P told next x asks octets f h = by f h
     starves k = subst (λ (all : List ClientTold). Starved x asks octets all) (no-more k.heard k.none (shape-starved x asks octets (told ++ k.heard) k.starved))
         k.starved
 
-    by : (y : ClientFault) → WaitsAt wanted P (Err y) x asks octets told → BreaksOff y x asks octets told
+    by : (y : ClientFault) → WaitsAfter wanted P (Err y) x asks octets told → BreaksOff y x asks octets told
     by fault.Read k = goes k
     by fault.Ended k = goes k
     by fault.TooLong k = goes k
@@ -373,7 +373,7 @@ module _ (moment : DateTime) (x mid : Connection) (hello : List ℕ) (a b c : Op
     stops = stops f h.stops;
   }
     where
-      by : (y : ClientFault) → WaitsAt is_agreed P (Err y) (channel_of_connection mid) [] h.moves.taken []
+      by : (y : ClientFault) → WaitsAfter is_agreed P (Err y) (channel_of_connection mid) [] h.moves.taken []
           → BreaksOpening (hello_octets (client_limits (channel_of_connection x)) (url_of (channel_of_connection x))) (open_frame_octets moment) (channel_of_connection mid) hello h.moves.taken y
       by fault.Read k = inl (is, told-none is_agreed P [] none-agreed (channel_of_connection mid) [] h.moves.taken fault.Read k)
       by fault.Ended k = inl (is, told-none is_agreed P [] none-agreed (channel_of_connection mid) [] h.moves.taken fault.Ended k)
@@ -390,7 +390,7 @@ module _ (moment : DateTime) (x mid : Connection) (hello : List ℕ) (a b c : Op
       by fault.TooManyTokens k = absurd k
       by fault.Closed k = absurd k
 
-      stops : (y : ClientFault) → StopsAt {A = B} most_reads left h.moves.got mid c (Err y) → StopsAt {A = A} most_reads most_reads h.moves.got mid c (Err y)
+      stops : (y : ClientFault) → StopsByTraffic {A = B} most_reads left h.moves.got mid c (Err y) → StopsByTraffic {A = A} most_reads most_reads h.moves.got mid c (Err y)
       stops fault.TooLong k = k
       stops fault.Ended k = k
       stops fault.Read k = k
@@ -476,7 +476,7 @@ module _ (moment : DateTime) (x mid : Connection) (hello : List ℕ) (a b c : Op
       }
         where
           by : (y : ClientFault) → ClientGoes (channel_of_connection x) [] [] [] → (ack : Ack)
-              → WaitsAt is_opened any_done (Err y) (channel_of_connection new) [] (h.moves.taken ++ k.moves.taken) (Agreed ack ∷ [])
+              → WaitsAfter is_opened any_done (Err y) (channel_of_connection new) [] (h.moves.taken ++ k.moves.taken) (Agreed ack ∷ [])
               → BreaksOpening (hello_octets (client_limits (channel_of_connection x)) (url_of (channel_of_connection x))) (open_frame_octets moment) (channel_of_connection new) (hello ++ opening)
               (h.moves.taken ++ k.moves.taken) y
           by fault.Read g ack i =
@@ -530,8 +530,8 @@ module _ (moment : DateTime) (x mid : Connection) (hello : List ℕ) (a b c : Op
           by fault.TooManyTokens g ack i = absurd i
           by fault.Closed g ack i = absurd i
 
-          stops : (y : ClientFault) → StopsAt {A = Unit {0}} left less k.moves.got new e (Err y)
-              → StopsAt {A = Unit {0}} most_reads most_reads (h.moves.got ++ k.moves.got) new e (Err y)
+          stops : (y : ClientFault) → StopsByTraffic {A = Unit {0}} left less k.moves.got new e (Err y)
+              → StopsByTraffic {A = Unit {0}} most_reads most_reads (h.moves.got ++ k.moves.got) new e (Err y)
           stops fault.TooLong i = (i.0, let l = length-append h.moves.got k.moves.got in let s = h.stops in let few = i.1 in omega (arith, l, s, few))
           stops fault.Ended i = i
           stops fault.Read i = i
@@ -566,8 +566,8 @@ pub breaks-as : {A B : Type 0} (moment : DateTime) (old new : Connection) (befor
     → Opens {A = A} moment old new before after (Err f) → Opens {A = B} moment old new before after (Err f)
 breaks-as {A} {B} moment old new before after f h = record { sent = h.sent; moves = h.moves; keeps = h.keeps; answers = h.answers; stops = stops f h.stops }
   where
-    stops : (y : ClientFault) → StopsAt {A = A} most_reads most_reads h.moves.got new after (Err y)
-        → StopsAt {A = B} most_reads most_reads h.moves.got new after (Err y)
+    stops : (y : ClientFault) → StopsByTraffic {A = A} most_reads most_reads h.moves.got new after (Err y)
+        → StopsByTraffic {A = B} most_reads most_reads h.moves.got new after (Err y)
     stops fault.TooLong i = i
     stops fault.Ended i = i
     stops fault.Read i = i

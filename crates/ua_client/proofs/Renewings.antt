@@ -32,10 +32,10 @@ use Rattle.ua_channel.specs.declared.client.fault.AskFault.TheVariants as ask_fa
 use Rattle.ua_channel.specs.declared.client.phase.Phase.{Phase}
 use Rattle.ua_channel.specs.declared.client.phase.Phase.TheVariants as phase
 use Rattle.ua_channel.proofs.Askings.{asked_in-push, renewals-push}
-use Rattle.ua_channel_laws.proofs.ClientReadings.{stands_once}
+use Rattle.ua_channel_laws.proofs.ClientReadsOnce.{stands_once}
 use Rattle.ua_client.specs.Carried.{Carries, IsPart, WritesFront}
-use Rattle.ua_client.specs.Hearing.{channel_of_connection, is_hearing_fault, untaken_of, most_reads, KeepsClient, MovesConnection, StopsAt}
-use Rattle.ua_client.specs.Opening.{is_opened, any_done, GoesUntil, IsOpened, WaitsAt, Waits}
+use Rattle.ua_client.specs.Hearing.{channel_of_connection, is_hearing_fault, untaken_of, most_reads, KeepsClient, MovesConnection, StopsByTraffic}
+use Rattle.ua_client.specs.Opening.{is_opened, any_done, GoesUntil, IsOpened, WaitsAfter, Waits}
 use Rattle.ua_client.specs.Renewing.{is_renewed, IsIdle, IsSettled, IsRefusal, StandsSettled, renewal_refusal}
 use Rattle.ua_client.specs.Renewing.{refused_by, of_renew_fault, renewal_at, asks_renewed, IsRenewed, RenewsAt, Renews}
 use Rattle.ua_client.specs.ClientPlace.{ClientPlace, StandsAt, id_at, lane_behind}
@@ -175,7 +175,7 @@ module _ (A : Type 0) (s : ClientPlace) (moment : DateTime) (new : ClientChannel
       (subst (λ (r : Option AskFault). IsAskFaultFor r f) (channel-refuses x s at idle) h))
 
 -- a refusal does not stop what is read
-refusal-stops : (A : Type 0) (f : AskFault) (x : Connection) (t : Option Traffic) → StopsAt {A = A} most_reads most_reads [] x t (Err (of_renew_fault f))
+refusal-stops : (A : Type 0) (f : AskFault) (x : Connection) (t : Option Traffic) → StopsByTraffic {A = A} most_reads most_reads [] x t (Err (of_renew_fault f))
 refusal-stops A ask_fault.NotOpen x t = tt
 refusal-stops A ask_fault.TooManyPending x t = tt
 refusal-stops A ask_fault.RenewPending x t = tt
@@ -379,7 +379,7 @@ module _ (moment : DateTime) (x mid new : Connection) (id : ℕ) (out : List ℕ
     }
       where
         unrefused : (y : ClientFault) (s : ClientPlace) (taken : List ℕ)
-            → WaitsAt is_renewed any_done (Err y) (channel_of_connection new) (asks_renewed s) (s.octets ++ taken) s.told → refused_by {A = Unit {0}} (Err y) ≡ None
+            → WaitsAfter is_renewed any_done (Err y) (channel_of_connection new) (asks_renewed s) (s.octets ++ taken) s.told → refused_by {A = Unit {0}} (Err y) ≡ None
         unrefused fault.Read s taken k = refl
         unrefused fault.Ended s taken k = refl
         unrefused fault.TooLong s taken k = refl
@@ -396,7 +396,7 @@ module _ (moment : DateTime) (x mid new : Connection) (id : ℕ) (out : List ℕ
         unrefused fault.Closed s taken k = refl
 
         by : (y : ClientFault) (s : ClientPlace) (taken : List ℕ) → out ≡ renewal_at s moment
-            → WaitsAt is_renewed any_done (Err y) (channel_of_connection new) (asks_renewed s) (s.octets ++ taken) s.told
+            → WaitsAfter is_renewed any_done (Err y) (channel_of_connection new) (asks_renewed s) (s.octets ++ taken) s.told
             → RenewsAt {A = Unit {0}} s moment (channel_of_connection new) out taken (Err y)
         by fault.Read s taken e k = (e, k)
         by fault.Ended s taken e k = (e, k)
@@ -413,8 +413,8 @@ module _ (moment : DateTime) (x mid new : Connection) (id : ℕ) (out : List ℕ
         by fault.TooManyTokens s taken e k = absurd k
         by fault.Closed s taken e k = absurd k
 
-        stops : (y : ClientFault) → StopsAt {A = Unit {0}} most_reads left h.moves.got new c (Err y)
-            → StopsAt {A = Unit {0}} most_reads most_reads h.moves.got new c (Err y)
+        stops : (y : ClientFault) → StopsByTraffic {A = Unit {0}} most_reads left h.moves.got new c (Err y)
+            → StopsByTraffic {A = Unit {0}} most_reads most_reads h.moves.got new c (Err y)
         stops fault.TooLong k = k
         stops fault.Ended k = k
         stops fault.Read k = k

@@ -24,9 +24,9 @@ use Rattle.ua_channel.specs.ClientTable.{of_ack}
 use Rattle.ua_channel.specs.Line.{Traffic}
 use Rattle.ua_channel.specs.declared.client.channel.ClientChannel.{ClientChannel}
 use Rattle.ua_client.specs.Calls.{Answered, BreaksAt}
-use Rattle.ua_client.specs.Kept.{CallsGroup, GroupAt}
-use Rattle.ua_client.specs.Hearing.{channel_of_connection, most_reads, StopsAt}
-use Rattle.ua_client.specs.Session.{ActivatesBehind, BeginsAt, BeginsSessionAs, CallsOneAt, DoesIdle, FailsAt, IsFailure}
+use Rattle.ua_client.specs.Kept.{CallsGroup, CallsGroupAt}
+use Rattle.ua_client.specs.Hearing.{channel_of_connection, most_reads, StopsByTraffic}
+use Rattle.ua_client.specs.Session.{ActivatesBehind, BeginsSessionAs, BeginsSessionAt, CallsOneAt, DoesIdle, FailsSessionAt, IsFailure}
 use Rattle.ua_client.specs.Session.{IsReplied, LacksToken, MakesRequest, Replies, ServesAt, TriesSession, activating_at}
 use Rattle.ua_client.specs.Session.{brings_any, brings_token, creating_at, is_reply, reply_failure, session_alone, token_in}
 use Rattle.ua_client.specs.Renewing.{IsIdle, IsSettled, StandsSettled}
@@ -48,7 +48,7 @@ use Rattle.ua_client.proofs.Settled.{answered-settled}
 -- a fault behind a call that spent so many reads
 stops-then : (A B : Type 0) (reads left less more : ℕ) (got further : List ℕ) (new : Connection) (after : Option Traffic) (f : ClientFault)
     → reads ≤ left + length got
-    → StopsAt {A = A} left less further new after (Err f) → StopsAt {A = B} reads more (got ++ further) new after (Err f)
+    → StopsByTraffic {A = A} left less further new after (Err f) → StopsByTraffic {A = B} reads more (got ++ further) new after (Err f)
 stops-then A B reads left less more got further new after fault.TooLong spent h =
     (h.0, let l = length-append got further in let few = h.1 in omega (arith, l, spent, few))
 stops-then A B reads left less more got further new after fault.Ended spent h = h
@@ -66,7 +66,7 @@ stops-then A B reads left less more got further new after fault.TooManyTokens sp
 stops-then A B reads left less more got further new after fault.OutOfMemory spent h = tt
 
 stops-as : (A B : Type 0) (reads left more : ℕ) (got : List ℕ) (new : Connection) (after : Option Traffic) (f : ClientFault)
-    → StopsAt {A = A} reads left got new after (Err f) → StopsAt {A = B} reads more got new after (Err f)
+    → StopsByTraffic {A = A} reads left got new after (Err f) → StopsByTraffic {A = B} reads more got new after (Err f)
 stops-as A B reads left more got new after f h = stops-then A B reads reads left more [] got new after f (omega arith) h
 
 -- ---- one request
@@ -80,11 +80,11 @@ one-replied request requests old new before after reads left had have reply e no
   moves = g.moves;
   same = g.same;
   answers = λ s at idle.
-      replied s (subst (λ (ms : List Request). GroupAt {A = Unit {0}} ms s new g.sent g.moves.taken (Ok tt) g.added) e (g.answers s at idle));
+      replied s (subst (λ (ms : List Request). CallsGroupAt {A = Unit {0}} ms s new g.sent g.moves.taken (Ok tt) g.added) e (g.answers s at idle));
   stops = g.stops;
 }
   where
-    replied : (s : ClientPlace) → GroupAt {A = Unit {0}} (request ∷ []) s new g.sent g.moves.taken (Ok tt) g.added
+    replied : (s : ClientPlace) → CallsGroupAt {A = Unit {0}} (request ∷ []) s new g.sent g.moves.taken (Ok tt) g.added
         → Replies request s (channel_of_connection new) g.sent g.moves.taken (is_reply reply)
     replied s a =
         let alone : g.added ≡ reply ∷ [] = sym (sym one ∙ (g.have_is ∙ ap (λ (rs : List Reply). rs ++ g.added) none)) in
@@ -451,7 +451,7 @@ behind-any url policy_id moment s new sent taken P result a = record {
 
 failed-there : (url policy_id : Option (List ℕ)) (moment : DateTime) (s : ClientPlace) (new : Connection) (sent taken : List ℕ) (token : Option NodeId)
     (f : ClientFault)
-    → FailsAt url policy_id moment s new sent taken token f → BeginsAt url policy_id moment s new sent taken (Err f)
+    → FailsSessionAt url policy_id moment s new sent taken token f → BeginsSessionAt url policy_id moment s new sent taken (Err f)
 failed-there url policy_id moment s new sent taken None f h = inl h
 failed-there url policy_id moment s new sent taken (Some token) f a = inr (behind-any url policy_id moment s new sent taken (λ given. given ≡ token) (Err f) a)
 

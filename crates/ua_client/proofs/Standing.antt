@@ -14,7 +14,7 @@ use Rattle.ua_client.specs.Hearing.{channel_of_connection}
 use Rattle.ua_client.specs.Kept.{CallsInto}
 use Rattle.ua_client.specs.Opening.{IsOpened, Opens}
 use Rattle.ua_client.specs.Renewing.{IsRefusal, IsSettled, Renews, RenewsAt, StandsSettled}
-use Rattle.ua_client.specs.Session.{FailsAt, ServesAt, TriesSession, activating_at, brings_any, brings_token, creating_at}
+use Rattle.ua_client.specs.Session.{FailsSessionAt, ServesAt, TriesSession, activating_at, brings_any, brings_token, creating_at}
 use Rattle.ua_client.specs.ClientPlace.{ClientPlace, StandsAt}
 use Rattle.ua_client.specs.declared.connection.Connection.{Connection}
 use Rattle.ua_client.specs.declared.fault.CallsFault.{CallsFault}
@@ -102,7 +102,7 @@ module _ (policy_id : Option (List ℕ)) (moment : DateTime) (old new : Connecti
   stands-unbegun failed e c = ∥∥₁_map stands (λ (w : Settled (channel_of_connection old)). by w.0 w.2 failed.token (c.answers w.0 w.1))
     where
       by : (s : ClientPlace) → IsSettled s → (token : Option NodeId)
-          → FailsAt (url_of (channel_of_connection old)) policy_id moment s new c.sent c.moves.taken token failed.fault → Settled (channel_of_connection new)
+          → FailsSessionAt (url_of (channel_of_connection old)) policy_id moment s new c.sent c.moves.taken token failed.fault → Settled (channel_of_connection new)
       by s settled None h = service-standing (creating_at (url_of (channel_of_connection old)) moment s) brings_token s new c.sent c.moves.taken failed.fault e settled h
       by s settled (Some token) a = service-standing (activating_at policy_id a.token moment a.between) brings_any a.between new a.sent_then a.taken_then
           failed.fault e (a.settled settled) a.further.1

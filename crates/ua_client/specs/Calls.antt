@@ -12,7 +12,7 @@ use Rattle.ua_channel.specs.ClientTold.{ClientTold, Why, ours, peers}
 use Rattle.ua_channel.specs.Line.{Traffic}
 use Rattle.ua_channel.specs.declared.client.channel.ClientChannel.{ClientChannel}
 use Rattle.ua_services.specs.declared.request.Request.{Request}
-use Rattle.ua_client.specs.Hearing.{channel_of_connection, most_reads, KeepsClient, MovesConnection, Starved, StopsAt}
+use Rattle.ua_client.specs.Hearing.{channel_of_connection, most_reads, KeepsClient, MovesConnection, Starved, StopsByTraffic}
 use Rattle.ua_client.specs.Renewing.{IsSettled}
 use Rattle.ua_client.specs.ClientPlace.{ClientPlace, StandsAt, id_at, lane_behind}
 use Rattle.ua_client.specs.Told.{told_of}
@@ -73,26 +73,26 @@ pub record LastCame (x : ClientChannel) (requests : List Request) (id : ℕ) (as
 
 -- the outcome for the replies to calls of these requests, whose RequestIds are counted from the
 -- first: all came, or a prefix of them
-abbrev pub CollectsAt : {A : Type 0} → List (Option Reply) → List Request → ℕ → Connection → Option Traffic → Result A ClientFault → List Placed → List ℕ
+abbrev pub CollectsAfter : {A : Type 0} → List (Option Reply) → List Request → ℕ → Connection → Option Traffic → Result A ClientFault → List Placed → List ℕ
     → List ClientTold → Type 0
-CollectsAt slots requests first new after (Ok found) asks octets told =
+CollectsAfter slots requests first new after (Ok found) asks octets told =
     ClientGoesOn (channel_of_connection new) asks octets told (λ all. AreSlots requests first all slots × (list_any is_none slots ≡ false)
     × LastCame (channel_of_connection new) requests first asks octets all)
-CollectsAt slots requests first new after (Err (fault.Peer code)) asks octets told = EndsOn (channel_of_connection new) asks octets told (peers code.code)
+CollectsAfter slots requests first new after (Err (fault.Peer code)) asks octets told = EndsOn (channel_of_connection new) asks octets told (peers code.code)
     (λ all. AreSlots requests first all slots × (list_any is_none slots ≡ true))
-CollectsAt slots requests first new after (Err (fault.Refused code)) asks octets told = EndsOn (channel_of_connection new) asks octets told (ours code.code)
+CollectsAfter slots requests first new after (Err (fault.Refused code)) asks octets told = EndsOn (channel_of_connection new) asks octets told (ours code.code)
     (λ all. AreSlots requests first all slots × (list_any is_none slots ≡ true))
-CollectsAt slots requests first new after (Err fault.Ended) asks octets told =
+CollectsAfter slots requests first new after (Err fault.Ended) asks octets told =
     ClientGoesOn (channel_of_connection new) asks octets told (λ all. AreSlots requests first all slots × (list_any is_none slots ≡ true))
-CollectsAt slots requests first new after (Err fault.Read) asks octets told =
+CollectsAfter slots requests first new after (Err fault.Read) asks octets told =
     ClientGoesOn (channel_of_connection new) asks octets told (λ all. AreSlots requests first all slots × (list_any is_none slots ≡ true))
-CollectsAt slots requests first new after (Err fault.TooLong) asks octets told =
+CollectsAfter slots requests first new after (Err fault.TooLong) asks octets told =
     ClientGoesOn (channel_of_connection new) asks octets told (λ all. AreSlots requests first all slots × (list_any is_none slots ≡ true))
-CollectsAt slots requests first new after (Err fault.UnknownResponse) asks octets told =
+CollectsAfter slots requests first new after (Err fault.UnknownResponse) asks octets told =
     ClientGoesOn (channel_of_connection new) asks octets told (λ all. IsMisanswered requests first all × IsFront LacksAnswer (front_of slots) requests first all)
-CollectsAt slots requests first new after (Err fault.OutOfMemory) asks octets told = (heard : List ClientTold)
+CollectsAfter slots requests first new after (Err fault.OutOfMemory) asks octets told = (heard : List ClientTold)
     × LacksMemory (channel_of_connection new) asks octets (told ++ heard) × IsFront IsUntoldBefore (front_of slots) requests first (told ++ heard)
-CollectsAt slots requests first new after (Err other) asks octets told = ⊥
+CollectsAfter slots requests first new after (Err other) asks octets told = ⊥
 
 -- no reply to any of these
 abbrev pub none_for : List Request → List (Option Reply)
@@ -109,8 +109,8 @@ pub record Collects {A : Type 0} (slots : List (Option Reply)) (requests : List 
   pub moves : MovesConnection old new [] before after
   pub keeps : KeepsClient old new
   pub answers : (asks : List Placed) (octets : List ℕ) (told : List ClientTold) → ClientGoes (channel_of_connection old) asks octets told → AreUntold requests first told
-      → CollectsAt slots requests first new after result asks (octets ++ moves.taken) told
-  pub stops : StopsAt reads left moves.got new after result
+      → CollectsAfter slots requests first new after result asks (octets ++ moves.taken) told
+  pub stops : StopsByTraffic reads left moves.got new after result
 
 -- ---- a group of calls
 
@@ -214,9 +214,9 @@ pub record BrokenAll (requests : List Request) (s : ClientPlace) (new : Connecti
   pub breaks : BreaksAt group behind new sent_then taken_then f
 
 -- the outcome of requests that are called there
-abbrev pub AllAt : {A : Type 0} → (A → List Reply) → List Request → ClientPlace → Connection → List ℕ → List ℕ → Result A ClientFault → Type 0
-AllAt view requests s new sent taken (Ok found) = AnsweredAll requests s (channel_of_connection new) sent taken (view found)
-AllAt view requests s new sent taken (Err f) = BrokenAll requests s new sent taken f
+abbrev pub CallsAllAt : {A : Type 0} → (A → List Reply) → List Request → ClientPlace → Connection → List ℕ → List ℕ → Result A ClientFault → Type 0
+CallsAllAt view requests s new sent taken (Ok found) = AnsweredAll requests s (channel_of_connection new) sent taken (view found)
+CallsAllAt view requests s new sent taken (Err f) = BrokenAll requests s new sent taken f
 
 -- requests that are called in groups
 pub record CallsAll {A : Type 0} (view : A → List Reply) (requests : List Request) (old new : Connection) (before after : Option Traffic)
@@ -224,5 +224,5 @@ pub record CallsAll {A : Type 0} (view : A → List Reply) (requests : List Requ
   pub sent : List ℕ
   pub moves : MovesConnection old new sent before after
   pub same : SameClient (channel_of_connection old) (channel_of_connection new)
-  pub answers : (s : ClientPlace) → StandsAt (channel_of_connection old) s → AllAt view requests s new sent moves.taken result
-  pub stops : StopsAt most_reads most_reads moves.got new after result
+  pub answers : (s : ClientPlace) → StandsAt (channel_of_connection old) s → CallsAllAt view requests s new sent moves.taken result
+  pub stops : StopsByTraffic most_reads most_reads moves.got new after result

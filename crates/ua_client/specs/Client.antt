@@ -91,14 +91,14 @@ abbrev pub closing_at : ClientPlace → DateTime → List ℕ
 closing_at s moment = closing_by (lane_behind s.before) s.number (id_at s) moment
 
 -- what a close writes: the CLO, or after a fault a part of it, or none of it
-abbrev pub ClosesAt : {A : Type 0} → ClientPlace → DateTime → List ℕ → Result A ClientFault → Type 0
-ClosesAt s moment sent (Ok done) = sent ≡ closing_at s moment
-ClosesAt s moment sent (Err fault.Write) = IsPart sent (closing_at s moment)
-ClosesAt s moment sent (Err fault.OutOfMemory) = sent ≡ []
-ClosesAt s moment sent (Err other) = ⊥
+abbrev pub ClosesChannelAt : {A : Type 0} → ClientPlace → DateTime → List ℕ → Result A ClientFault → Type 0
+ClosesChannelAt s moment sent (Ok done) = sent ≡ closing_at s moment
+ClosesChannelAt s moment sent (Err fault.Write) = IsPart sent (closing_at s moment)
+ClosesChannelAt s moment sent (Err fault.OutOfMemory) = sent ≡ []
+ClosesChannelAt s moment sent (Err other) = ⊥
 
 -- a close: nothing is read
 pub record Closes {A : Type 0} (moment : DateTime) (old : ClientChannel) (before after : Option Traffic) (result : Result A ClientFault) : Type 0 where
   pub sent : List ℕ
   pub carried : IfTrafficKnown (Carries [] sent) before after
-  pub answers : (s : ClientPlace) → StandsAt old s → ClosesAt s moment sent result
+  pub answers : (s : ClientPlace) → StandsAt old s → ClosesChannelAt s moment sent result

@@ -132,13 +132,13 @@ BreaksOff other x asks octets told = ⊥
 -- ---- one call of the channel
 
 -- the outcome if nothing, or an event, was told at the end of these bytes
-abbrev pub ListensAt : DateTime → Result (Option ClientEvent) ClientFault → ClientChannel → List Placed → List ℕ → List ClientTold → Type 0
-ListensAt moment (Ok None) new asks octets told = ClientGoes new asks octets told
-ListensAt moment (Ok (Some e)) new asks octets told = TellsEvent moment e new asks octets told
-ListensAt moment (Err (fault.Peer code)) new asks octets told = ClientEnded new asks octets told (peers code.code)
-ListensAt moment (Err (fault.Refused code)) new asks octets told = ClientEnded new asks octets told (ours code.code)
-ListensAt moment (Err fault.OutOfMemory) new asks octets told = Starved new asks octets told
-ListensAt moment (Err other) new asks octets told = ⊥
+abbrev pub ListensAfter : DateTime → Result (Option ClientEvent) ClientFault → ClientChannel → List Placed → List ℕ → List ClientTold → Type 0
+ListensAfter moment (Ok None) new asks octets told = ClientGoes new asks octets told
+ListensAfter moment (Ok (Some e)) new asks octets told = TellsEvent moment e new asks octets told
+ListensAfter moment (Err (fault.Peer code)) new asks octets told = ClientEnded new asks octets told (peers code.code)
+ListensAfter moment (Err (fault.Refused code)) new asks octets told = ClientEnded new asks octets told (ours code.code)
+ListensAfter moment (Err fault.OutOfMemory) new asks octets told = Starved new asks octets told
+ListensAfter moment (Err other) new asks octets told = ⊥
 
 -- the faults of a call of the channel
 abbrev pub is_channel_fault : ClientFault → Bool
@@ -162,7 +162,7 @@ pub record Listens (old new : Connection) (moment : DateTime) (result : Result (
   pub left : LeavesLess old new result
   pub faults : IfErr result (λ f. is_channel_fault f ≡ true)
   pub answers : (asks : List Placed) (octets : List ℕ) (told : List ClientTold) → ClientGoes (channel_of_connection old) asks octets told
-      → ListensAt moment result (channel_of_connection new) asks (octets ++ taken) told
+      → ListensAfter moment result (channel_of_connection new) asks (octets ++ taken) told
 
 -- ---- a read
 
@@ -177,12 +177,12 @@ effort reads x = 4097 * reads + length (untaken_of x)
 
 -- the outcome of a read: something is untaken, and no more reads were made than bytes came; no
 -- reads were left; nothing came, which is the end of the input; or the transport failed
-abbrev pub FillsAt : {A : Type 0} → ℕ → ℕ → List ℕ → Connection → Option Traffic → Result A ClientFault → Type 0
-FillsAt reads left got new after (Ok found) = (0 < length (untaken_of new)) × (reads ≤ left + length got)
-FillsAt reads left got new after (Err fault.TooLong) = (untaken_of new ≡ []) × (reads ≡ 0)
-FillsAt reads left got new after (Err fault.Ended) = (untaken_of new ≡ []) × IsAtEnd after
-FillsAt reads left got new after (Err fault.Read) = untaken_of new ≡ []
-FillsAt reads left got new after (Err other) = ⊥
+abbrev pub FillsByTraffic : {A : Type 0} → ℕ → ℕ → List ℕ → Connection → Option Traffic → Result A ClientFault → Type 0
+FillsByTraffic reads left got new after (Ok found) = (0 < length (untaken_of new)) × (reads ≤ left + length got)
+FillsByTraffic reads left got new after (Err fault.TooLong) = (untaken_of new ≡ []) × (reads ≡ 0)
+FillsByTraffic reads left got new after (Err fault.Ended) = (untaken_of new ≡ []) × IsAtEnd after
+FillsByTraffic reads left got new after (Err fault.Read) = untaken_of new ≡ []
+FillsByTraffic reads left got new after (Err other) = ⊥
 
 -- if all is taken, the next fragment was read, after this many reads that were left before and
 -- after
@@ -194,14 +194,14 @@ pub record Fills {A : Type 0} (old new : Connection) (before after : Option Traf
   pub few : FitsFragment old → FitsFragment new
   pub carried : IfTrafficKnown (Carries got []) before after
   pub no_more : effort left new ≤ effort reads old
-  pub found : FillsAt reads left got new after result
+  pub found : FillsByTraffic reads left got new after result
 
 -- ---- up to an event
 
 -- the outcome if an event was told at the end of these bytes, or a fault came after them
-abbrev pub HearsAt : DateTime → Result ClientEvent ClientFault → ClientChannel → List Placed → List ℕ → List ClientTold → Type 0
-HearsAt moment (Ok e) new asks octets told = TellsEvent moment e new asks octets told
-HearsAt moment (Err f) new asks octets told = BreaksOff f new asks octets told
+abbrev pub HearsAfter : DateTime → Result ClientEvent ClientFault → ClientChannel → List Placed → List ℕ → List ClientTold → Type 0
+HearsAfter moment (Ok e) new asks octets told = TellsEvent moment e new asks octets told
+HearsAfter moment (Err f) new asks octets told = BreaksOff f new asks octets told
 
 -- the faults of receiving: those of the channel, and those of a read
 abbrev pub is_hearing_fault : ClientFault → Bool
@@ -217,12 +217,12 @@ is_hearing_fault other = false
 -- if there is an outcome, no more reads were made than bytes came; if reading stopped all is taken:
 -- at too many reads at least as many bytes came as there were reads to make, and at the end of the
 -- input a transport that tells its bytes has none to come
-abbrev pub StopsAt : {A : Type 0} → ℕ → ℕ → List ℕ → Connection → Option Traffic → Result A ClientFault → Type 0
-StopsAt reads left got new after (Ok found) = reads ≤ left + length got
-StopsAt reads left got new after (Err fault.TooLong) = (untaken_of new ≡ []) × (reads ≤ length got)
-StopsAt reads left got new after (Err fault.Read) = untaken_of new ≡ []
-StopsAt reads left got new after (Err fault.Ended) = (untaken_of new ≡ []) × IsAtEnd after
-StopsAt reads left got new after (Err other) = Unit {0}
+abbrev pub StopsByTraffic : {A : Type 0} → ℕ → ℕ → List ℕ → Connection → Option Traffic → Result A ClientFault → Type 0
+StopsByTraffic reads left got new after (Ok found) = reads ≤ left + length got
+StopsByTraffic reads left got new after (Err fault.TooLong) = (untaken_of new ≡ []) × (reads ≤ length got)
+StopsByTraffic reads left got new after (Err fault.Read) = untaken_of new ≡ []
+StopsByTraffic reads left got new after (Err fault.Ended) = (untaken_of new ≡ []) × IsAtEnd after
+StopsByTraffic reads left got new after (Err other) = Unit {0}
 
 -- the bytes up to an event, or up to a fault
 pub record Hears (old new : Connection) (moment : DateTime) (before after : Option Traffic) (reads left : ℕ) (result : Result ClientEvent ClientFault) : Type
@@ -230,7 +230,7 @@ pub record Hears (old new : Connection) (moment : DateTime) (before after : Opti
   pub moves : MovesConnection old new [] before after
   pub keeps : KeepsClient old new
   pub answers : (asks : List Placed) (octets : List ℕ) (told : List ClientTold) → ClientGoes (channel_of_connection old) asks octets told
-      → HearsAt moment result (channel_of_connection new) asks (octets ++ moves.taken) told
+      → HearsAfter moment result (channel_of_connection new) asks (octets ++ moves.taken) told
   pub less : IfOk result (λ e. effort left new < effort reads old)
   pub faults : IfErr result (λ f. is_hearing_fault f ≡ true)
-  pub stops : StopsAt reads left moves.got new after result
+  pub stops : StopsByTraffic reads left moves.got new after result

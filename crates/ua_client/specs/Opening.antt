@@ -15,7 +15,7 @@ use Rattle.ua_channel.specs.ClientTold.ClientTold.{Agreed, Opened, Answered, Gav
 use Rattle.ua_channel.specs.Line.{Traffic}
 use Rattle.ua_channel.specs.declared.client.channel.ClientChannel.{ClientChannel}
 use Rattle.ua_client.specs.Carried.{IsPart}
-use Rattle.ua_client.specs.Hearing.{channel_of_connection, is_hearing_fault, most_reads, BreaksOff, KeepsClient, MovesConnection, Starved, StopsAt}
+use Rattle.ua_client.specs.Hearing.{channel_of_connection, is_hearing_fault, most_reads, BreaksOff, KeepsClient, MovesConnection, Starved, StopsByTraffic}
 use Rattle.ua_client.specs.declared.connection.Connection.{Connection}
 use Rattle.ua_client.specs.declared.fault.ClientFault.{ClientFault}
 use Rattle.ua_client.specs.declared.fault.ClientFault.TheVariants as fault
@@ -66,15 +66,15 @@ pub record StarvesWithout (wanted : ClientTold → Bool) (x : ClientChannel) (as
   pub starved : Starved x asks octets (told ++ heard)
 
 -- the outcome when something is expected
-abbrev pub WaitsAt : {A : Type 0} → (ClientTold → Bool) → (A → Type 0) → Result A ClientFault → ClientChannel → List Placed → List ℕ → List ClientTold → Type 0
-WaitsAt wanted P (Ok found) new asks octets told = GoesUntil wanted new asks octets told × P found
-WaitsAt wanted P (Err (fault.Peer code)) new asks octets told = EndsWithout wanted new asks octets told (peers code.code)
-WaitsAt wanted P (Err (fault.Refused code)) new asks octets told = EndsWithout wanted new asks octets told (ours code.code)
-WaitsAt wanted P (Err fault.Ended) new asks octets told = GoesWithout wanted new asks octets told
-WaitsAt wanted P (Err fault.Read) new asks octets told = GoesWithout wanted new asks octets told
-WaitsAt wanted P (Err fault.TooLong) new asks octets told = GoesWithout wanted new asks octets told
-WaitsAt wanted P (Err fault.OutOfMemory) new asks octets told = StarvesWithout wanted new asks octets told
-WaitsAt wanted P (Err other) new asks octets told = ⊥
+abbrev pub WaitsAfter : {A : Type 0} → (ClientTold → Bool) → (A → Type 0) → Result A ClientFault → ClientChannel → List Placed → List ℕ → List ClientTold → Type 0
+WaitsAfter wanted P (Ok found) new asks octets told = GoesUntil wanted new asks octets told × P found
+WaitsAfter wanted P (Err (fault.Peer code)) new asks octets told = EndsWithout wanted new asks octets told (peers code.code)
+WaitsAfter wanted P (Err (fault.Refused code)) new asks octets told = EndsWithout wanted new asks octets told (ours code.code)
+WaitsAfter wanted P (Err fault.Ended) new asks octets told = GoesWithout wanted new asks octets told
+WaitsAfter wanted P (Err fault.Read) new asks octets told = GoesWithout wanted new asks octets told
+WaitsAfter wanted P (Err fault.TooLong) new asks octets told = GoesWithout wanted new asks octets told
+WaitsAfter wanted P (Err fault.OutOfMemory) new asks octets told = StarvesWithout wanted new asks octets told
+WaitsAfter wanted P (Err other) new asks octets told = ⊥
 
 -- the bytes up to what is expected, or up to a fault
 pub record Waits {A : Type 0} (wanted : ClientTold → Bool) (P : A → Type 0) (old new : Connection) (before after : Option Traffic) (reads left : ℕ)
@@ -82,9 +82,9 @@ pub record Waits {A : Type 0} (wanted : ClientTold → Bool) (P : A → Type 0) 
   pub moves : MovesConnection old new [] before after
   pub keeps : KeepsClient old new
   pub answers : (asks : List Placed) (octets : List ℕ) (told : List ClientTold) → ClientGoes (channel_of_connection old) asks octets told
-      → WaitsAt wanted P result (channel_of_connection new) asks (octets ++ moves.taken) told
+      → WaitsAfter wanted P result (channel_of_connection new) asks (octets ++ moves.taken) told
   pub faults : IfErr result (λ f. is_hearing_fault f ≡ true)
-  pub stops : StopsAt reads left moves.got new after result
+  pub stops : StopsByTraffic reads left moves.got new after result
 
 -- whatever the outcome
 abbrev pub any_done : Unit {0} → Type 0
@@ -135,15 +135,15 @@ BreaksOpening hello opening new sent taken (fault.Refused code) = BreaksWaiting 
 BreaksOpening hello opening new sent taken other = ⊥
 
 -- the outcome of opening a connection
-abbrev pub OpensAt : {A : Type 0} → List ℕ → List ℕ → ClientChannel → List ℕ → List ℕ → Result A ClientFault → Type 0
-OpensAt hello opening new sent taken (Ok done) = (sent ≡ hello ++ opening) × IsOpened new taken
-OpensAt hello opening new sent taken (Err f) = BreaksOpening hello opening new sent taken f
+abbrev pub OpensAfter : {A : Type 0} → List ℕ → List ℕ → ClientChannel → List ℕ → List ℕ → Result A ClientFault → Type 0
+OpensAfter hello opening new sent taken (Ok done) = (sent ≡ hello ++ opening) × IsOpened new taken
+OpensAfter hello opening new sent taken (Err f) = BreaksOpening hello opening new sent taken f
 
 -- a connection over which nothing was sent and nothing came is opened
 pub record Opens {A : Type 0} (moment : DateTime) (old new : Connection) (before after : Option Traffic) (result : Result A ClientFault) : Type 0 where
   pub sent : List ℕ
   pub moves : MovesConnection old new sent before after
   pub keeps : KeepsClient old new
-  pub answers : ClientGoes (channel_of_connection old) [] [] [] → OpensAt (hello_octets (client_limits (channel_of_connection old)) (url_of (channel_of_connection old))) (open_frame_octets moment)
+  pub answers : ClientGoes (channel_of_connection old) [] [] [] → OpensAfter (hello_octets (client_limits (channel_of_connection old)) (url_of (channel_of_connection old))) (open_frame_octets moment)
       (channel_of_connection new) sent moves.taken result
-  pub stops : StopsAt most_reads most_reads moves.got new after result
+  pub stops : StopsByTraffic most_reads most_reads moves.got new after result

@@ -19,8 +19,8 @@ use Rattle.ua_channel.specs.declared.client.channel.ClientChannel.{ClientChannel
 use Rattle.ua_channel.specs.declared.client.fault.AskFault.{AskFault}
 use Rattle.ua_channel.specs.declared.client.fault.AskFault.TheVariants as ask_fault
 use Rattle.ua_client.specs.Carried.{IsPart}
-use Rattle.ua_client.specs.Hearing.{channel_of_connection, most_reads, MovesConnection, StopsAt}
-use Rattle.ua_client.specs.Opening.{is_opened, any_done, WaitsAt}
+use Rattle.ua_client.specs.Hearing.{channel_of_connection, most_reads, MovesConnection, StopsByTraffic}
+use Rattle.ua_client.specs.Opening.{is_opened, any_done, WaitsAfter}
 use Rattle.ua_client.specs.Sent.{by_channel}
 use Rattle.ua_client.specs.ClientPlace.{ClientPlace, StandsAt, id_at, lane_behind}
 use Rattle.ua_client.specs.Told.{told_of}
@@ -119,7 +119,7 @@ pub record IsRenewed (new : ClientChannel) (s t : ClientPlace) (taken : List ℕ
 
 -- a renewal that was requested there is not answered
 abbrev pub BreaksRenewing : ClientPlace → DateTime → ClientChannel → List ℕ → List ℕ → ClientFault → Type 0
-BreaksRenewing s moment new sent taken f = (sent ≡ renewal_at s moment) × WaitsAt is_renewed any_done (Err f) new (asks_renewed s) (s.octets ++ taken) s.told
+BreaksRenewing s moment new sent taken f = (sent ≡ renewal_at s moment) × WaitsAfter is_renewed any_done (Err f) new (asks_renewed s) (s.octets ++ taken) s.told
 
 -- the outcome of a renewal there: what was sent and taken, and the state of the channel then
 abbrev pub RenewsAt : {A : Type 0} → ClientPlace → DateTime → ClientChannel → List ℕ → List ℕ → Result A ClientFault → Type 0
@@ -143,6 +143,6 @@ pub record Renews {A : Type 0} (moment : DateTime) (old new : Connection) (befor
   -- it is refused exactly for the first reason that holds in the state of the client
   pub judged : (s : ClientPlace) → StandsAt (channel_of_connection old) s → refused_by result ≡ renewal_refusal s
   pub answers : (s : ClientPlace) → StandsAt (channel_of_connection old) s → RenewsAt s moment (channel_of_connection new) sent moves.taken result
-  pub stops : StopsAt most_reads most_reads moves.got new after result
+  pub stops : StopsByTraffic most_reads most_reads moves.got new after result
 
 -- ---- the client after it

@@ -17,7 +17,7 @@ use Rattle.ua_channel.specs.Client.{SameClient, url_of}
 use Rattle.ua_channel.specs.Line.{Traffic}
 use Rattle.ua_channel.specs.declared.client.channel.ClientChannel.{ClientChannel}
 use Rattle.ua_client.specs.Calls.{Answered, BreaksAt, LastCame, sent_at}
-use Rattle.ua_client.specs.Hearing.{channel_of_connection, most_reads, MovesConnection, StopsAt}
+use Rattle.ua_client.specs.Hearing.{channel_of_connection, most_reads, MovesConnection, StopsByTraffic}
 use Rattle.ua_client.specs.Renewing.{IsIdle, IsSettled}
 use Rattle.ua_client.specs.ClientPlace.{ClientPlace, StandsAt, id_at}
 use Rattle.ua_client.specs.declared.connection.Connection.{Connection}
@@ -159,9 +159,9 @@ ActivatesBehind url policy_id moment s new sent taken P result =
 
 -- the outcome of a session that is begun there: both services are done, and the first brought this
 -- token; or one of them was not, by this fault, and it was the first, or the second after the first
-abbrev pub BeginsAt : Option (List ℕ) → Option (List ℕ) → DateTime → ClientPlace → Connection → List ℕ → List ℕ → Result NodeId ClientFault → Type 0
-BeginsAt url policy_id moment s new sent taken (Ok token) = ActivatesBehind url policy_id moment s new sent taken (λ given. given ≡ token) (Ok tt)
-BeginsAt url policy_id moment s new sent taken (Err f) =
+abbrev pub BeginsSessionAt : Option (List ℕ) → Option (List ℕ) → DateTime → ClientPlace → Connection → List ℕ → List ℕ → Result NodeId ClientFault → Type 0
+BeginsSessionAt url policy_id moment s new sent taken (Ok token) = ActivatesBehind url policy_id moment s new sent taken (λ given. given ≡ token) (Ok tt)
+BeginsSessionAt url policy_id moment s new sent taken (Err f) =
     ServesAt (creating_at url moment s) brings_token s new sent taken (Err f) ⊎ ActivatesBehind url policy_id moment s new sent taken (λ given. Unit {0})
     (Err f)
 
@@ -177,15 +177,15 @@ session_closed = record { token = None; fault = fault.Closed }
 -- a session that was to be begun there was not, by this fault: without a token it is the fault of
 -- CreateSession, with one that of ActivateSession, after CreateSession, which brought exactly this
 -- token
-abbrev pub FailsAt : Option (List ℕ) → Option (List ℕ) → DateTime → ClientPlace → Connection → List ℕ → List ℕ → Option NodeId → ClientFault → Type 0
-FailsAt url policy_id moment s new sent taken None f = ServesAt (creating_at url moment s) brings_token s new sent taken (Err f)
-FailsAt url policy_id moment s new sent taken (Some token) f = ActivatesBehind url policy_id moment s new sent taken (λ given. given ≡ token) (Err f)
+abbrev pub FailsSessionAt : Option (List ℕ) → Option (List ℕ) → DateTime → ClientPlace → Connection → List ℕ → List ℕ → Option NodeId → ClientFault → Type 0
+FailsSessionAt url policy_id moment s new sent taken None f = ServesAt (creating_at url moment s) brings_token s new sent taken (Err f)
+FailsSessionAt url policy_id moment s new sent taken (Some token) f = ActivatesBehind url policy_id moment s new sent taken (λ given. given ≡ token) (Err f)
 
 -- the same for a session that is begun there, with the token of one that was created and not
 -- activated
-abbrev pub TriesAt : Option (List ℕ) → Option (List ℕ) → DateTime → ClientPlace → Connection → List ℕ → List ℕ → Result NodeId SessionFault → Type 0
-TriesAt url policy_id moment s new sent taken (Ok token) = ActivatesBehind url policy_id moment s new sent taken (λ given. given ≡ token) (Ok tt)
-TriesAt url policy_id moment s new sent taken (Err c) = FailsAt url policy_id moment s new sent taken c.token c.fault
+abbrev pub TriesSessionAt : Option (List ℕ) → Option (List ℕ) → DateTime → ClientPlace → Connection → List ℕ → List ℕ → Result NodeId SessionFault → Type 0
+TriesSessionAt url policy_id moment s new sent taken (Ok token) = ActivatesBehind url policy_id moment s new sent taken (λ given. given ≡ token) (Ok tt)
+TriesSessionAt url policy_id moment s new sent taken (Err c) = FailsSessionAt url policy_id moment s new sent taken c.token c.fault
 
 -- what was done over a transport, by its outcome in the state of the client, with this many reads
 -- left before and after
@@ -195,7 +195,7 @@ pub record Does {A : Type 0} (P : ClientPlace → List ℕ → List ℕ → Type
   pub moves : MovesConnection old new sent before after
   pub same : SameClient (channel_of_connection old) (channel_of_connection new)
   pub answers : (s : ClientPlace) → StandsAt (channel_of_connection old) s → P s sent moves.taken
-  pub stops : StopsAt reads left moves.got new after result
+  pub stops : StopsByTraffic reads left moves.got new after result
 
 -- the same, for a channel that is idle
 abbrev pub DoesIdle : {A : Type 0} → (ClientPlace → List ℕ → List ℕ → Type 0) → Connection → Connection → Option Traffic → Option Traffic → ℕ → ℕ
@@ -205,12 +205,12 @@ DoesIdle P old new before after reads left result = Does (λ s sent taken. IsIdl
 -- a session is begun at this time over a transport, by the token policy with this PolicyId
 abbrev pub BeginsSessionAs : Option (List ℕ) → DateTime → Connection → Connection → Option Traffic → Option Traffic → Result NodeId ClientFault → Type 0
 BeginsSessionAs policy_id moment old new before after result =
-    Does (λ s sent taken. BeginsAt (url_of (channel_of_connection old)) policy_id moment s new sent taken result) old new before after most_reads most_reads result
+    Does (λ s sent taken. BeginsSessionAt (url_of (channel_of_connection old)) policy_id moment s new sent taken result) old new before after most_reads most_reads result
 
 -- the same, with the token of a session that was created and not activated
 abbrev pub TriesSession : Option (List ℕ) → DateTime → Connection → Connection → Option Traffic → Option Traffic → Result NodeId SessionFault → Type 0
 TriesSession policy_id moment old new before after result =
-    Does (λ s sent taken. TriesAt (url_of (channel_of_connection old)) policy_id moment s new sent taken result) old new before after most_reads most_reads
+    Does (λ s sent taken. TriesSessionAt (url_of (channel_of_connection old)) policy_id moment s new sent taken result) old new before after most_reads most_reads
     (session_alone result)
 
 -- a session is begun by the token policy `anonymous`

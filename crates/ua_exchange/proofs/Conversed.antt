@@ -17,7 +17,7 @@ use Rattle.ua_server.specs.declared.endpoint.Endpoint.{Endpoint}
 use Rattle.ua_client.specs.declared.fault.ClientFault.{ClientFault}
 use Rattle.ua_client.specs.declared.reply.Reply.{Reply}
 use Rattle.ua_loopback.specs.Accepted as judged
-use Rattle.ua_loopback.specs.Faults.{FailsAt}
+use Rattle.ua_loopback.specs.Faults.{FailsAtStage}
 use Rattle.ua_loopback.specs.Says.{answer_times}
 use Rattle.ua_loopback.specs.declared.conversation.ConversationLog.{ConversationLog}
 use Rattle.ua_loopback.specs.declared.stage.Stage.{Stage}
@@ -120,9 +120,9 @@ refused-turn first moment turns found t fault f k is =
 
 -- and what it failed for
 pub served-fault : (first : State) (moment : DateTime) (turns : List Turn) (t : ConversationLog) (fault : ClientFault) → IsConversed first moment turns t
-    → t.outcome ≡ Err fault → (stage : Stage) × FailsAt stage fault
+    → t.outcome ≡ Err fault → (stage : Stage) × FailsAtStage stage fault
 served-fault first moment turns t fault k is =
-    let fails = subst (λ (r : Result (Unit {0}) ClientFault). IfErr r (λ g. url_length (Some url) ≤ 4095 → FailsAt t.stage g)) is k.fails in
+    let fails = subst (λ (r : Result (Unit {0}) ClientFault). IfErr r (λ g. url_length (Some url) ≤ 4095 → FailsAtStage t.stage g)) is k.fails in
     (t.stage, fails (omega arith))
 
 -- it took all in front of a renewal for which too many tokens are held

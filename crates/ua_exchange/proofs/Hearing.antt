@@ -21,7 +21,7 @@ use Rattle.ua_channel.specs.ClientTold.{ClientTold as Heard, ClientTold as heard
 use Rattle.ua_channel.specs.Received.{latest}
 use Rattle.ua_channel.specs.ServerSends.{opened_frame, replied}
 use Rattle.ua_channel.proofs.Askings.{all-push, all-weaken, asked_in-push}
-use Rattle.ua_channel_laws.proofs.ClientReading.{reads_call, reads_renewal, reads_replied, reads_renewed}
+use Rattle.ua_channel_laws.proofs.ClientReadsMessages.{reads_call, reads_renewal, reads_replied, reads_renewed}
 use Rattle.ua_services.proofs.NoneEmpty.{response_takes_some}
 use Rattle.ua_services.specs.Request.{request}
 use Rattle.ua_services.specs.Response.{response}

@@ -22,7 +22,7 @@ pub enum PairFault {
 
 impl PairFault {
     ghost use Rattle.std.specs.Prelude.{◌≡◌};
-    ghost use Rattle.ua_loopback.specs.Faults.{FailsAt};
+    ghost use Rattle.ua_loopback.specs.Faults.{FailsAtStage};
     ghost use Rattle.ua_loopback.specs.declared.stage.Stage.{Stage};
     ghost use Rattle.ua_exchange.specs.Accepted.{fault_at};
 
@@ -30,7 +30,7 @@ impl PairFault {
     /// same process fails where an allocation of the server fails; apart from that only the
     /// client's own failed allocations fail it.
     pub(crate) fn from_client(place: usize, fault: ClientFault) -> PairFault
-        requires { (stage : Stage) × FailsAt stage fault }
+        requires { (stage : Stage) × FailsAtStage stage fault }
         ensures { result ≡ fault_at place fault }
     {
         match fault {

@@ -41,7 +41,7 @@ use Rattle.ua_channel.proofs.OpeningFrames.{opening_size}
 use Rattle.ua_channel_laws.specs.Answers.Answer.{ReplyTo, TokenFor}
 use Rattle.ua_channel_laws.specs.Answers.{Answer, AreAnswersTo, answers_octets}
 use Rattle.ua_channel_laws.specs.ClientReads.{AtClient, ClientReads, IsAnswered, IsLaneBack, told_reply, with_answer, with_reply}
-use Rattle.ua_channel_laws.proofs.ClientReading.{reads_ack, reads_opened, reads_renewed, reads_replied}
+use Rattle.ua_channel_laws.proofs.ClientReadsMessages.{reads_ack, reads_opened, reads_renewed, reads_replied}
 use Rattle.ua_channel_laws.proofs.InStep.{in_more}
 use Rattle.ua_channel_laws.proofs.Written.{IsNumbered, IsOf, chunks_are}
 use Rattle.ua_headline.proofs.Tells.{TellsLast, all_last, chunks_tell, frame_tells, given_some, numbered_last, sized_chunks}

@@ -37,7 +37,7 @@ use Rattle.ua_channel_laws.specs.Outgoing.{AreWritable, Outgoing, issued_behind,
 use Rattle.ua_channel_laws.specs.ServerReads.{AtServer, IsBodyFor, IsLaneTo, ServerReads, greeted_at, with_message, with_token}
 use Rattle.ua_channel_laws.proofs.Groups.{AreSendable, none_parts}
 use Rattle.ua_channel_laws.proofs.InStep.{body_for, in_step_call, in_step_renewal, lane_to}
-use Rattle.ua_channel_laws.proofs.ServerReading.{reads_first, reads_hello, reads_message, reads_renewal}
+use Rattle.ua_channel_laws.proofs.ServerReadsMessages.{reads_first, reads_hello, reads_message, reads_renewal}
 use Rattle.ua_channel_laws.proofs.Written.{IsNumbered, IsOf, chunks_are}
 use Rattle.ua_headline.proofs.Answered.{or_none}
 use Rattle.ua_headline.proofs.Tells.{TellsLast, all_last, chunks_tell, frame_tells, given_some, numbered_last, sized_chunks}

@@ -21,7 +21,7 @@ use Rattle.ua_channel_laws.specs.InStep.{AreInStep}
 use Rattle.ua_channel.specs.Received.{latest}
 use Rattle.ua_channel_laws.specs.ServerReads.{AtServer, with_message}
 use Rattle.ua_channel.specs.ServerSends.{replied}
-use Rattle.ua_channel_laws.proofs.ClientReading.{reads_call, reads_replied}
+use Rattle.ua_channel_laws.proofs.ClientReadsMessages.{reads_call, reads_replied}
 use Rattle.ua_channel_laws.proofs.InStep.{in_more, in_step_call, in_step_reply, lane_from_server}
 use Rattle.ua_services.proofs.NoneEmpty.{response_takes_some}
 use Rattle.ua_services.specs.Response.{response}

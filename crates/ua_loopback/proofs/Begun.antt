@@ -28,13 +28,13 @@ use Rattle.ua_channel.specs.ServerSends.{opened_frame}
 use Rattle.ua_channel.specs.ServerTold.{Told}
 use Rattle.ua_channel.specs.Agreement.{agreement_of}
 use Rattle.ua_channel.specs.declared.client.channel.ClientChannel.{ClientChannel}
-use Rattle.ua_channel_laws.proofs.ClientReading.{reads_ack}
+use Rattle.ua_channel_laws.proofs.ClientReadsMessages.{reads_ack}
 use Rattle.ua_channel_laws.proofs.ReadOn.{begins_run, events_on, one_octets, told_behind}
 use Rattle.ua_channel.proofs.OpeningFrames.{opening_size}
 use Rattle.ua_client.specs.Carried.{Carries}
 use Rattle.ua_client.specs.Client.{IsReady, OpensClient, connection_of}
 use Rattle.ua_client.specs.Hearing.{channel_of_connection, untaken_of}
-use Rattle.ua_client.specs.Opening.{IsOpened, OpensAt, hello_octets, open_frame_octets}
+use Rattle.ua_client.specs.Opening.{IsOpened, OpensAfter, hello_octets, open_frame_octets}
 use Rattle.ua_client.specs.Renewing.{IsSettled}
 use Rattle.ua_client.specs.ClientPlace.{ClientPlace, StandsAt, id_at}
 use Rattle.ua_client.specs.declared.client.Client.{Client}
@@ -146,7 +146,7 @@ module _ (b : Beginning) (limits : Limits) (url : Option (List ℕ)) (moment : D
   abbrev l : Limits
   l = client_limits (channel_of_connection o.last)
 
-  at : OpensAt (hello_octets (client_limits (channel_of_connection o.begun)) (url_of (channel_of_connection o.begun))) (open_frame_octets moment) (channel_of_connection o.last) o.opens.sent
+  at : OpensAfter (hello_octets (client_limits (channel_of_connection o.begun)) (url_of (channel_of_connection o.begun))) (open_frame_octets moment) (channel_of_connection o.last) o.opens.sent
       o.opens.moves.taken (Ok client)
   at = o.opens.answers o.fresh.goes
 

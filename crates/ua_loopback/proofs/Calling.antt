@@ -11,10 +11,10 @@ use Rattle.ua_channel.specs.ServerTold.{Closed}
 use Rattle.ua_services.specs.declared.request.Request.{Request}
 use Rattle.ua_server.specs.Sound.{IsSoundState}
 use Rattle.ua_server.specs.State.{State}
-use Rattle.ua_client.specs.Calls.{AllAt, CallsAll, all_of}
+use Rattle.ua_client.specs.Calls.{CallsAll, CallsAllAt, all_of}
 use Rattle.ua_client.specs.Client.{Closes, IsLeft, IsReady, OpensClient, OpensNothing, client_channel, connection_of}
 use Rattle.ua_client.specs.Hearing.{fault_alone}
-use Rattle.ua_client.specs.Kept.{CallsInto, IntoAt}
+use Rattle.ua_client.specs.Kept.{CallsInto, CallsIntoAt}
 use Rattle.ua_client.specs.Renewing.{Renews}
 use Rattle.ua_client.specs.ClientPlace.{ClientPlace, StandsAt}
 use Rattle.ua_client.specs.declared.client.Client.{Client}
@@ -70,8 +70,8 @@ module _ (limits : Limits) (url : Option (List ℕ)) (moment : DateTime) (before
 -- ---- calls whose replies are added
 
 into_at : {A : Type 0} (requests : List Request) (s : ClientPlace) (new : Connection) (sent taken : List ℕ) (result : Result A CallsFault) (added : List Reply)
-    → IntoAt requests s new sent taken result added
-    → AllAt (λ (found : A). added) requests s new sent taken (fault_alone result)
+    → CallsIntoAt requests s new sent taken result added
+    → CallsAllAt (λ (found : A). added) requests s new sent taken (fault_alone result)
 into_at requests s new sent taken (Ok found) added h = h
 into_at requests s new sent taken (Err f) added h = h.broken
 

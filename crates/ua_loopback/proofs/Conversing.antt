@@ -19,7 +19,7 @@ use Rattle.ua_channel.specs.ClientSends.{close_frame, hello_to, renewal_frame}
 use Rattle.ua_channel_laws.specs.InStep.{AreInStep}
 use Rattle.ua_channel_laws.specs.ServerReads.{AtServer, ServerCloses, ServerReads, greeted_at, with_message, with_token}
 use Rattle.ua_channel.specs.ServerTold.{Told, Opened, Closed}
-use Rattle.ua_channel_laws.proofs.ServerReading.{reads_close, reads_renewal}
+use Rattle.ua_channel_laws.proofs.ServerReadsMessages.{reads_close, reads_renewal}
 use Rattle.ua_services.specs.declared.request.Request.{Request}
 use Rattle.ua_client.specs.Sent.{bodies_of, calls_octets, numbers_behind}
 use Rattle.ua_loopback.specs.Accepted.{AreAcceptedUnder, IsAcceptedUnder, acknowledged, tokens_held, turn_reasons_under}

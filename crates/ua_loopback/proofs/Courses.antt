@@ -11,10 +11,10 @@ use Rattle.ua_channel_laws.specs.ServerReads.{ServerCloses}
 use Rattle.ua_channel.specs.declared.client.channel.ClientChannel.{ClientChannel}
 use Rattle.ua_services.specs.declared.request.Request.{Request}
 use Rattle.ua_client.specs.Carried.{Carries}
-use Rattle.ua_client.specs.Client.{Closes, ClosesAt, IsReady, OpensClient, OpensNothing, closing_at, connection_of}
+use Rattle.ua_client.specs.Client.{Closes, ClosesChannelAt, IsReady, OpensClient, OpensNothing, closing_at, connection_of}
 use Rattle.ua_client.specs.Hearing.{channel_of_connection, untaken_of}
 use Rattle.ua_client.specs.Calls.{AreGroups, all_of}
-use Rattle.ua_client.specs.Kept.{CallsInto, KeepsAt}
+use Rattle.ua_client.specs.Kept.{CallsInto, KeepsRepliesAt}
 use Rattle.ua_client.specs.Renewing.{IsRefusal, IsRenewed, Renews, RenewsAt, renewal_at}
 use Rattle.ua_client.specs.ClientPlace.{ClientPlace}
 use Rattle.ua_client.specs.declared.client.Client.{Client}
@@ -52,7 +52,7 @@ use Rattle.ua_loopback.proofs.Talks.{breaks_refused, got_on, rounds_octets}
 
 -- none of a group's replies is kept
 none_kept : (requests : List Request) (s : ClientPlace) (new : Connection) (taken : List ℕ) (f : ClientFault) (n : ℕ) (kept : List Reply) → IsTurnFault f
-    → KeepsAt requests s new taken f n kept → kept ≡ []
+    → KeepsRepliesAt requests s new taken f n kept → kept ≡ []
 none_kept requests s new taken fault.NotWritable n kept reason h = h.1
 none_kept requests s new taken fault.Exhausted n kept reason h = h.1
 none_kept requests s new taken fault.TooLarge n kept reason h = h.1
@@ -537,7 +537,7 @@ opens_by limits url moment before after f is (inr o) = by _ _ _ _ _ f is (o.open
     by _ _ _ _ _ fault.OutOfMemory reason k = reason
     by _ _ _ _ _ fault.Closed reason k = reason
 
-pub closes_by : (s : ClientPlace) (moment : DateTime) (sent : List ℕ) (f : ClientFault) → IsTurnFault f → ClosesAt {A = Unit {0}} s moment sent (Err f) → ⊥
+pub closes_by : (s : ClientPlace) (moment : DateTime) (sent : List ℕ) (f : ClientFault) → IsTurnFault f → ClosesChannelAt {A = Unit {0}} s moment sent (Err f) → ⊥
 closes_by s moment sent fault.NotWritable is k = k
 closes_by s moment sent fault.Exhausted is k = k
 closes_by s moment sent fault.TooLarge is k = k

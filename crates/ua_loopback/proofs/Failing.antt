@@ -16,8 +16,8 @@ use Rattle.ua_client.specs.declared.fault.ClientFault.TheVariants as fault
 use Rattle.ua_client.specs.declared.reply.Reply.{Reply}
 use Rattle.ua_loopback.specs.Accepted.{IsTurnFault}
 use Rattle.ua_loopback.specs.Beginning.{Beginning}
-use Rattle.ua_loopback.specs.Faults.{FailsAt, FailsBehind, StopsAfter}
-use Rattle.ua_loopback.specs.Kept.{EndsAt, IsOver, Served, traffic_of}
+use Rattle.ua_loopback.specs.Faults.{FailsAtStage, FailsBehind, StopsAfter}
+use Rattle.ua_loopback.specs.Kept.{EndsAtStage, IsOver, Served, traffic_of}
 use Rattle.ua_loopback.specs.Says.{end_by, server_output}
 use Rattle.ua_loopback.specs.Talking.{IsLineTo, StopsOver}
 use Rattle.ua_loopback.specs.declared.stage.Stage.{Stage}
@@ -27,7 +27,7 @@ use Rattle.ua_loopback.proofs.Courses.{line_begins, waits_refused}
 use Rattle.ua_loopback.proofs.Sounds.{turns_answered}
 
 -- a connection that is over, and waits, is broken
-broken_if : (far : Stage) (b : Beginning) (up : List ℕ) → end_by b up ≡ Going → EndsAt far b up → IsOver far → far ≡ stage.Broken
+broken_if : (far : Stage) (b : Beginning) (up : List ℕ) → end_by b up ≡ Going → EndsAtStage far b up → IsOver far → far ≡ stage.Broken
 broken_if stage.Going b up goes ends over = absurd over
 broken_if (stage.Ended ending.Closed) b up goes ends over = let no : ◌≡◌ {A = End ℕ} Over Going = sym ends ∙ goes in absurd cc
 broken_if (stage.Ended (ending.Refused code)) b up goes ends over = let no : ◌≡◌ {A = End ℕ} (Stopped code.code) Going = sym ends ∙ goes in absurd cc
@@ -43,23 +43,23 @@ as_it_is stage.Going f same = refl
 as_it_is (stage.Ended end) f same = refl
 as_it_is stage.Broken f same = same
 
-told_so : (far : Stage) (f : ClientFault) → broken_fault f ≡ f → FailsAt far f → FailsAt far (fault_at_stage far f)
-told_so far f same fails = subst (FailsAt far) (sym (as_it_is far f same)) fails
+told_so : (far : Stage) (f : ClientFault) → broken_fault f ≡ f → FailsAtStage far f → FailsAtStage far (fault_at_stage far f)
+told_so far f same fails = subst (FailsAtStage far) (sym (as_it_is far f same)) fails
 
 -- a reason against a turn is told where the connection waits and goes on; over a broken line that memory was refused
-told_turn : (far : Stage) (f : ClientFault) (b : Beginning) (up : List ℕ) → end_by b up ≡ Going → EndsAt far b up → FailsAt stage.Going f
-    → broken_fault f ≡ fault.OutOfMemory → FailsAt far (fault_at_stage far f)
+told_turn : (far : Stage) (f : ClientFault) (b : Beginning) (up : List ℕ) → end_by b up ≡ Going → EndsAtStage far b up → FailsAtStage stage.Going f
+    → broken_fault f ≡ fault.OutOfMemory → FailsAtStage far (fault_at_stage far f)
 told_turn stage.Going f b up goes ends going broken = going
 told_turn (stage.Ended ending.Closed) f b up goes ends going broken = let no : ◌≡◌ {A = End ℕ} Over Going = sym ends ∙ goes in absurd cc
 told_turn (stage.Ended (ending.Refused code)) f b up goes ends going broken = let no : ◌≡◌ {A = End ℕ} (Stopped code.code) Going = sym ends ∙ goes in absurd cc
 told_turn (stage.Ended ending.NoClose) f b up goes ends going broken = absurd ends
 told_turn (stage.Ended ending.Cut) f b up goes ends going broken = absurd ends
-told_turn stage.Broken f b up goes ends going broken = subst (FailsAt stage.Broken) (sym broken) tt
+told_turn stage.Broken f b up goes ends going broken = subst (FailsAtStage stage.Broken) (sym broken) tt
 
 -- at such a server every fault is want of memory, or a reason against a turn
 fails_at : (M : Type 0) (far : Stage) (f : ClientFault) (b : Beginning) (up : List ℕ) → (M → ⊥) → FailsBehind M f → StopsAfter f b up
-    → (IsTurnFault f → end_by b up ≡ Going) → EndsAt far b up → (is_line_fault f ≡ true → IsOver far) → length (server_output b up) < most_reads
-    → FailsAt far (fault_at_stage far f)
+    → (IsTurnFault f → end_by b up ≡ Going) → EndsAtStage far b up → (is_line_fault f ≡ true → IsOver far) → length (server_output b up) < most_reads
+    → FailsAtStage far (fault_at_stage far f)
 fails_at M far fault.Read b up none h stops waits ends over few = told_so far fault.Read refl (broken_if far b up (stops.read refl) ends (over refl))
 fails_at M far fault.Write b up none h stops waits ends over few = told_so far fault.Write refl (broken_if far b up (stops.write refl) ends (over refl))
 fails_at M far fault.TooLong b up none h stops waits ends over few = let many = stops.long refl in absurd (omega (arith, many, few))
@@ -85,7 +85,7 @@ pub fails_on : (r told : Result (Unit {0}) ClientFault) (far : Stage) (b : Begin
     (moment : DateTime) (turns : List (Option (List Request))) (place : ℕ) (old new : Served) (replies : List Reply)
     → told ≡ outcome_at far r → b ≡ record { limits = limits; channel = channel; first = services; moment = moment }
     → CanOpenTo (record { limits = limits; channel = channel; first = services; moment = moment }) limits url moment → IsSoundState services
-    → old.up ≡ [] → old.read ≡ 0 → old.failures ≡ 0 → new.failures ≡ failures_behind old.failures r → (0 < new.failures → IsOver far) → EndsAt far b new.up
+    → old.up ≡ [] → old.read ≡ 0 → old.failures ≡ 0 → new.failures ≡ failures_behind old.failures r → (0 < new.failures → IsOver far) → EndsAtStage far b new.up
     → length (server_output b new.up) < most_reads
     → IfErr r (λ f. (b' : Beginning) → CanOpenTo b' limits url moment → IsLineTo b' [] [] (Some (traffic_of b old)) → url_length url ≤ 4095
     → FailsBehind (HaveMisanswers b'.first b'.moment turns) f)
@@ -93,13 +93,13 @@ pub fails_on : (r told : Result (Unit {0}) ClientFault) (far : Stage) (b : Begin
     → StopsOver f b' [] (Some (traffic_of b old)) (Some (traffic_of b new)))
     → IfErr r (λ f. IsTurnFault f → (b' : Beginning) → CanOpenTo b' limits url moment → IsLineTo b' [] [] (Some (traffic_of b old))
     → WentBefore b' limits url moment turns place (Some (traffic_of b old)) (Some (traffic_of b new)) replies)
-    → IfErr told (λ f. url_length url ≤ 4095 → FailsAt far f)
+    → IfErr told (λ f. url_length url ≤ 4095 → FailsAtStage far f)
 fails_on (Ok found) told far b limits channel services url moment turns place old new replies told_is is able sound none nothing_read no_failure failed over
     ends few t u before =
-    subst (λ (r : Result (Unit {0}) ClientFault). IfErr r (λ f. url_length url ≤ 4095 → FailsAt far f)) (sym told_is) tt
+    subst (λ (r : Result (Unit {0}) ClientFault). IfErr r (λ f. url_length url ≤ 4095 → FailsAtStage far f)) (sym told_is) tt
 fails_on (Err f) told far b limits channel services url moment turns place old new replies told_is is able sound none nothing_read no_failure failed over ends
     few t u before =
-    subst (λ (r : Result (Unit {0}) ClientFault). IfErr r (λ g. url_length url ≤ 4095 → FailsAt far g)) (sym told_is) (λ short.
+    subst (λ (r : Result (Unit {0}) ClientFault). IfErr r (λ g. url_length url ≤ 4095 → FailsAtStage far g)) (sym told_is) (λ short.
     let begun : Beginning = record { limits = limits; channel = channel; first = services; moment = moment } in
     let can : CanOpenTo b limits url moment = subst (λ (d : Beginning). CanOpenTo d limits url moment) (sym is) able in
     let line : IsLineTo b [] [] (Some (traffic_of b old)) = line_begins b old none nothing_read in

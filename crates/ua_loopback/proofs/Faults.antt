@@ -22,17 +22,17 @@ use Rattle.ua_channel.specs.Line.{Traffic, IfTrafficKnown}
 use Rattle.ua_channel_laws.specs.ServerReads.{AtServer, ServerCloses}
 use Rattle.ua_channel.specs.ServerTold.{Told, Agreed}
 use Rattle.ua_channel.specs.declared.client.channel.ClientChannel.{ClientChannel}
-use Rattle.ua_channel_laws.proofs.ClientReading.{reads_ack}
+use Rattle.ua_channel_laws.proofs.ClientReadsMessages.{reads_ack}
 use Rattle.ua_channel_laws.proofs.Following.{client_not_failed, client_told}
 use Rattle.ua_channel_laws.proofs.ReadOn.{same_told}
-use Rattle.ua_channel_laws.proofs.ServerReading.{reads_hello}
+use Rattle.ua_channel_laws.proofs.ServerReadsMessages.{reads_hello}
 use Rattle.ua_services.specs.declared.request.Request.{Request}
 use Rattle.ua_server.specs.Said.{output_of}
 use Rattle.ua_server.specs.State.{State}
 use Rattle.ua_client.specs.Calls.{BreaksAt, BrokenAll, ClientGoesOn, Rounds, all_of, asked_at, refusal_at, sent_at}
 use Rattle.ua_client.specs.Carried.{Carries, IsAtEnd, IsPart}
-use Rattle.ua_client.specs.Client.{ClosesAt, OpensClient, OpensNothing, closing_at}
-use Rattle.ua_client.specs.Hearing.{MovesConnection, StopsAt, channel_of_connection, most_reads, untaken_of}
+use Rattle.ua_client.specs.Client.{ClosesChannelAt, OpensClient, OpensNothing, closing_at}
+use Rattle.ua_client.specs.Hearing.{MovesConnection, StopsByTraffic, channel_of_connection, most_reads, untaken_of}
 use Rattle.ua_client.specs.Opening.{BreaksOpening, BreaksSending, BreaksWaiting, GoesWithout, hello_octets, open_frame_octets}
 use Rattle.ua_client.specs.Renewing.{RenewsAt, asks_renewed, is_renewed, refused_by, renewal_at, renewal_refusal}
 use Rattle.ua_client.specs.Replies.{AreAwaited, IsMisanswered}
@@ -247,7 +247,7 @@ module _ (b : Beginning) (limits : Limits) (url : Option (List ℕ)) (octets : L
           misanswered_behind (state_told b told) b.moment all group (subst (λ (s : State). HaveMisanswer s b.moment group) state_is there)
 
     pub group_fails : (A : Type 0) (f : ClientFault) → BreaksAt group behind y sent_then taken_then f
-        → StopsAt {A = A} most_reads most_reads moves.got y after (Err f) → FailsBehind (HaveMisanswer (state_told b told) b.moment (all ++ group)) f
+        → StopsByTraffic {A = A} most_reads most_reads moves.got y after (Err f) → FailsBehind (HaveMisanswer (state_told b told) b.moment (all ++ group)) f
     group_fails A (fault.Peer code) h stops = absurd (fails_not h.0.0 h.0.1 (behind.told ++ h.1.0) (peers code.code) h.1.1)
     group_fails A (fault.Refused code) h stops = absurd (fails_not h.0.0 h.0.1 (behind.told ++ h.1.0) (ours code.code) h.1.1)
     group_fails A fault.Ended h stops = absurd (misses_not h.0.0 h.0.1 h.1 stops.0 stops.1)
@@ -270,7 +270,7 @@ module _ (b : Beginning) (limits : Limits) (url : Option (List ℕ)) (octets : L
         end_is b ((octets ++ sent_before) ++ sent_at behind group) r.frames [] Going r.run
 
     pub group_stops : (A : Type 0) (f : ClientFault) → BreaksAt group behind y sent_then taken_then f
-        → StopsAt {A = A} most_reads most_reads moves.got y after (Err f) → StopsAfter f b (octets ++ sent)
+        → StopsByTraffic {A = A} most_reads most_reads moves.got y after (Err f) → StopsAfter f b (octets ++ sent)
     group_stops A f h stops = record {
       read = λ is.
           let there : BreaksAt group behind y sent_then taken_then fault.Read = subst (BreaksAt group behind y sent_then taken_then) is h in
@@ -282,13 +282,13 @@ module _ (b : Beginning) (limits : Limits) (url : Option (List ℕ)) (octets : L
           (ap (end_by b) (append_assoc (octets ++ sent_before) sent_then there.1.more ∙ ap (λ (o : List ℕ). (octets ++ sent_before) ++ o) (sym there.1.parts))
           ∙ reads_here there.0);
       long = λ is.
-          let there : StopsAt {A = A} most_reads most_reads moves.got y after (Err fault.TooLong) =
-          subst (λ (g : ClientFault). StopsAt {A = A} most_reads most_reads moves.got y after (Err g)) is stops in
+          let there : StopsByTraffic {A = A} most_reads most_reads moves.got y after (Err fault.TooLong) =
+          subst (λ (g : ClientFault). StopsByTraffic {A = A} most_reads most_reads moves.got y after (Err g)) is stops in
           said_enough b after (octets ++ sent) t.got moves.got most_reads line_then there.1;
     }
 
   pub calls_fail : NonePending → ToldBehind → (requests : List Request) (f : ClientFault) → BrokenAll requests site y sent moves.taken f → (A : Type 0)
-      → StopsAt {A = A} most_reads most_reads moves.got y after (Err f)
+      → StopsByTraffic {A = A} most_reads most_reads moves.got y after (Err f)
       → FailsBehind (HaveMisanswer (state_told b told) b.moment requests) f
   calls_fail law never_before requests f q A stops =
       let asked : List Request = all_of q.groups ++ q.group in
@@ -300,7 +300,7 @@ module _ (b : Beginning) (limits : Limits) (url : Option (List ℕ)) (octets : L
       (some_in (q.groups ++ q.group ∷ []) q.sized) q.sent_parts q.taken_parts A f q.breaks stops)
 
   pub calls_stop : NonePending → ToldBehind → (requests : List Request) (f : ClientFault) → BrokenAll requests site y sent moves.taken f → (A : Type 0)
-      → StopsAt {A = A} most_reads most_reads moves.got y after (Err f) → StopsAfter f b (octets ++ sent)
+      → StopsByTraffic {A = A} most_reads most_reads moves.got y after (Err f) → StopsAfter f b (octets ++ sent)
   calls_stop law never_before requests f q A stops =
       group_stops law never_before q.groups q.group q.behind q.sent_before q.sent_then q.taken_before q.taken_then q.replies q.rounds
       (some_in (q.groups ++ q.group ∷ []) q.sized) q.sent_parts q.taken_parts A f q.breaks stops
@@ -347,7 +347,7 @@ module _ (b : Beginning) (limits : Limits) (url : Option (List ℕ)) (octets : L
         never_true (sym (ap (list_any is_renewed) heard_is) ∙ h.none)
 
     renewal_by_fault : (A : Type 0) (f : ClientFault) → RenewsAt {A = A} site moment (channel_of_connection y) sent moves.taken (Err f)
-        → refused_by {A = A} (Err f) ≡ renewal_refusal site → StopsAt {A = A} most_reads most_reads moves.got y after (Err f) → FailsBehind ⊥ f
+        → refused_by {A = A} (Err f) ≡ renewal_refusal site → StopsByTraffic {A = A} most_reads most_reads moves.got y after (Err f) → FailsBehind ⊥ f
     renewal_by_fault A (fault.Peer code) h e stops = absurd (renewing_fails_not (sym e) h.0 (site.told ++ h.1.heard) (peers code.code) h.1.ended)
     renewal_by_fault A (fault.Refused code) h e stops = absurd (renewing_fails_not (sym e) h.0 (site.told ++ h.1.heard) (ours code.code) h.1.ended)
     renewal_by_fault A fault.Ended h e stops = absurd (renewing_misses_not (sym e) h.0 h.1 stops.0 stops.1)
@@ -364,7 +364,7 @@ module _ (b : Beginning) (limits : Limits) (url : Option (List ℕ)) (octets : L
     renewal_by_fault A fault.Closed h e stops = h
 
     pub renewal_fails : (A : Type 0) (f : ClientFault) → RenewsAt {A = A} site moment (channel_of_connection y) sent moves.taken (Err f)
-        → refused_by {A = A} (Err f) ≡ renewal_refusal site → StopsAt {A = A} most_reads most_reads moves.got y after (Err f) → FailsBehind ⊥ f
+        → refused_by {A = A} (Err f) ≡ renewal_refusal site → StopsByTraffic {A = A} most_reads most_reads moves.got y after (Err f) → FailsBehind ⊥ f
     renewal_fails A f h e stops = renewal_by_fault A f h e stops
 
     reads_renewed : renewal_refusal site ≡ None → end_by b (octets ++ renewal_at site moment) ≡ Going
@@ -373,7 +373,7 @@ module _ (b : Beginning) (limits : Limits) (url : Option (List ℕ)) (octets : L
         end_is b (octets ++ renewal_at site moment) r.frames [] Going r.run
 
     pub renewal_stops : (A : Type 0) (f : ClientFault) → RenewsAt {A = A} site moment (channel_of_connection y) sent moves.taken (Err f)
-        → refused_by {A = A} (Err f) ≡ renewal_refusal site → StopsAt {A = A} most_reads most_reads moves.got y after (Err f)
+        → refused_by {A = A} (Err f) ≡ renewal_refusal site → StopsByTraffic {A = A} most_reads most_reads moves.got y after (Err f)
         → StopsAfter f b (octets ++ sent)
     renewal_stops A f h e stops = record {
       read = λ is.
@@ -388,8 +388,8 @@ module _ (b : Beginning) (limits : Limits) (url : Option (List ℕ)) (octets : L
           front_waits b (octets ++ sent) there.0.0.more
           (ap (end_by b) (append_assoc octets sent there.0.0.more ∙ ap (λ (o : List ℕ). octets ++ o) (sym there.0.0.parts)) ∙ reads_renewed (sym judged));
       long = λ is.
-          let there : StopsAt {A = A} most_reads most_reads moves.got y after (Err fault.TooLong) =
-          subst (λ (g : ClientFault). StopsAt {A = A} most_reads most_reads moves.got y after (Err g)) is stops in
+          let there : StopsByTraffic {A = A} most_reads most_reads moves.got y after (Err fault.TooLong) =
+          subst (λ (g : ClientFault). StopsByTraffic {A = A} most_reads most_reads moves.got y after (Err g)) is stops in
           said_enough b after (octets ++ sent) t.got moves.got most_reads line_then there.1;
     }
 
@@ -499,7 +499,7 @@ module _ (b : Beginning) (limits : Limits) (url : Option (List ℕ)) (moment : D
       ∙ ap (λ (u : Option (List ℕ)). hello_octets limits u) o.fresh.url_is
 
   opening_by_fault : (A : Type 0) (f : ClientFault) → BreaksOpening hello opening x sent taken f
-      → StopsAt {A = A} most_reads most_reads o.opens.moves.got o.last after (Err f) → IsOutside f
+      → StopsByTraffic {A = A} most_reads most_reads o.opens.moves.got o.last after (Err f) → IsOutside f
   opening_by_fault A (fault.Peer code) (inl h) stops = absurd (opening_fails_not (inl h.0) [] (peers code.code) h.1)
   opening_by_fault A (fault.Peer code) (inr h) stops = absurd (opening_fails_not (inr h.0) (heard.Agreed h.1.0 ∷ []) (peers code.code) h.1.1)
   opening_by_fault A (fault.Refused code) (inl h) stops = absurd (opening_fails_not (inl h.0) [] (ours code.code) h.1)
@@ -549,8 +549,8 @@ module _ (b : Beginning) (limits : Limits) (url : Option (List ℕ)) (moment : D
         read = λ is. waits_read (subst (BreaksOpening hello opening x sent taken) is breaks);
         write = λ is. waits_written (subst (BreaksOpening hello opening x sent taken) is breaks);
         long = λ is.
-            let there : StopsAt {A = Client} most_reads most_reads o.opens.moves.got o.last after (Err fault.TooLong) =
-            subst (λ (g : ClientFault). StopsAt {A = Client} most_reads most_reads o.opens.moves.got o.last after (Err g)) is o.opens.stops in
+            let there : StopsByTraffic {A = Client} most_reads most_reads o.opens.moves.got o.last after (Err fault.TooLong) =
+            subst (λ (g : ClientFault). StopsByTraffic {A = Client} most_reads most_reads o.opens.moves.got o.last after (Err g)) is o.opens.stops in
             said_enough b after sent [] o.opens.moves.got most_reads line_open there.1;
       }
 
@@ -579,7 +579,7 @@ open_stops b limits url moment first after f (inr o) able short line = (
 
 -- ---- the close
 
-pub close_fails : (A : Type 0) (s : ClientPlace) (moment : DateTime) (sent : List ℕ) (f : ClientFault) → ClosesAt {A = A} s moment sent (Err f) → IsOutside f
+pub close_fails : (A : Type 0) (s : ClientPlace) (moment : DateTime) (sent : List ℕ) (f : ClientFault) → ClosesChannelAt {A = A} s moment sent (Err f) → IsOutside f
 close_fails A s moment out fault.Write h = tt
 close_fails A s moment out fault.OutOfMemory h = tt
 close_fails A s moment out fault.Read h = tt
@@ -596,17 +596,17 @@ close_fails A s moment out fault.TooManyTokens h = h
 close_fails A s moment out fault.Closed h = h
 
 pub close_stops : (b : Beginning) (A : Type 0) (s : ClientPlace) (moment : DateTime) (octets sent : List ℕ) (told : List Told) (f : ClientFault)
-    → ServerCloses b.limits b.channel (octets ++ closing_at s moment) told → ClosesAt {A = A} s moment sent (Err f)
+    → ServerCloses b.limits b.channel (octets ++ closing_at s moment) told → ClosesChannelAt {A = A} s moment sent (Err f)
     → StopsAfter f b (octets ++ sent)
 close_stops b A s moment octets sent told f reads h = record {
-  read = λ is. absurd (subst (λ (g : ClientFault). ClosesAt {A = A} s moment sent (Err g)) is h);
+  read = λ is. absurd (subst (λ (g : ClientFault). ClosesChannelAt {A = A} s moment sent (Err g)) is h);
   write = λ is.
-      let there : IsPart sent (closing_at s moment) = subst (λ (g : ClientFault). ClosesAt {A = A} s moment sent (Err g)) is h in
+      let there : IsPart sent (closing_at s moment) = subst (λ (g : ClientFault). ClosesChannelAt {A = A} s moment sent (Err g)) is h in
       closing_waits b (octets ++ sent) there.0.more told
       (subst (λ (o : List ℕ). ServerCloses b.limits b.channel o told) (ap (λ (o : List ℕ). octets ++ o) there.0.parts
       ∙ sym (append_assoc octets sent there.0.more)) reads)
       (omega (arith, there.1, ap length there.0.parts, length-append sent there.0.more));
-  long = λ is. absurd (subst (λ (g : ClientFault). ClosesAt {A = A} s moment sent (Err g)) is h);
+  long = λ is. absurd (subst (λ (g : ClientFault). ClosesChannelAt {A = A} s moment sent (Err g)) is h);
 }
 
 -- ---- turns

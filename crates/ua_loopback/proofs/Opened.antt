@@ -18,7 +18,7 @@ use Rattle.ua_channel_laws.specs.ServerReads.{greeted_at, with_token}
 use Rattle.ua_channel.specs.ServerSends.{opened_frame}
 use Rattle.ua_channel.specs.ServerTold.{Told, Agreed, Opened}
 use Rattle.ua_channel.specs.declared.client.channel.ClientChannel.{ClientChannel}
-use Rattle.ua_channel_laws.proofs.ClientReading.{reads_ack, reads_opened}
+use Rattle.ua_channel_laws.proofs.ClientReadsMessages.{reads_ack, reads_opened}
 use Rattle.ua_channel_laws.proofs.Following.{client_told}
 use Rattle.ua_channel_laws.proofs.InStep.{in_step_opened}
 use Rattle.ua_server.specs.Said.{state_after, output_of}

@@ -19,8 +19,8 @@ use Rattle.ua_client.specs.declared.reply.Reply.{Reply}
 use Rattle.ua_loopback.specs.Accepted.{AreAcceptedUnder, FirstRefusedUnder, IsTurnFault, acknowledged}
 use Rattle.ua_loopback.specs.Beginning.{Beginning}
 use Rattle.ua_loopback.specs.Course.{Converses, opening_octets}
-use Rattle.ua_loopback.specs.Faults.{BehindRefused, FailsAt, FailsBehind}
-use Rattle.ua_loopback.specs.Kept.{EndsAt, IsOver, LeavesAt, Served, traffic_of}
+use Rattle.ua_loopback.specs.Faults.{BehindRefused, FailsAtStage, FailsBehind}
+use Rattle.ua_loopback.specs.Kept.{EndsAtStage, IsOver, LeavesAtStage, Served, traffic_of}
 use Rattle.ua_loopback.specs.Replies.{replies_to_turns, turns_state}
 use Rattle.ua_loopback.specs.Says.{end_by, services_after, server_output, state_told}
 use Rattle.ua_loopback.specs.Sends.{conversation_octets}
@@ -85,13 +85,13 @@ pub record Ran : Type 0 where
   pub over : 0 < new.failures → IsOver far
   pub up_is : up ≡ new.up
   pub down_is : down ≡ server_output begun new.up
-  pub leaves : LeavesAt new.stage begun new.up left
-  pub ends : EndsAt new.stage begun new.up
+  pub leaves : LeavesAtStage new.stage begun new.up left
+  pub ends : EndsAtStage new.stage begun new.up
   pub few : length (server_output begun new.up) < most_reads
 
 -- ---- how the server saw it end
 
-ends_closed : (b : Beginning) (s : Stage) (up : List ℕ) → EndsAt s b up → end_by b up ≡ Over → s ≡ stage.Ended ending.Closed
+ends_closed : (b : Beginning) (s : Stage) (up : List ℕ) → EndsAtStage s b up → end_by b up ≡ Over → s ≡ stage.Ended ending.Closed
 ends_closed b stage.Going up e over = let no : ◌≡◌ {A = End ℕ} Going Over = sym e ∙ over in absurd cc
 ends_closed b (stage.Ended ending.Closed) up e over = refl
 ends_closed b (stage.Ended (ending.Refused code)) up e over = let no : ◌≡◌ {A = End ℕ} (Stopped code.code) Over = sym e ∙ over in absurd cc
@@ -129,15 +129,15 @@ module _ (q : Ran) where
   line : IsLineTo q.begun [] [] was
   line = line_begins q.begun q.old q.none q.nothing_read
 
-  ends_there : EndsAt q.far q.begun q.new.up
-  ends_there = subst (λ (s : Stage). EndsAt s q.begun q.new.up) (sym q.far_is) q.ends
+  ends_there : EndsAtStage q.far q.begun q.new.up
+  ends_there = subst (λ (s : Stage). EndsAtStage s q.begun q.new.up) (sym q.far_is) q.ends
 
-  pub told_ends : EndsAt q.far q.begun q.up
-  told_ends = subst (λ (u : List ℕ). EndsAt q.far q.begun u) (sym q.up_is) ends_there
+  pub told_ends : EndsAtStage q.far q.begun q.up
+  told_ends = subst (λ (u : List ℕ). EndsAtStage q.far q.begun u) (sym q.up_is) ends_there
 
-  pub told_services : LeavesAt q.far q.begun q.up q.left
+  pub told_services : LeavesAtStage q.far q.begun q.up q.left
   told_services =
-      subst (λ (u : List ℕ). LeavesAt q.far q.begun u q.left) (sym q.up_is) (subst (λ (s : Stage). LeavesAt s q.begun q.new.up q.left) (sym q.far_is) q.leaves)
+      subst (λ (u : List ℕ). LeavesAtStage q.far q.begun u q.left) (sym q.up_is) (subst (λ (s : Stage). LeavesAtStage s q.begun q.new.up q.left) (sym q.far_is) q.leaves)
 
   -- ---- where it did all
 
@@ -167,7 +167,7 @@ module _ (q : Ran) where
     did_end = ends_closed q.begun q.far q.up told_ends (end_is q.begun q.up did_close_there.frames [] Over did_close_there.run)
 
     did_leave : q.left ≡ services_after q.begun q.up
-    did_leave = subst (λ (s : Stage). LeavesAt s q.begun q.up q.left) did_end told_services
+    did_leave = subst (λ (s : Stage). LeavesAtStage s q.begun q.up q.left) did_end told_services
 
     -- the state that all of it leaves
     did_leave_all : q.left ≡ turns_state q.services q.moment q.turns
@@ -240,7 +240,7 @@ module _ (q : Ran) where
       reason_so (λ f. SaysOver q.begun q.limits q.url q.moment q.old (λ b. WentBefore b q.limits q.url q.moment q.turns q.taken was now q.replies))
       (λ f. BehindRefused server q.limits q.url q.moment q.turns q.taken q.up q.replies) (λ f h. went_before (h q.begun can line)) q.before
 
-  pub told_fails : IfErr q.told (λ f. url_length q.url ≤ 4095 → FailsAt q.far f)
+  pub told_fails : IfErr q.told (λ f. url_length q.url ≤ 4095 → FailsAtStage q.far f)
   told_fails =
       fails_on q.outcome q.told q.far q.begun q.limits q.channel q.services q.url q.moment q.turns q.taken q.old q.new q.replies q.told_is
       q.begun_is q.able q.sound q.none q.nothing_read q.no_failure q.failed q.over ends_there q.few q.fails q.stops q.before

@@ -29,7 +29,7 @@ use Rattle.ua_channel_laws.specs.ServerReads.{AtServer, ServerCloses, ServerRead
 use Rattle.ua_channel.specs.ServerTold.{Told, Agreed, Opened, Closed}
 use Rattle.ua_channel.specs.declared.client.channel.ClientChannel.{ClientChannel}
 use Rattle.ua_channel_laws.proofs.Groups.{AreSendable, none_issued, none_told, reads_sendable}
-use Rattle.ua_channel_laws.proofs.ServerReading.{reads_close, reads_first, reads_hello, reads_renewal}
+use Rattle.ua_channel_laws.proofs.ServerReadsMessages.{reads_close, reads_first, reads_hello, reads_renewal}
 use Rattle.ua_services.proofs.RequestLawful.{lawful_request}
 use Rattle.ua_services.specs.Request.{request}
 use Rattle.ua_services.specs.declared.request.Request.{Request}

@@ -30,7 +30,7 @@ use Rattle.ua_channel.specs.ServerSends.{opened_frame}
 use Rattle.ua_channel.specs.ServerTold.{Told, Opened}
 use Rattle.ua_channel.specs.declared.client.channel.ClientChannel.{ClientChannel}
 use Rattle.ua_channel.proofs.Askings.{asked_in-push, all-push, all-weaken}
-use Rattle.ua_channel_laws.proofs.ClientReading.{reads_renewal, reads_renewed}
+use Rattle.ua_channel_laws.proofs.ClientReadsMessages.{reads_renewal, reads_renewed}
 use Rattle.ua_channel_laws.proofs.Following.{client_told}
 use Rattle.ua_channel_laws.proofs.InStep.{in_step_answer, in_step_renewal}
 use Rattle.ua_channel.proofs.OpeningFrames.{opening_size}

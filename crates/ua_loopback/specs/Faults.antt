@@ -50,15 +50,15 @@ pub record StopsAfter (f : ClientFault) (b : Beginning) (up : List ℕ) : Type 0
 -- why a client fails at a server in its own process, whose connection has this progress: an
 -- allocation failed, in the client, or in the server, so that their transport is broken; or there
 -- is a reason against an operation, and the connection goes on
-abbrev pub FailsAt : Stage → ClientFault → Type 0
-FailsAt stage fault.Read = stage ≡ far.Broken
-FailsAt stage fault.Write = stage ≡ far.Broken
-FailsAt stage fault.OutOfMemory = Unit {0}
-FailsAt stage fault.NotWritable = stage ≡ far.Going
-FailsAt stage fault.Exhausted = stage ≡ far.Going
-FailsAt stage fault.TooLarge = stage ≡ far.Going
-FailsAt stage fault.TooManyTokens = stage ≡ far.Going
-FailsAt stage other = ⊥
+abbrev pub FailsAtStage : Stage → ClientFault → Type 0
+FailsAtStage stage fault.Read = stage ≡ far.Broken
+FailsAtStage stage fault.Write = stage ≡ far.Broken
+FailsAtStage stage fault.OutOfMemory = Unit {0}
+FailsAtStage stage fault.NotWritable = stage ≡ far.Going
+FailsAtStage stage fault.Exhausted = stage ≡ far.Going
+FailsAtStage stage fault.TooLarge = stage ≡ far.Going
+FailsAtStage stage fault.TooManyTokens = stage ≡ far.Going
+FailsAtStage stage other = ⊥
 
 -- ---- an operation that is refused
 

@@ -51,33 +51,33 @@ pub record HasTakenAll (b : Beginning) (server : Server) (now : State) (up : Lis
   pub channel_is : channel_of (channel_in server) ≡ b.channel
 
 -- the state of the server: that after all that was written while the connection goes on
-abbrev pub ServesAt : Stage → Beginning → Server → State → List ℕ → Type 0
-ServesAt Going b server now up = HasTakenAll b server now up
-ServesAt (Ended end) b server now up = Unit {0}
-ServesAt Broken b server now up = Unit {0}
+abbrev pub ServesAtStage : Stage → Beginning → Server → State → List ℕ → Type 0
+ServesAtStage Going b server now up = HasTakenAll b server now up
+ServesAtStage (Ended end) b server now up = Unit {0}
+ServesAtStage Broken b server now up = Unit {0}
 
 -- the services are what all that was written leaves, unless an allocation failed
-abbrev pub LeavesAt : Stage → Beginning → List ℕ → State → Type 0
-LeavesAt Going b up now = now ≡ services_after b up
-LeavesAt (Ended end) b up now = now ≡ services_after b up
-LeavesAt Broken b up now = Unit {0}
+abbrev pub LeavesAtStage : Stage → Beginning → List ℕ → State → Type 0
+LeavesAtStage Going b up now = now ≡ services_after b up
+LeavesAtStage (Ended end) b up now = now ≡ services_after b up
+LeavesAtStage Broken b up now = Unit {0}
 
 -- how what was written ends at such a server, if the connection has this progress: nothing of it is
 -- rejected and nothing closed the channel, and it goes on, or an allocation failed; or a CLO closed
 -- the channel; or what follows is rejected with this code
-abbrev pub EndsAt : Stage → Beginning → List ℕ → Type 0
-EndsAt Going b up = end_by b up ≡ run.Going
-EndsAt (Ended ending.Closed) b up = end_by b up ≡ run.Over
-EndsAt (Ended (ending.Refused code)) b up = end_by b up ≡ run.Stopped code.code
-EndsAt (Ended ending.NoClose) b up = ⊥
-EndsAt (Ended ending.Cut) b up = ⊥
-EndsAt Broken b up = end_by b up ≡ run.Going
+abbrev pub EndsAtStage : Stage → Beginning → List ℕ → Type 0
+EndsAtStage Going b up = end_by b up ≡ run.Going
+EndsAtStage (Ended ending.Closed) b up = end_by b up ≡ run.Over
+EndsAtStage (Ended (ending.Refused code)) b up = end_by b up ≡ run.Stopped code.code
+EndsAtStage (Ended ending.NoClose) b up = ⊥
+EndsAtStage (Ended ending.Cut) b up = ⊥
+EndsAtStage Broken b up = end_by b up ≡ run.Going
 
 -- what a transport to a server that began in this way keeps
 pub record Keeps (b : Beginning) (server : Server) (now : State) (moment : DateTime) (up down : List ℕ) (read : ℕ) (stage : Stage) : Type 0 where
   pub moment_is : moment ≡ b.moment
   pub down_is : down ≡ server_output b up
   pub within : read ≤ length down
-  pub serves : ServesAt stage b server now up
-  pub leaves : LeavesAt stage b up now
-  pub ends : EndsAt stage b up
+  pub serves : ServesAtStage stage b server now up
+  pub leaves : LeavesAtStage stage b up now
+  pub ends : EndsAtStage stage b up

@@ -14,9 +14,9 @@ ghost use Rattle.ua_loopback.specs.Accepted.{AreAcceptedUnder, FirstRefusedUnder
 ghost use Rattle.ua_loopback.specs.Beginning.{Beginning};
 ghost use Rattle.ua_loopback.specs.Course.{Converses};
 ghost use Rattle.ua_server.specs.declared.step.End.TheVariants.{Closed};
-ghost use Rattle.ua_loopback.specs.Kept.{EndsAt, LeavesAt};
+ghost use Rattle.ua_loopback.specs.Kept.{EndsAtStage, LeavesAtStage};
 ghost use Rattle.ua_loopback.specs.Says.{services_after, server_output};
-ghost use Rattle.ua_loopback.specs.Faults.{BehindRefused, FailsAt, FailsBehind, IsOutside};
+ghost use Rattle.ua_loopback.specs.Faults.{BehindRefused, FailsAtStage, FailsBehind, IsOutside};
 ghost use Rattle.ua_loopback.specs.Replies.{replies_to_turns, turns_state};
 ghost use Rattle.ua_loopback.specs.Sends.{conversation_octets};
 ghost use Rattle.ua_loopback.specs.Turns.{conversation_told};
@@ -289,8 +289,8 @@ fn converse_with<T: AsOperation, W: Began>(
     requires url { IsTrue (text.encodable url) }
     requires began { W.beginning ≡ record { limits = limits; channel = channel_id; first = services; moment = moment } }
     ensures down { result.down.items ≡ server_output W.beginning result.up.items }
-    ensures services { LeavesAt result.stage W.beginning result.up.items result.services }
-    ensures ends { EndsAt result.stage W.beginning result.up.items }
+    ensures services { LeavesAtStage result.stage W.beginning result.up.items result.services }
+    ensures ends { EndsAtStage result.stage W.beginning result.up.items }
     ensures converses { OnOk result.outcome
         (Converses limits url moment (map T.turn turns.now) result.up.items result.down.items result.replies.items) }
     ensures heard { OnOk result.outcome
@@ -308,7 +308,7 @@ fn converse_with<T: AsOperation, W: Began>(
     ensures taken { OnOk result.outcome (result.taken ≡ length turns.now) }
     ensures refused { IfErr result.outcome (λ fault. IsTurnFault fault
         → FirstRefusedUnder (acknowledged limits limits url) (map T.turn turns.now) result.taken fault) }
-    ensures fails { IfErr result.outcome (λ fault. url_length url ≤ 4095 → FailsAt result.stage fault) }
+    ensures fails { IfErr result.outcome (λ fault. url_length url ≤ 4095 → FailsAtStage result.stage fault) }
     ensures before { IfErr result.outcome (λ fault. IsTurnFault fault
         → BehindRefused (record { limits = limits; channel = channel_id; first = services; moment = moment }) limits url
         moment (map T.turn turns.now) result.taken result.up.items result.replies.items) }
@@ -371,10 +371,10 @@ pub fn converse<T: AsOperation>(
         ≡ server_output (record { limits = limits; channel = channel_id; first = services; moment = moment })
         result.up.items }
     // The stage tells how the connection ends there.
-    ensures services { LeavesAt result.stage
+    ensures services { LeavesAtStage result.stage
         (record { limits = limits; channel = channel_id; first = services; moment = moment }) result.up.items
         result.services }
-    ensures ends { EndsAt result.stage
+    ensures ends { EndsAtStage result.stage
         (record { limits = limits; channel = channel_id; first = services; moment = moment }) result.up.items }
 
     // The client sent just its operations and took all of the server's output, and each request has
@@ -417,7 +417,7 @@ pub fn converse<T: AsOperation>(
     // The client fails for an error against an operation, after which the connection goes on, or
     // for a failed allocation: its own, or the server's, whose transport is then broken. The server
     // takes a URL of at most 4095 bytes (OPC 10000-6, 7.1.2.3).
-    ensures fails { IfErr result.outcome (λ fault. url_length url ≤ 4095 → FailsAt result.stage fault) }
+    ensures fails { IfErr result.outcome (λ fault. url_length url ≤ 4095 → FailsAtStage result.stage fault) }
 {
     converse_with::<T, Brand>(
         alloc, services, limits, channel_id, url, turns, moment, writes, reads,

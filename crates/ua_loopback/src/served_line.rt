@@ -3,7 +3,7 @@
 ghost use Rattle.std.specs.Prelude.{◌≡◌, ◌++◌, ◌<◌, ◌≤◌, [], None, Some, IfOk, IfSome, OnErr, length, take};
 ghost use Rattle.ua_channel.specs.Line.{HandsOut, WriteTakes, failures_after};
 ghost use Rattle.ua_loopback.specs.Beginning.{Beginning, no_server};
-ghost use Rattle.ua_loopback.specs.Kept.{EndsAt, IsOver, Keeps, LeavesAt, Served, BreaksAtWrite, traffic_of};
+ghost use Rattle.ua_loopback.specs.Kept.{EndsAtStage, IsOver, Keeps, LeavesAtStage, Served, BreaksAtWrite, traffic_of};
 ghost use Rattle.ua_loopback.specs.Says.{server_output};
 ghost use Rattle.ua_loopback.specs.declared.stage.Stage.TheVariants.{Going};
 
@@ -154,8 +154,8 @@ impl<W: Began> ServedLine<W> {
     pub fn into_parts(self) -> (Vec<u8>, Vec<u8>, Services)
         ensures up { result.0.items ≡ self.up }
         ensures down { result.1.items ≡ server_output W.beginning self.up }
-        ensures services { LeavesAt self.stage W.beginning self.up result.2 }
-        ensures ends { EndsAt self.stage W.beginning self.up }
+        ensures services { LeavesAtStage self.stage W.beginning self.up result.2 }
+        ensures ends { EndsAtStage self.stage W.beginning self.up }
     {
         let ServedLine {
             services,

@@ -7,7 +7,7 @@ use Rattle.ua_builtin.specs.declared.date_time.DateTime.{DateTime}
 use Rattle.ua_frame.specs.Run.{Rules, Run, Going, events}
 use Rattle.ua_frame.specs.declared.limits.Limits.{Limits}
 use Rattle.ua_services.specs.Response.{response}
-use Rattle.ua_channel_laws.proofs.ServerReadings.{goes_behind}
+use Rattle.ua_channel_laws.proofs.ServerReadsOnce.{goes_behind}
 use Rattle.ua_channel.specs.Agreement.{Agreement}
 use Rattle.ua_channel.specs.Received.{listed}
 use Rattle.ua_channel.specs.ServerAnswers.{AnswersAt}

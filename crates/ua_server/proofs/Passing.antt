@@ -2,7 +2,7 @@
 use Rattle.std.specs.Prelude.{◌≡◌, ℕ, ◌+◌, ◌-◌, ◌≤◌, ◌<◌, true, false, List, [], ◌∷◌, ◌++◌, take, length, Result, Ok, Err}
 use Rattle.std.proofs.Common.{refl, sym, ◌∙◌, ap, subst, append_assoc, append-nil, arith}
 use Rattle.ua_builtin.specs.declared.date_time.DateTime.{DateTime}
-use Rattle.ua_channel_laws.proofs.ServerReadings.{goes_behind}
+use Rattle.ua_channel_laws.proofs.ServerReadsOnce.{goes_behind}
 use Rattle.ua_channel.proofs.Moving.{rest_of, rest-length, joined, within-piece}
 use Rattle.ua_channel.specs.ServerAnswers.{Counts, EventHandedOut, AnswersAt, Progress}
 use Rattle.ua_channel.specs.ServerStands.{limits_of, channel_of, next_of, IsDone, Goes, RefusedAt}

@@ -4,7 +4,7 @@ use Rattle.std.specs.List.{concat}
 use Rattle.std.proofs.Common.{Vec, Global, refl, sym, subst, append-nil}
 use Rattle.ua_builtin.specs.declared.date_time.DateTime.{DateTime}
 use Rattle.ua_builtin.specs.declared.status_code.StatusCode.{StatusCode}
-use Rattle.ua_channel_laws.proofs.ServerReadings.{goes_behind}
+use Rattle.ua_channel_laws.proofs.ServerReadsOnce.{goes_behind}
 use Rattle.ua_channel.specs.ServerSends.{AreSent}
 use Rattle.ua_channel.specs.ServerStands.{IsDone, Goes, GoesTelling}
 use Rattle.ua_channel.specs.ServerTold.{Told, Agreed, Opened, Asked, GaveUp, Closed}

@@ -7,8 +7,8 @@ ghost use Rattle.ua_frame.specs.Agreement.{url_length};
 ghost use Rattle.ua_loopback.specs.Accepted.{IsTurnFault};
 ghost use Rattle.ua_loopback.specs.Asked.{asked_by};
 ghost use Rattle.ua_loopback.specs.Beginning.{Beginning};
-ghost use Rattle.ua_loopback.specs.Faults.{BehindRefused, FailsAt, FailsBehind};
-ghost use Rattle.ua_loopback.specs.Kept.{LeavesAt, traffic_of};
+ghost use Rattle.ua_loopback.specs.Faults.{BehindRefused, FailsAtStage, FailsBehind};
+ghost use Rattle.ua_loopback.specs.Kept.{LeavesAtStage, traffic_of};
 ghost use Rattle.ua_loopback.specs.Says.{services_after};
 ghost use Rattle.ua_loopback.specs.Talking.{IsTalking, SoFar};
 ghost use Rattle.ua_loopback.specs.declared.stage.Stage.TheVariants.{Ended};
@@ -47,7 +47,7 @@ pub fn converse_over(
 ) -> ConversationLog
     requires url { IsTrue (text.encodable url) }
     requires same { before.old ≡ services }
-    ensures services { LeavesAt result.stage
+    ensures services { LeavesAtStage result.stage
         (record { limits = limits; channel = channel_id; first = services; moment = moment }) result.up.items
         result.services }
     ensures closed { OnOk result.outcome (result.stage ≡ Ended Closed) }
@@ -58,7 +58,7 @@ pub fn converse_over(
     ensures before { IfErr result.outcome (λ fault. IsTurnFault fault
         → BehindRefused (record { limits = limits; channel = channel_id; first = services; moment = moment }) limits url
         moment (map asked_by turns.now) result.taken result.up.items result.replies.items) }
-    ensures fails { IfErr result.outcome (λ fault. url_length url ≤ 4095 → FailsAt result.stage fault) }
+    ensures fails { IfErr result.outcome (λ fault. url_length url ≤ 4095 → FailsAtStage result.stage fault) }
 {
     let _before = before;
     converse(

@@ -3,7 +3,7 @@
 ghost use Rattle.std.specs.Prelude.{◌≡◌, ◌++◌, ℕ, List, IfOk, OnOk};
 ghost use Rattle.example_callers.specs.Serve.{AnswersNewBytes, stage_of};
 ghost use Rattle.ua_loopback.specs.Beginning.{Beginning};
-ghost use Rattle.ua_loopback.specs.Kept.{EndsAt, HasTakenAll as Takes};
+ghost use Rattle.ua_loopback.specs.Kept.{EndsAtStage, HasTakenAll as Takes};
 ghost use Rattle.ua_loopback.specs.Says.{services_after};
 ghost use Rattle.ua_server.specs.Serving.{Serves, LineFailed};
 ghost use Rattle.ua_server.specs.ServingOver.{ServesApplication};
@@ -74,7 +74,7 @@ pub fn serve_more(
     ensures answers { (b : Beginning) (before : List ℕ) → Takes b server.old services.old before → moment ≡ b.moment
         → OnOk result (AnswersNewBytes b before (before ++ octets.now) out.old.items out.new.items) }
     ensures ends { (b : Beginning) (before : List ℕ) → Takes b server.old services.old before → moment ≡ b.moment
-        → IfOk result (λ end. EndsAt (stage_of end) b (before ++ octets.now)) }
+        → IfOk result (λ end. EndsAtStage (stage_of end) b (before ++ octets.now)) }
 {
     serve_octets(server, services, octets, moment, out)
 }

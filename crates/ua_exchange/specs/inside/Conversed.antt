@@ -9,7 +9,7 @@ use Rattle.ua_server.specs.declared.step.End.TheVariants.{Closed}
 use Rattle.ua_client.specs.declared.reply.Reply.{Reply}
 use Rattle.ua_loopback.specs.Accepted as judged
 use Rattle.ua_loopback.specs.Beginning.{Beginning}
-use Rattle.ua_loopback.specs.Faults.{FailsAt}
+use Rattle.ua_loopback.specs.Faults.{FailsAtStage}
 use Rattle.ua_loopback.specs.Replies.{replies_to_turns, turns_state}
 use Rattle.ua_loopback.specs.Says.{server_output}
 use Rattle.ua_loopback.specs.Sends.{conversation_octets}
@@ -38,7 +38,7 @@ pub record ConversesBy (limits : Limits) (address : Option (List ℕ)) (first : 
   pub accepted : OnOk t.outcome (judged.AreAcceptedUnder (judged.acknowledged limits limits address) (served_turns turns))
   pub refused : IfErr t.outcome (λ fault. judged.IsTurnFault fault
       → judged.FirstRefusedUnder (judged.acknowledged limits limits address) (served_turns turns) t.taken fault)
-  pub fails : IfErr t.outcome (λ fault. url_length address ≤ 4095 → FailsAt t.stage fault)
+  pub fails : IfErr t.outcome (λ fault. url_length address ≤ 4095 → FailsAtStage t.stage fault)
 
 -- the same with the limits and the address of the program
 abbrev pub IsConversed : State → DateTime → List Turn → ConversationLog → Type 0

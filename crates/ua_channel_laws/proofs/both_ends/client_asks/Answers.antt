@@ -1,4 +1,4 @@
-use Rattle.ua_channel_laws.proofs.ClientReading.{reads_call, reads_renewal}
+use Rattle.ua_channel_laws.proofs.ClientReadsMessages.{reads_call, reads_renewal}
 use Rattle.ua_channel_laws.proofs.both_ends.client_asks.Goals as goal
 
 pub returns-clause-call : goal.returns-clause-call

@@ -1,4 +1,4 @@
-use Rattle.ua_channel_laws.proofs.ClientReading.{reads_replied}
+use Rattle.ua_channel_laws.proofs.ClientReadsMessages.{reads_replied}
 use Rattle.ua_channel_laws.proofs.both_ends.client_reads_reply.Goals as goal
 
 pub returns : goal.returns

@@ -1,4 +1,4 @@
-use Rattle.ua_channel_laws.proofs.ServerReading.{reads_message}
+use Rattle.ua_channel_laws.proofs.ServerReadsMessages.{reads_message}
 use Rattle.ua_channel_laws.proofs.both_ends.server_reads_call.Goals as goal
 
 pub returns : goal.returns

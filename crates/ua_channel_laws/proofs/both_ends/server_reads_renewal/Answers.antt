@@ -1,4 +1,4 @@
-use Rattle.ua_channel_laws.proofs.ServerReading.{reads_renewal}
+use Rattle.ua_channel_laws.proofs.ServerReadsMessages.{reads_renewal}
 use Rattle.ua_channel_laws.proofs.both_ends.server_reads_renewal.Goals as goal
 
 pub returns : goal.returns

@@ -1,4 +1,4 @@
-use Rattle.ua_channel_laws.proofs.ClientReadings.{goes_behind}
+use Rattle.ua_channel_laws.proofs.ClientReadsOnce.{goes_behind}
 use Rattle.ua_channel_laws.proofs.client_laws.client_goes_on.Goals as goal
 
 pub returns : goal.returns

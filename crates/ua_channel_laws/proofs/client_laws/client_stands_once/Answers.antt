@@ -1,4 +1,4 @@
-use Rattle.ua_channel_laws.proofs.ClientReadings.{stands_once, told_once}
+use Rattle.ua_channel_laws.proofs.ClientReadsOnce.{stands_once, told_once}
 use Rattle.ua_channel_laws.proofs.client_laws.client_stands_once.Goals as goal
 
 pub returns-clause-frames : goal.returns-clause-frames

@@ -1,4 +1,4 @@
-use Rattle.ua_channel_laws.proofs.ServerReadings.{stands_once, told_once}
+use Rattle.ua_channel_laws.proofs.ServerReadsOnce.{stands_once, told_once}
 use Rattle.ua_channel_laws.proofs.laws.server_stands_once.Goals as goal
 
 pub returns-clause-frames : goal.returns-clause-frames
