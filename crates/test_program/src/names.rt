@@ -5,9 +5,9 @@ use crate::texts::first_word;
 use std::alloc::Global;
 use ua_builtin::StatusCode;
 use ua_client::ClientFault;
-use ua_program::{Fault, push_outcome};
+use ua_program::{Fault, LoopFault, push_end, push_outcome};
 use ua_server::{End, ServeFault};
-use ua_session::{LoopFault, QuestionFault, push_end};
+use ua_session::QuestionFault;
 
 /// The code after a name.
 fn code_of(word: &str) -> Result<StatusCode, RowFault> {

@@ -7,8 +7,7 @@ use crate::texts::first_word;
 use std::alloc::Global;
 use std::rt::Files;
 use ua_nodes::NodeTable;
-use ua_program::run_script;
-use ua_session::Looped;
+use ua_program::{Looped, run_script};
 
 /// `script CUT NODES SCRIPT`: the bytes each way of a script over the nodes of a file, in fragments
 /// of at most this many bytes.

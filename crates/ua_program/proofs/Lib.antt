@@ -10,3 +10,7 @@ mod Standards
 mod Stops
 mod Talks
 mod Storing
+mod Turns
+mod ScriptTold
+mod Opening
+mod Stopped

@@ -9,7 +9,7 @@ use Rattle.ua_frame.specs.declared.error.ErrorFrame.{ErrorFrame}
 use Rattle.ua_frame.specs.declared.frame.Frame.{Frame}
 use Rattle.ua_frame.specs.declared.kind.Kind.TheVariants as kind
 use Rattle.ua_session.specs.declared.fault.QuestionFault.TheVariants as ask
-use Rattle.ua_session.specs.declared.looping.fault.LoopFault.TheVariants as loop
+use Rattle.ua_program.specs.declared.script.loop_fault.LoopFault.TheVariants as loop
 use Rattle.ua_texts.specs.Names.{name_of_code}
 use Rattle.ua_texts.specs.Shown.{escaped}
 use Rattle.ua_program.specs.declared.fault.Fault.{Fault}

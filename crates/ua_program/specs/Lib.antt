@@ -17,3 +17,9 @@ pub mod Known
 pub mod Blamed
 pub mod Live
 pub mod Stored
+-- A script that is run over nodes: what its lines request, why it is not run, what is printed of
+-- it, and what both ends sent.
+pub mod Script
+pub mod ScriptFaults
+pub mod ScriptPrinted
+pub mod Conversed

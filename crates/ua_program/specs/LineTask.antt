@@ -2,11 +2,11 @@
 use Rattle.std.specs.Prelude.{◌≡◌, ◌≢◌, ◌≤◌, ◌⊎◌, ℕ, List, [], ◌∷◌, ◌++◌, Result, Ok, Err, codes}
 use Rattle.std.specs.Str.Lines.{strip_carriage_return}
 use Rattle.ua_nodes.specs.NodeFile.{fields}
-use Rattle.ua_session.specs.declared.looping.fault.LoopFault.{LoopFault}
-use Rattle.ua_session.specs.declared.looping.fault.LoopFault.TheVariants as loop_fault
+use Rattle.ua_program.specs.declared.script.loop_fault.LoopFault.{LoopFault}
+use Rattle.ua_program.specs.declared.script.loop_fault.LoopFault.TheVariants as loop_fault
 use Rattle.ua_session.specs.declared.question.Question.{Question}
 use Rattle.ua_session.specs.declared.question.Question.TheVariants as question
-use Rattle.ua_session.specs.ScriptFaults.{Unread}
+use Rattle.ua_program.specs.ScriptFaults.{Unread}
 use Rattle.ua_texts.specs.Script.{AsksFor}
 use Rattle.ua_texts.specs.declared.script.ScriptLine.{ScriptLine}
 use Rattle.ua_texts.specs.declared.script.Step.{Step}

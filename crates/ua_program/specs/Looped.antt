@@ -4,11 +4,11 @@ use Rattle.std.specs.Io.KnownBytes.{Appends}
 use Rattle.ua_exchange.specs.Accepted.{AreAccepted}
 use Rattle.ua_exchange.specs.Exchanged.{down_octets}
 use Rattle.ua_exchange.specs.Turns.{up_octets}
-use Rattle.ua_session.specs.ScriptFaults.{StopsScriptLines, Unread}
-use Rattle.ua_session.specs.ScriptPrinted.{IsTextOf, told_fault, script_told}
-use Rattle.ua_session.specs.Script.{script_moment, script_turns}
-use Rattle.ua_session.specs.declared.looping.fault.LoopFault.{LoopFault}
-use Rattle.ua_session.specs.declared.looping.looped.Looped.{Looped}
+use Rattle.ua_program.specs.ScriptFaults.{StopsScriptLines, Unread}
+use Rattle.ua_program.specs.ScriptPrinted.{IsTextOf, told_fault, script_told}
+use Rattle.ua_program.specs.Script.{script_moment, script_turns}
+use Rattle.ua_program.specs.declared.script.loop_fault.LoopFault.{LoopFault}
+use Rattle.ua_program.specs.declared.script.looped.Looped.{Looped}
 use Rattle.ua_nodes.specs.NodeFile.{WriteNodes, node_lines}
 use Rattle.ua_nodes.specs.Table.{Nodes}
 use Rattle.ua_texts.specs.Script.{AsksFor}

@@ -15,6 +15,7 @@ use crate::line_task::{LineTask, bare};
 use crate::output::Stop;
 use crate::reason::{blame_text, cannot_read};
 use crate::record::write_record;
+use crate::script::LoopFault;
 use crate::talk::{Talk, ticks_of};
 use crate::tasks::{Lines, Repeated, TaskFault, Tasks};
 use std::alloc::Global;
@@ -26,7 +27,7 @@ use std::time::{Clock, Duration};
 use ua_builtin::DateTime;
 use ua_channel::{Line, Moments};
 use ua_exchange::limits;
-use ua_session::{ClientSession, LoopFault, QuestionFault, Verdict};
+use ua_session::{ClientSession, QuestionFault, Verdict};
 use ua_tcp::{ClockMoments, RecordedLine, TcpLine};
 
 /// Why a session ends before its tasks do.

@@ -1,9 +1,10 @@
 //! Why a command ends with status 1.
 
+use crate::script::LoopFault;
 use std::alloc::AllocError;
 use thiserror::Error;
 use ua_nodes::LineReason;
-use ua_session::{LoopFault, QuestionFault, WordFault};
+use ua_session::{QuestionFault, WordFault};
 
 /// Why a command stopped; its text stands after `ua: ` on standard error.
 #[derive(Clone, Copy, Debug, Error)]

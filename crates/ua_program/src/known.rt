@@ -5,10 +5,11 @@ ghost use Rattle.ua_program.specs.Known.{code_in_fault, hint_of, known_line, nam
 ghost use Rattle.ua_texts.specs.Names.{name_of_code};
 
 use crate::fault::Fault;
+use crate::script::LoopFault;
 use std::alloc::AllocError;
 use ua_builtin::StatusCode;
 use ua_client::ClientFault;
-use ua_session::{LoopFault, QuestionFault};
+use ua_session::QuestionFault;
 use ua_texts::{code_name, push_escaped};
 
 /// The status code in a fault, if it has one.

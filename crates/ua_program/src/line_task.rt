@@ -5,10 +5,11 @@ ghost use Rattle.ua_program.specs.LineTask.{GivesOwn, IsBare, IsPause, IsQuestio
 ghost use Rattle.ua_texts.specs.declared.script.Step.TheVariants.{Read};
 
 use crate::number::parse_size;
+use crate::script::{LoopFault, parse_lines};
 use std::alloc::{AllocError, Global};
 use ua_builtin::{NodeId, UaString};
 use ua_nodes::without_return;
-use ua_session::{LoopFault, Question, parse_lines};
+use ua_session::Question;
 use ua_texts::Step;
 
 /// The number of the attribute Value (OPC 10000-6, A.1).

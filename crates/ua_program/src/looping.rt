@@ -13,6 +13,7 @@ use crate::input::{load_nodes, read_lines, read_nodes};
 use crate::loop_line::LoopLine;
 use crate::output::{Stop, say_lines};
 use crate::reason::{blame_step, cannot_connect, cannot_listen};
+use crate::script::{LoopFault, Looped, parse_lines, run_lines};
 use crate::serve::services;
 use std::alloc::{AllocError, Global};
 use std::io::{Read, Write};
@@ -23,7 +24,7 @@ use ua_client::ClientFault;
 use ua_exchange::limits;
 use ua_nodes::NodeTable;
 use ua_server::{End, ServeFault, serve};
-use ua_session::{LoopFault, Looped, QuestionFault, Verdict, parse_lines, run_lines};
+use ua_session::{QuestionFault, Verdict};
 use ua_tcp::without_delay;
 
 /// The port in the server's address.

@@ -6,10 +6,10 @@ ghost use Rattle.ua_program.specs.Reasons.{StopsWriting, is_starved};
 
 use crate::fault::Fault;
 use crate::reason::Reason;
+use crate::script::LoopFault;
 use std::alloc::AllocError;
 use std::io;
 use std::io::Write;
-use ua_session::LoopFault;
 
 /// Why a command stops.
 #[derive(Drop, Debug)]

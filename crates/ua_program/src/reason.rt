@@ -9,12 +9,12 @@ ghost use Rattle.ua_program.specs.declared.fault.Fault.TheVariants.{CannotConnec
 use crate::fault::Fault;
 use crate::known::{code_of, push_code_line};
 use crate::output::Stop;
+use crate::script::LoopFault;
 use std::alloc::{AllocError, Global};
 use std::fmt::Write;
 use std::io;
 use ua_builtin::{NodeId, TextFault};
 use ua_nodes::{LineReason, MOST_OCTETS, ValueFault, parse_type, parse_value, without_return};
-use ua_session::LoopFault;
 use ua_texts::push_escaped;
 
 /// The reason of a fault beside its own text, which `--why` prints.

@@ -6,10 +6,10 @@ use crate::blame::blame_read;
 use crate::input::exact_form;
 use crate::line_task::{LineTask, parse_task};
 use crate::output::Stop;
+use crate::script::LoopFault;
 use std::alloc::{AllocError, Global};
 use std::io;
 use std::io::BufRead;
-use ua_session::LoopFault;
 
 /// Why there is no next task.
 #[derive(Debug, Drop)]

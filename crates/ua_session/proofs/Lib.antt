@@ -4,7 +4,3 @@ mod Printing
 mod Failing
 mod Choosing
 mod Naming
-mod Turns
-mod ScriptTold
-mod Opening
-mod Stopped

@@ -13,9 +13,3 @@ pub mod Question
 pub mod Session
 pub mod InSession
 pub mod Printed
--- A script that is run over nodes: what its lines request, why it is not run, what is printed of
--- it, and what both ends sent.
-pub mod Script
-pub mod ScriptFaults
-pub mod ScriptPrinted
-pub mod Conversed

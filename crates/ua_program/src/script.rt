@@ -1,0 +1,16 @@
+//! A script that is run over nodes: a client sends a server the requests of its lines, both within
+//! this process.
+//!
+//! The bytes in each direction and the text are functions of the nodes and the lines of the script,
+//! however the bytes are fragmented; or the request of a line is the first that a client does not
+//! send.
+
+mod lines;
+mod loop_fault;
+mod looped;
+mod printed;
+
+pub use lines::parse_lines;
+pub use loop_fault::LoopFault;
+pub use looped::{Looped, run_lines};
+pub use printed::push_end;

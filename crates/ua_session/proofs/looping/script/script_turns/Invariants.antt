@@ -1,7 +1,0 @@
-use Rattle.std.proofs.Common.{◌≡◌, take}
-use Rattle.ua_session.specs.Script.{turns_to}
-use Rattle.ua_session.proofs.looping.script.script_turns.Given as goal
-
--- the turns of the lines so far
-abbrev pub invariant-loop-index : goal.invariant-loop-index
-invariant-loop-index l = l.turns.items ≡ turns_to (take l.index l.lines)
