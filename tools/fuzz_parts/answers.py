@@ -1,0 +1,214 @@
+"""What docs/PROGRAM.md says that `ua read` and `ua dissect --fields` print of the values of a ReadResponse."""
+from __future__ import annotations
+
+import json
+import re
+from typing import NamedTuple
+
+from fuzz_parts import values as v
+from fuzz_parts.texts import DECIMAL, Bits, Parts, Style, bits_of, diagnostic, escaped, fits, is_encodable, is_null, joined, number
+from fuzz_parts.texts import scalar, shown, time, whole
+from fuzz_parts.encoding import PLAIN
+from fuzz_parts.values import DataValue, DiagnosticInfo, ExtensionObject, NodeId
+
+MOST_EXACT = 1 << 53
+
+
+class Text(NamedTuple):
+    """A text of JSON with these parts."""
+    parts: Parts
+
+
+class Number(str):
+    """A number of JSON, by its text."""
+
+
+class Header(NamedTuple):
+    """A ResponseHeader."""
+    timestamp: int
+    handle: int
+    result: int
+    diagnostics: DiagnosticInfo
+    strings: tuple[str | None, ...] | None
+    additional: ExtensionObject
+
+
+class Response(NamedTuple):
+    """A ReadResponse: its octets, what is decoded of it, and where each value begins and ends in them."""
+    octets: bytes
+    header: Header
+    results: tuple[DataValue, ...] | None
+    diagnostics: tuple[DiagnosticInfo, ...] | None
+    places: list[int]
+
+
+def status(of: int, names: dict[int, str] | None) -> str:
+    """A CODE, and its name.
+
+    >>> status(0x80340000, {0x80340000: 'BadNodeIdUnknown'}), status(1, {}), status(0xA, None)
+    ('80340000 BadNodeIdUnknown', '00000001', '0000000A')
+    """
+    return '%08X%s' % (of, ' ' + names[of] if names and of in names else '')
+
+
+def line(node: str, of: DataValue, style: Style, times: bool) -> Parts:
+    """The line of `ua read`."""
+    out: Parts = ['%s %s' % (node, status(of.status or 0, style.names))]
+    if of.value is not None:
+        out += [' ', *whole(of.value, style)]
+    if times:
+        out.append(''.join(' %s %s' % (name, 'none' if it is None else time(it) if style.plain else it)
+                           for name, it in (('source', of.source), ('server', of.server))))
+    return joined(out)
+
+
+def json_value(kind: int, of: object, style: Style) -> object:
+    """A value in JSON: True, False or None, an int, Bits, or a Text."""
+    if kind == v.BOOLEAN or of is None and kind in (v.STRING, v.BYTE_STRING):
+        return of
+    if kind in v.INTEGERS and isinstance(of, int):
+        return of if abs(of) <= MOST_EXACT else Text([str(of)])
+    if kind == v.STRING:
+        return Text([str(of)])
+    if kind in (v.FLOAT, v.DOUBLE) and style.plain and isinstance(of, int):
+        it = number(kind, of)
+        return it if isinstance(it, Bits) else Text([it])
+    return Text(joined(scalar(kind, of, style if style.plain else Style())))
+
+
+def json_line(node: str, of: DataValue, style: Style, times: bool) -> list[tuple[str, object]]:
+    """The members of the object of `ua read --json`."""
+    code = of.status or 0
+    out: list[tuple[str, object]] = [('node', Text([node])), ('status', Text(['%08X' % code]))]
+    if style.names and code in style.names:
+        out.append(('name', Text([style.names[code]])))
+    it = of.value
+    if it is not None and not is_encodable(it):
+        out.append(('unwritable', True))
+    elif it is not None:
+        out.append(('type', Text([v.NAMES[it.kind] + ('[]' if it.array else '')])))
+        if isinstance(it.value, tuple) and it.array:
+            out.append(('value', [json_value(it.kind, one, style) for one in it.value]))
+        else:
+            out.append(('value', None if it.array or it.kind == 0 else json_value(it.kind, it.value, style)))
+        if it.dimensions:
+            out.append(('dimensions', list(it.dimensions)))
+    for name, moment in (('source', of.source), ('server', of.server)) if times else ():
+        out.append((name, None if moment is None else Text([time(moment) if style.plain else str(moment)])))
+    return out
+
+
+def no_constant(text: str) -> object:
+    raise ValueError('a constant %s' % text)
+
+
+TEXT = re.compile(r'"(?:[^"\\]|\\.)*"')
+READ = json.JSONDecoder(parse_int=Number, parse_float=Number, parse_constant=no_constant, object_pairs_hook=tuple)
+
+
+def is_json(wanted: object, got: object) -> bool:
+    """Whether what came is what is wanted.
+
+    >>> is_json([1, Text(['a'])], [Number('1'), 'a']), is_json(1, '1'), is_json(Bits(v.FLOAT, 0), Number('0.0'))
+    (True, False, True)
+    """
+    if isinstance(wanted, Text):
+        return isinstance(got, str) and not isinstance(got, Number) and fits(wanted.parts, got)
+    if isinstance(wanted, Bits):
+        return isinstance(got, Number) and DECIMAL.fullmatch(got) is not None and bits_of(got, wanted.kind) == wanted.pattern
+    if wanted is None or isinstance(wanted, bool):
+        return got is wanted
+    if isinstance(wanted, int):
+        return isinstance(got, Number) and got == str(wanted)
+    return (isinstance(wanted, list) and isinstance(got, list) and len(wanted) == len(got)
+            and all(is_json(one, other) for one, other in zip(wanted, got)))
+
+
+def is_json_line(wanted: list[tuple[str, object]], got: str) -> bool:
+    """Whether a line is an object of JSON without spaces that has these members in this order.
+
+    >>> is_json_line([('a', 1)], '{"a":1}'), is_json_line([('a', 1)], '{"a": 1}'), is_json_line([], '{')
+    (True, False, False)
+    """
+    try:
+        members = READ.decode(got)
+    except ValueError:
+        return False
+    return (' ' not in TEXT.sub('', got) and isinstance(members, tuple) and [name for name, _ in members] == [name for name, _ in wanted]
+            and all(is_json(one, other) for (_, one), (_, other) in zip(wanted, members)))
+
+
+def show_json(wanted: object) -> str:
+    """What is wanted, as a person reads it."""
+    if isinstance(wanted, (Text, Bits)):
+        return json.dumps(shown(wanted.parts), ensure_ascii=False) if isinstance(wanted, Text) else shown([wanted])
+    if isinstance(wanted, list):
+        return '[%s]' % ','.join(show_json(it) for it in wanted)
+    return json.dumps(wanted)
+
+
+# ---- dissect --fields
+
+def told(text: str) -> str:
+    """A String or NodeId of a field: a control character by its bytes in UTF-8.
+
+    >>> told('\\x85\\t\\\\')
+    '\\\\xc2\\\\x85\\\\x09\\\\\\\\'
+    """
+    out = escaped(text, Style())
+    return re.sub('[\x80-\x9f]', lambda it: ''.join('\\x%02x' % octet for octet in it[0].encode()), out)
+
+
+def info(of: DiagnosticInfo, style: Style) -> Parts:
+    """A DiagnosticInfo of a field."""
+    if of == DiagnosticInfo():
+        return ['null']
+    return joined(diagnostic(of, style)) if style.plain else ['0x' + PLAIN.diagnostic(of).hex()]
+
+
+def extension(of: ExtensionObject) -> Parts:
+    octets = '0x' + PLAIN.extension(of).hex()
+    if of == ExtensionObject(NodeId(0, 'i', 0), 0, None):
+        return ['null']
+    # Of another null NodeId it may be a null one, too.
+    return [(octets, 'null')] if of.kind == 0 and is_null(of.type) else [octets]
+
+
+def moment(ticks: int | None, style: Style) -> str:
+    return 'null' if ticks is None else time(ticks) if style.plain else str(ticks)
+
+
+def header_lines(of: Header, style: Style) -> list[Parts]:
+    """The fields of a ResponseHeader."""
+    texts: list[tuple[str, Parts]] = [
+        ('timestamp', [moment(of.timestamp, style)]), ('request_handle', [str(of.handle)]),
+        ('service_result', [status(of.result, style.names)]), ('service_diagnostics', info(of.diagnostics, style)),
+        ('string_table', ['null' if of.strings is None else str(len(of.strings))])]
+    out = [joined(['    response_header.%s ' % name, *text]) for name, text in texts]
+    for place, text in enumerate(of.strings or ()):
+        out.append(['      response_header.string_table[%d] %s' % (place, 'null' if text is None else told(text))])
+    return out + [joined(['    response_header.additional_header ', *extension(of.additional)])]
+
+
+def value_lines(place: int, of: DataValue, style: Style) -> list[Parts]:
+    """The fields of a DataValue."""
+    def text(it: int | None) -> str:
+        return 'null' if it is None else str(it)
+    texts: list[tuple[str, Parts]] = [
+        ('value', ['null'] if of.value is None else whole(of.value, style)),
+        ('status', ['null' if of.status is None else status(of.status, style.names)]),
+        ('source_timestamp', [moment(of.source, style)]), ('source_picoseconds', [text(of.source_picoseconds)]),
+        ('server_timestamp', [moment(of.server, style)]), ('server_picoseconds', [text(of.server_picoseconds)])]
+    return [joined(['    results[%d].%s ' % (place, name), *it]) for name, it in texts]
+
+
+def message_lines(of: Response, style: Style) -> list[tuple[bytes, Parts]]:
+    """The fields of a ReadResponse, each with the octets that hold it."""
+    front = header_lines(of.header, style) + [['  results %s' % ('null' if of.results is None else len(of.results))]]
+    out = [(of.octets[:of.places[0]], it) for it in front]
+    for place, value in enumerate(of.results or ()):
+        octets = of.octets[of.places[place]:of.places[place + 1]]
+        out += [(octets, it) for it in value_lines(place, value, style)]
+    back: list[Parts] = [['  diagnostic_infos %s' % ('null' if of.diagnostics is None else len(of.diagnostics))]]
+    back += [joined(['    diagnostic_infos[%d] ' % place, *info(it, style)]) for place, it in enumerate(of.diagnostics or ())]
+    return out + [(of.octets[of.places[-1]:], it) for it in back]
