@@ -264,7 +264,7 @@ def check_numbers(header: str) -> None:
 RECORDS = {
     ('Connecting', 'IsNewConnection'): ('ua_server/src/connection.rt', 'pub fn new('),
     ('Connecting', 'StepsConnectionAs'): ('ua_server/src/connection.rt', 'pub fn step_telling('),
-    ('Serving', 'IsFresh'): ('ua_server/src/server.rt', 'pub fn new('),
+    ('Serving', 'IsFreshServer'): ('ua_server/src/server.rt', 'pub fn new('),
     ('Serving', 'StepsAs'): ('ua_server/src/server.rt', 'pub fn step('),
     ('Asking', 'IsNewClient'): ('ua_channel/src/client/channel.rt', 'pub fn new('),
     ('Asking', 'TakesAs'): ('ua_channel/src/client/channel.rt', 'pub fn take('),

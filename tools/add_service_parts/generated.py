@@ -11,6 +11,7 @@ from add_service_parts.forms import answer_of, entries_of, format_of, lemma_of, 
 from add_service_parts.schema import File, Schema, Structure, title_case
 from add_service_parts.texts import OPENING, PAIR, ROWS, text_of
 from add_service_parts.words import COMMON, SOUND_FILE, TREE_FILE
+from break_lines import settled
 
 SHOWN = f"{ROWS}/src/structures.rt"
 # The crates from the lowest up, in which order imports of specs/ and proofs/ stand.
@@ -142,9 +143,12 @@ def has_layout() -> bool:
 
 
 def laid_out(texts: dict[str, str]) -> dict[str, str]:
-    """The same files as `rt fmt` lays them out, where it is at hand."""
-    if not has_layout():
-        return texts
+    """The same files with their long lines broken, as `rt fmt` lays them out, where it is at hand."""
+    return settled(formatted(texts), formatted) if has_layout() else texts
+
+
+def formatted(texts: dict[str, str]) -> dict[str, str]:
+    """The same files as `rt fmt` lays them out."""
     found = {}
     with tempfile.TemporaryDirectory() as folder:
         # rt fmt looks into src/, specs/ and proofs/ of the folder in which it is called.

@@ -30,17 +30,17 @@ def flat(kind: str, word: str, origin: str, rust: str = "", tree: str = "") -> W
     >>> flat("NodeId", "node_id", "NodeId").format
     'flat node_id'
     """
-    return Word(rust or kind, "" if rust == "bool" else "ua_builtin", f"flat {word}", f"{BUILTIN}.{origin}", f"sound_{word}", f"{tree or word} @")
+    return Word(rust or kind, "" if rust == "bool" else "ua_builtin", f"flat {word}", f"{BUILTIN}.{origin}", f"sound_{word}", f"{tree or word + '_tree'} @")
 
 
 BUILT_IN = {
     "Boolean": flat("Boolean", "boolean", "Boolean", "bool"),
-    "Byte": Word("u8", "", "byte", FIELD, "sound_byte", "number @"),
-    "Int32": Word("i32", "", "int32", FIELD, "sound_int32", "signed @"),
-    "UInt32": Word("u32", "", "uint32", FIELD, "sound_uint32", "number @"),
+    "Byte": Word("u8", "", "byte", FIELD, "sound_byte", "number_tree @"),
+    "Int32": Word("i32", "", "int32", FIELD, "sound_int32", "signed_tree @"),
+    "UInt32": Word("u32", "", "uint32", FIELD, "sound_uint32", "number_tree @"),
     "Double": flat("Double", "double_bits", "DoubleBits", "DoubleBits", "double"),
-    "String": Word("UaString", "ua_builtin", "string", FIELD, "sound_string", "string @"),
-    "ByteString": Word("UaBytes", "ua_builtin", "byte_string", FIELD, "sound_byte_string", "byte_string @"),
+    "String": Word("UaString", "ua_builtin", "string", FIELD, "sound_string", "string_tree @"),
+    "ByteString": Word("UaBytes", "ua_builtin", "byte_string", FIELD, "sound_byte_string", "byte_string_tree @"),
     "DateTime": flat("DateTime", "date_time", "DateTime"),
     "NodeId": flat("NodeId", "node_id", "NodeId"),
     "StatusCode": flat("StatusCode", "status_code", "Status"),

@@ -17,7 +17,8 @@ Went old before piece at new after = (at ≤ length piece) × Goes old before (t
 
 -- what the reader answers to a piece, whatever it stands after
 abbrev pub Stands : Reader → List ℕ → ℕ → Option Frame → Reader → Type 0
-Stands old piece n found new = (octets : List ℕ) (frames : List Frame) → StandsAfter old octets frames → AnswersFragment old piece (Ok (n, found)) new octets frames
+Stands old piece n found new = (octets : List ℕ) (frames : List Frame) → StandsAfter old octets frames
+    → AnswersFragment old piece (Ok (n, found)) new octets frames
 
 -- how many octets it took of what is left of a piece, with a frame or without
 pub count : (x y : Reader) (piece : List ℕ) (n : ℕ) (found : Option Frame) → Takes x piece (Ok (n, found)) y → n ≤ length piece

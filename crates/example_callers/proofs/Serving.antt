@@ -132,8 +132,8 @@ pub record ServedTo (b : Beginning) (moment : DateTime) (before octets : List �
   pub keeps : Keeps b server now moment (before ++ take at octets) (server_output b before ++ added) 0 stage.Going
 
 -- whatever the server took before
-pub record Served (moment : DateTime) (octets : List ℕ) (first : Server) (began : State) (server : Server) (now : State) (at : ℕ) (old out : List ℕ) : Type
-    0 where
+pub record Served (moment : DateTime) (octets : List ℕ) (first : Server) (began : State) (server : Server) (now : State) (at : ℕ)
+    (old out : List ℕ) : Type 0 where
   pub within : at ≤ length octets
   pub to : (b : Beginning) (before : List ℕ) → HasTakenAll b first began before → moment ≡ b.moment → ServedTo b moment before octets server now at old out
 
@@ -219,7 +219,8 @@ module _ (moment : DateTime) (octets : List ℕ) (first : Server) (began : State
       }
 
     -- memory was refused behind it
-    answered_there : (b : Beginning) (before : List ℕ) → HasTakenAll b first began before → moment ≡ b.moment → AnswersNewBytes b before (before ++ take at octets) old out
+    answered_there : (b : Beginning) (before : List ℕ) → HasTakenAll b first began before → moment ≡ b.moment
+        → AnswersNewBytes b before (before ++ take at octets) old out
     answered_there b before serves dated = let t = s.to b before serves dated in record { more = t.added; said_is = sym t.keeps.down_is; added_is = t.added_is }
 
     left_then : (b : Beginning) (before : List ℕ) (serves : HasTakenAll b first began before) → moment ≡ b.moment → (end : Option Ending) → step.end ≡ end
@@ -230,7 +231,8 @@ module _ (moment : DateTime) (octets : List ℕ) (first : Server) (began : State
         is).leaves
     left_then b before serves dated (Some end) is = (keeps end is b before serves dated).leaves
 
-    pub lost_then : (b : Beginning) (before : List ℕ) → HasTakenAll b first began before → moment ≡ b.moment → BreaksOffServing b before (before ++ octets) old out later
+    pub lost_then : (b : Beginning) (before : List ℕ) → HasTakenAll b first began before → moment ≡ b.moment
+        → BreaksOffServing b before (before ++ octets) old out later
     lost_then b before serves dated = record {
       taken = (before ++ take at octets) ++ take step.taken piece;
       taken_front = front_of before octets piece at step.taken piece_is;
@@ -275,7 +277,8 @@ module _ (moment : DateTime) (octets : List ℕ) (first : Server) (began : State
     fault_by step_fault.OutOfMemory a = (broken_by a, refl)
     fault_by step_fault.Closed a = absurd a
 
-    pub broken : (f : StepFault) → Steps moment x y now later piece (Err f) → BreaksOffServing b before (before ++ octets) old out later × (f ≡ step_fault.OutOfMemory)
+    pub broken : (f : StepFault) → Steps moment x y now later piece (Err f) → BreaksOffServing b before (before ++ octets) old out later
+        × (f ≡ step_fault.OutOfMemory)
     broken f answers =
         fault_by f
         (subst (λ (m : DateTime). StepAnswers (limits_of (channel_in x)) (channel_of (channel_in x)) m piece (Err f) (channel_in y) (before ++ take at octets)

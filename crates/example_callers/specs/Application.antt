@@ -102,8 +102,8 @@ step_in (Err (setpoint.NotHandedOn step)) = Ok step
 -- the first connection takes a step after these events, and the second one after these and what the
 -- first one's frames told
 pub record BothStep (channels : ℕ → ℕ) (limits other : Limits) (moment : DateTime) (piece rest : List ℕ) (one two : Result Step StepFault) (x : ServerChannel)
-    (mine : Option Session) (y : ServerChannel) (theirs : Option Session) (octets others : List ℕ) (es : List SharedEvent) (begun before now : State) : Type
-    0 where
+    (mine : Option Session) (y : ServerChannel) (theirs : Option Session) (octets others : List ℕ) (es : List SharedEvent)
+    (begun before now : State) : Type 0 where
   pub between : State
   pub first : StepAmong limits channels 0 moment piece one x mine octets es begun before between
   pub second : StepAmong other channels 1 moment rest two y theirs others (es ++ at_moment 0 moment first.told) begun between now
@@ -116,4 +116,5 @@ pulse_reading p = record { value = One (Boolean p.is_on); status = None; source_
 
 -- its node was set to what it was, and it is the other way then
 abbrev pub pulses : Pulse → State → Pulse → State → Type 0
-pulses before old after new = (new ≡ with_nodes old (after_set before.id (pulse_reading before) old.nodes)) × (after ≡ record before { is_on = not before.is_on })
+pulses before old after new = (new ≡ with_nodes old (after_set before.id (pulse_reading before) old.nodes))
+    × (after ≡ record before { is_on = not before.is_on })

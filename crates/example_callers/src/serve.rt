@@ -32,18 +32,22 @@ pub fn serve_octets(
     ensures takes { (b : Beginning) (before : List ℕ) → HasTakenAll b server.old services.old before → moment ≡ b.moment
         → result ≡ Ok None → HasTakenAll b server.new services.new (before ++ octets.now) }
     // Nodes changed: the services are as all bytes leave them.
-    ensures leaves { (b : Beginning) (before : List ℕ) → HasTakenAll b server.old services.old before → moment ≡ b.moment
+    ensures leaves { (b : Beginning) (before : List ℕ) → HasTakenAll b server.old services.old before
+        → moment ≡ b.moment
         → OnOk result (services.new ≡ services_after b (before ++ octets.now)) }
     // Bytes out: what is added is the server's output for them.
-    ensures answers { (b : Beginning) (before : List ℕ) → HasTakenAll b server.old services.old before → moment ≡ b.moment
+    ensures answers { (b : Beginning) (before : List ℕ) → HasTakenAll b server.old services.old before
+        → moment ≡ b.moment
         → OnOk result (AnswersNewBytes b before (before ++ octets.now) out.old.items out.new.items) }
     ensures ends { (b : Beginning) (before : List ℕ) → HasTakenAll b server.old services.old before → moment ≡ b.moment
         → IfOk result (λ end. EndsAtStage (stage_of end) b (before ++ octets.now)) }
     // If an allocation fails, the services are as a prefix of the bytes leaves them, and what is
     // added is the server's output for a prefix of that.
-    ensures breaks { (b : Beginning) (before : List ℕ) → HasTakenAll b server.old services.old before → moment ≡ b.moment
+    ensures breaks { (b : Beginning) (before : List ℕ) → HasTakenAll b server.old services.old before
+        → moment ≡ b.moment
         → OnErr result (BreaksOffServing b before (before ++ octets.now) out.old.items out.new.items services.new) }
-    ensures memory { (b : Beginning) (before : List ℕ) → HasTakenAll b server.old services.old before → moment ≡ b.moment
+    ensures memory { (b : Beginning) (before : List ℕ) → HasTakenAll b server.old services.old before
+        → moment ≡ b.moment
         → IfErr result (λ fault. fault ≡ OutOfMemory) }
     // A server that ended takes nothing more.
     ensures closed { IsDone (channel_in server.old) → 0 < length octets.now → (result ≡ Err Closed)
@@ -89,7 +93,8 @@ pub fn serve_connection(
         (λ end. EndsAtStage (stage_of end)
         (record { limits = limits; channel = channel_id; first = begun services.old; moment = moment }) octets.now) }
     ensures breaks { OnErr result
-        (BreaksOffServing (record { limits = limits; channel = channel_id; first = begun services.old; moment = moment }) []
+        (BreaksOffServing
+        (record { limits = limits; channel = channel_id; first = begun services.old; moment = moment }) []
         octets.now out.old.items out.new.items services.new) }
     ensures memory { IfErr result (λ fault. fault ≡ OutOfMemory) }
 {

@@ -61,8 +61,8 @@ met view limits requests s new sent taken more same (Err f) stop had short k = r
 
 -- ---- calls that forget what is kept
 
-pub record CalledOnce {A : Type 0} (view : A → List Reply) (a b : Result A ClientFault) (one two : Client) (line after other later : Option Traffic) : Type
-    0 where
+pub record CalledOnce {A : Type 0} (view : A → List Reply) (a b : Result A ClientFault) (one two : Client)
+    (line after other later : Option Traffic) : Type 0 where
   pub answers : SameBy view a b
   pub written : WroteAlike line after other later
   pub left : LeavesBoth a one two after later

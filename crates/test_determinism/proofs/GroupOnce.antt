@@ -95,7 +95,8 @@ more_same r q rs qs e d = cc
 -- the reply to a request by what was told is one
 reply_once : OneBody → (m : Request) (id : ℕ) (told : List ClientTold) (r q : Reply) → IsReplyTo m id told r → IsReplyTo m id told q → r ≡ q
 reply_once once m id told r q p h =
-    one_reply once (kind_of_request m) id h.0 r q (subst (λ (t : ClientTold). IsReplyBy (kind_of_request m) id t r) (told_head p.0 h.0 [] [] (sym p.1 ∙ h.1)) p.2) h.2
+    one_reply once (kind_of_request m) id h.0 r q
+    (subst (λ (t : ClientTold). IsReplyBy (kind_of_request m) id t r) (told_head p.0 h.0 [] [] (sym p.1 ∙ h.1)) p.2) h.2
 
 replies_once : OneBody → (requests : List Request) (id : ℕ) (told : List ClientTold) (rs qs : List Reply) → AreReplies requests id told rs
     → AreReplies requests id told qs → rs ≡ qs
@@ -220,7 +221,8 @@ untold_misses m id told r none p = no_told p.0 [] (sym none ∙ p.1)
 lacking_misses : (m : Request) (id : ℕ) (told : List ClientTold) (r : Reply) → LacksAnswer m id told → IsReplyTo m id told r → ⊥
 lacking_misses m id told r (inl none) p = no_told p.0 [] (sym none ∙ p.1)
 lacking_misses m id told r (inr q) p =
-    not_misanswered (kind_of_request m) id q.0 r (subst (λ (t : ClientTold). IsReplyBy (kind_of_request m) id t r) (told_head p.0 q.0 [] [] (sym p.1 ∙ q.1)) p.2) q.2
+    not_misanswered (kind_of_request m) id q.0 r
+    (subst (λ (t : ClientTold). IsReplyBy (kind_of_request m) id t r) (told_head p.0 q.0 [] [] (sym p.1 ∙ q.1)) p.2) q.2
 
 -- ---- which request is refused
 

@@ -321,12 +321,14 @@ module _ (limits : Limits) (requests : List Request) (s : ClientPlace) (new : Co
       → ((told : List ClientTold) → ClientGoes (channel_of_connection new) (asked_at s requests) (s.octets ++ taken) told
       → Keeps b LacksAnswer requests (id_at s) told kept place) → Ending b kept place fault.UnknownResponse
   missed_by b kept place k keeps =
-      Missed refl k.0 (s.told ++ k.1.0) (goes_front R (channel_of_connection new) (asked_at s requests) (s.octets ++ taken) more whole (s.told ++ k.1.0) rules parts k.1.1)
+      Missed refl k.0 (s.told ++ k.1.0) (goes_front R (channel_of_connection new) (asked_at s requests) (s.octets ++ taken) more whole
+      (s.told ++ k.1.0) rules parts k.1.1)
       k.1.2 (keeps (s.told ++ k.1.0) k.1.1)
 
   -- what is kept is told of what was read
   keeps_ended : (why : Why) (kept : List Reply) (place : ℕ)
-      → (place ≡ length kept) × EndsOn (channel_of_connection new) (asked_at s requests) (s.octets ++ taken) s.told why (IsFront IsUntold kept requests (id_at s))
+      → (place ≡ length kept) × EndsOn (channel_of_connection new) (asked_at s requests) (s.octets ++ taken) s.told why
+      (IsFront IsUntold kept requests (id_at s))
       → (told : List ClientTold) → ReadsAll R whole told (Stopped why) → Keeps true IsUntold requests (id_at s) told kept place
   keeps_ended why kept place q told all =
       let same_told = all_once R whole (s.told ++ q.1.0) told (Stopped why) (Stopped why)
@@ -334,7 +336,8 @@ module _ (limits : Limits) (requests : List Request) (s : ClientPlace) (new : Co
       (q.0, subst (λ (ts : List ClientTold). IsFront IsUntold kept requests (id_at s) ts) same_told.0 q.1.2)
 
   keeps_gone : (Misses : Request → ℕ → List ClientTold → Type 0) (kept : List Reply) (place : ℕ)
-      → (place ≡ length kept) × ClientGoesOn (channel_of_connection new) (asked_at s requests) (s.octets ++ taken) s.told (IsFront Misses kept requests (id_at s))
+      → (place ≡ length kept) × ClientGoesOn (channel_of_connection new) (asked_at s requests) (s.octets ++ taken) s.told
+      (IsFront Misses kept requests (id_at s))
       → (told : List ClientTold) → ClientGoes (channel_of_connection new) (asked_at s requests) (s.octets ++ taken) told
       → Keeps true Misses requests (id_at s) told kept place
   keeps_gone Misses kept place q told g =
@@ -417,6 +420,7 @@ module _ (b : Bool) (limits : Limits) (requests : List Request) (s : ClientPlace
       (k.replies ++ kept) (k.replies ++ kept) (length (all_of k.groups) + place) (length (all_of k.groups) + place)
       (sym k.parts) (sym (ap (λ (o : List ℕ). o ++ more) k.taken_parts ∙ append_assoc k.taken_before k.taken_then more)) (sym k.sent_parts)
       (sym k.taken_parts) refl refl
-      (prepend b limits (channel_of_connection new) (channel_of_connection new) same (Some f) s (k.group ++ k.others) (k.taken_then ++ more) k.sent_then k.taken_then kept place
+      (prepend b limits (channel_of_connection new) (channel_of_connection new) same (Some f) s (k.group ++ k.others) (k.taken_then ++ more) k.sent_then
+      k.taken_then kept place
       k.rounds (grouped_before k.groups k.group (k.group ++ k.others) k.sized)
       (Breaks f k.group k.others refl refl (one.0, one.1, k.full) u))

@@ -77,7 +77,8 @@ module _ {A : Type 0} (one two x y : Client) (a b : Result A ClientFault) (line 
     (sent also : List ℕ) (m : MovesConnection (connection_of one) (connection_of x) sent line after)
     (n : MovesConnection (connection_of two) (connection_of y) also other later)
     (same : SameClient (client_channel one) (client_channel x)) (same_too : SameClient (client_channel two) (client_channel y))
-    (stops : StopsByTraffic most_reads most_reads m.got (connection_of x) after a) (stops_too : StopsByTraffic most_reads most_reads n.got (connection_of y) later b) where
+    (stops : StopsByTraffic most_reads most_reads m.got (connection_of x) after a)
+    (stops_too : StopsByTraffic most_reads most_reads n.got (connection_of y) later b) where
   p : (t : Traffic) × (line ≡ Some t) × ((more : List ℕ) → untaken_of (connection_of one) ++ t.coming more ≡ coming)
   p = comes_at one line coming stand.comes
 
@@ -104,7 +105,8 @@ module _ {A : Type 0} (one two x y : Client) (a b : Result A ClientFault) (line 
   pub not_long : (f : ClientFault) → fault_of a ≡ Some f → f ≡ fault.TooLong → ⊥
   not_long f e is =
       let k : StopsByTraffic {A = A} most_reads most_reads m.got (connection_of x) after (Err fault.TooLong) =
-      subst (λ (c : Result A ClientFault). StopsByTraffic most_reads most_reads m.got (connection_of x) after c) (fault_err a fault.TooLong (e ∙ ap Some is)) stops
+      subst (λ (c : Result A ClientFault). StopsByTraffic most_reads most_reads m.got (connection_of x) after c) (fault_err a fault.TooLong (e ∙ ap Some is))
+      stops
       in
       few_reads (connection_of one) (connection_of x) sent line after coming s.octets p.0 m p.1 p.2 stand.few k.1
 

@@ -53,8 +53,8 @@ said_once hello opening sent other told (inr h) (inl k) = absurd (omega (arith, 
 said_once hello opening sent other told (inr h) (inr k) = h.1 ∙ sym k.1
 
 -- what an opening comes to, where no call of the line failed and memory was had
-data OpensTo {A : Type 0} (R : Rules ClientTold Why) (whole hello opening : List ℕ) (x : ClientChannel) (sent taken : List ℕ) (a : Result A ClientFault) : Type
-    0 where
+data OpensTo {A : Type 0} (R : Rules ClientTold Why) (whole hello opening : List ℕ) (x : ClientChannel) (sent taken : List ℕ)
+    (a : Result A ClientFault) : Type 0 where
   Done : (v : A) → a ≡ Ok v → sent ≡ hello ++ opening → IsOpened x taken → OpensTo R whole hello opening x sent taken a
   Waited : (f : ClientFault) (e : End Why) → a ≡ Err f → EndsBy f e → (told : List ClientTold) → SaidAt hello opening sent told → ReadsAll R whole told e
       → OpensTo R whole hello opening x sent taken a
@@ -84,7 +84,8 @@ module _ {A : Type 0} (R : Rules ClientTold Why) (limits : Limits) (url : Option
       (goes_reads R (channel_of_connection new) [] h.moves.taken coming told rules (ended_all new h.sent h.moves.taken line after coming r stops.0 stops.1) g)
 
   waited : (f : ClientFault) (why : Why) → EndsBy f (Stopped why) → a ≡ Err f
-      → ((told : List ClientTold) → BreaksOff f (channel_of_connection new) [] h.moves.taken told → ClientEnded (channel_of_connection new) [] h.moves.taken told why)
+      → ((told : List ClientTold) → BreaksOff f (channel_of_connection new) [] h.moves.taken told
+      → ClientEnded (channel_of_connection new) [] h.moves.taken told why)
       → BreaksWaiting hello (open_frame_octets moment) (channel_of_connection new) h.sent h.moves.taken f → To
   waited f why e p of (inl w) = ended f why [] e p (inl (w.0, refl)) (of [] w.1)
   waited f why e p of (inr w) = ended f why (Agreed w.1.0 ∷ []) e p (inr (w.1.0, w.0, refl)) (of (Agreed w.1.0 ∷ []) w.1.1)
@@ -110,12 +111,16 @@ module _ {A : Type 0} (R : Rules ClientTold Why) (limits : Limits) (url : Option
   opens_to goes unbroken had = opens_by a refl (h.answers goes) h.stops unbroken had
 
   -- what was told where a read failed
-  at_read : ClientGoes (channel_of_connection old) [] [] [] → a ≡ Err fault.Read → (told : List ClientTold) × SaidAt hello (open_frame_octets moment) h.sent told
+  at_read : ClientGoes (channel_of_connection old) [] [] [] → a ≡ Err fault.Read → (told : List ClientTold)
+      × SaidAt hello (open_frame_octets moment) h.sent told
       × ClientGoes (channel_of_connection new) [] h.moves.taken told × (untaken_of new ≡ [])
-  at_read goes e = by (subst (λ (b : Result A ClientFault). OpensAfter hello (open_frame_octets moment) (channel_of_connection new) h.sent h.moves.taken b) e (h.answers goes))
+  at_read goes e =
+      by (subst (λ (b : Result A ClientFault). OpensAfter hello (open_frame_octets moment) (channel_of_connection new) h.sent h.moves.taken b) e
+      (h.answers goes))
       (subst (λ (b : Result A ClientFault). StopsByTraffic most_reads most_reads h.moves.got new after b) e h.stops)
     where
-      by : BreaksWaiting hello (open_frame_octets moment) (channel_of_connection new) h.sent h.moves.taken fault.Read → untaken_of new ≡ [] → (told : List ClientTold)
+      by : BreaksWaiting hello (open_frame_octets moment) (channel_of_connection new) h.sent h.moves.taken fault.Read → untaken_of new ≡ []
+          → (told : List ClientTold)
           × SaidAt hello (open_frame_octets moment) h.sent told × ClientGoes (channel_of_connection new) [] h.moves.taken told × (untaken_of new ≡ [])
       by (inl w) none = ([], inl (w.0, refl), w.1, none)
       by (inr w) none = (Agreed w.1.0 ∷ [], inr (w.1.0, w.0, refl), w.1.1, none)
@@ -191,7 +196,8 @@ module _ (settled : SettledBehind) (limits : Limits) (url : Option (List ℕ)) (
   same_taken x y o v (Around more e) = absurd (omega (arith, ap length e, length-append ((Agreed v.ack ∷ []) ++ Opened v.channel v.token ∷ []) more))
 
   stand_both : (x y : Client) → connection_of x ≡ h.last → connection_of y ≡ k.last → x.is_done ≡ false → y.is_done ≡ false
-      → IsOpened (channel_of_connection h.last) h.opens.moves.taken → IsOpened (channel_of_connection k.last) k.opens.moves.taken → StandBy false x y after later
+      → IsOpened (channel_of_connection h.last) h.opens.moves.taken → IsOpened (channel_of_connection k.last) k.opens.moves.taken
+      → StandBy false x y after later
   stand_both x y is is_too ready ready_too o v =
       let taken : h.opens.moves.taken ≡ k.opens.moves.taken = same_taken (channel_of_connection h.last) (channel_of_connection k.last) o v
       (tells_tells R [] coming (Agreed o.ack ∷ []) (Agreed v.ack ∷ []) (length h.opens.moves.taken) (length k.opens.moves.taken) (Opened o.channel o.token)
@@ -200,11 +206,13 @@ module _ (settled : SettledBehind) (limits : Limits) (url : Option (List ℕ)) (
       (told_by (channel_of_connection k.last) k.opens.moves.taken (untaken_of k.last ++ second.last.coming []) v theirs second.parts)) in
       let s = settled (channel_of_connection h.last) h.opens.moves.taken o in
       let t = settled (channel_of_connection k.last) k.opens.moves.taken v in
-      let limits_same : client_limits (channel_of_connection h.last) ≡ client_limits (channel_of_connection k.last) = (sym h.opens.keeps.same.limits ∙ h.fresh.limits_are)
+      let limits_same : client_limits (channel_of_connection h.last) ≡ client_limits (channel_of_connection k.last) =
+      (sym h.opens.keeps.same.limits ∙ h.fresh.limits_are)
       ∙ sym (sym k.opens.keeps.same.limits ∙ k.fresh.limits_are) in
       let number : s.0.number ≡ t.0.number = sym s.3.number_is
       ∙ ((h.opens.keeps.next ∙ h.fresh.next_is) ∙ (sym (k.opens.keeps.next ∙ k.fresh.next_is) ∙ t.3.number_is)) in
-      let place : s.0 ≡ t.0 = site_once (channel_of_connection h.last) (channel_of_connection k.last) s.0 t.0 s.3 t.3 limits_same (s.2 ∙ sym t.2) (s.1 ∙ (taken ∙ sym t.1)) number in
+      let place : s.0 ≡ t.0 = site_once (channel_of_connection h.last) (channel_of_connection k.last) s.0 t.0 s.3 t.3 limits_same (s.2 ∙ sym t.2)
+      (s.1 ∙ (taken ∙ sym t.1)) number in
       let ahead : untaken_of h.last ++ first.last.coming [] ≡ untaken_of k.last ++ second.last.coming [] =
       append_cancel_left h.opens.moves.taken _ _
       (first.parts ∙ (sym second.parts ∙ ap (λ (p : List ℕ). p ++ (untaken_of k.last ++ second.last.coming [])) (sym taken))) in (
@@ -214,7 +222,8 @@ module _ (settled : SettledBehind) (limits : Limits) (url : Option (List ℕ)) (
           ready = ready;
           ready_too = ready_too;
           first = subst (λ (c : Connection). StandsAt (channel_of_connection c) s.0) (sym is) s.3;
-          second = subst (λ (c : Connection). StandsAt (channel_of_connection c) s.0) (sym is_too) (subst (StandsAt (channel_of_connection k.last)) (sym place) t.3);
+          second = subst (λ (c : Connection). StandsAt (channel_of_connection c) s.0) (sym is_too)
+              (subst (StandsAt (channel_of_connection k.last)) (sym place) t.3);
           same = record {
             limits = ap (λ (c : Connection). client_limits (channel_of_connection c)) is
                 ∙ (limits_same ∙ sym (ap (λ (c : Connection). client_limits (channel_of_connection c)) is_too));
@@ -229,7 +238,8 @@ module _ (settled : SettledBehind) (limits : Limits) (url : Option (List ℕ)) (
         },
       )
 
-  opened_by : (c d : Result Client ClientFault) (x y : Client) → a ≡ c → b ≡ d → c ≡ Ok x → d ≡ Ok y → IsOpened (channel_of_connection h.last) h.opens.moves.taken
+  opened_by : (c d : Result Client ClientFault) (x y : Client) → a ≡ c → b ≡ d → c ≡ Ok x → d ≡ Ok y
+      → IsOpened (channel_of_connection h.last) h.opens.moves.taken
       → IsOpened (channel_of_connection k.last) k.opens.moves.taken → OpenAlike a b after later
   opened_by c d x y e i p q o v =
       let over = subst (λ (z : Result Client ClientFault). IsOpenedOver z h.last) (e ∙ p) h.over in
@@ -250,8 +260,10 @@ module _ (settled : SettledBehind) (limits : Limits) (url : Option (List ℕ)) (
   ToSecond = OpensTo R coming (hello_octets (client_limits (channel_of_connection k.begun)) (url_of (channel_of_connection k.begun))) (open_frame_octets moment)
       (channel_of_connection k.last) k.opens.sent k.opens.moves.taken b
 
-  said_both : (told also : List ClientTold) → told ≡ also → SaidAt (hello_octets (client_limits (channel_of_connection h.begun)) (url_of (channel_of_connection h.begun)))
-      (open_frame_octets moment) h.opens.sent told → SaidAt (hello_octets (client_limits (channel_of_connection k.begun)) (url_of (channel_of_connection k.begun)))
+  said_both : (told also : List ClientTold) → told ≡ also
+      → SaidAt (hello_octets (client_limits (channel_of_connection h.begun)) (url_of (channel_of_connection h.begun)))
+      (open_frame_octets moment) h.opens.sent told
+      → SaidAt (hello_octets (client_limits (channel_of_connection k.begun)) (url_of (channel_of_connection k.begun)))
       (open_frame_octets moment) k.opens.sent also → h.opens.sent ≡ k.opens.sent
   said_both told also e p q =
       said_once hi (open_frame_octets moment) h.opens.sent k.opens.sent told
@@ -262,7 +274,8 @@ module _ (settled : SettledBehind) (limits : Limits) (url : Option (List ℕ)) (
   both : ToFirst → ToSecond → OpenedOnce a b line after other later
   both (Done x e sent o) (Done y d also v) = record {
     answers = opened_by a b x y refl refl e d o v;
-    written = wrote_both (sent ∙ (ap (λ (t : List ℕ). t ++ open_frame_octets moment) (same_hello h.begun h.fresh ∙ sym (same_hello k.begun k.fresh)) ∙ sym also));
+    written =
+        wrote_both (sent ∙ (ap (λ (t : List ℕ). t ++ open_frame_octets moment) (same_hello h.begun h.fresh ∙ sym (same_hello k.begun k.fresh)) ∙ sym also));
   }
   both (Done x e sent o) (Waited f c d by told said all) =
       absurd (never_waited (channel_of_connection h.last) h.opens.moves.taken (untaken_of h.last ++ first.last.coming []) o mine first.parts c told
@@ -285,7 +298,8 @@ module _ (settled : SettledBehind) (limits : Limits) (url : Option (List ℕ)) (
       let taken = read_same h.last k.last h.opens.sent k.opens.sent h.opens.moves.taken k.opens.moves.taken line after other later coming first second p.3 q.3 c
       in
       let told =
-      (all_once R k.opens.moves.taken p.0 q.0 Going Going (goes_reads R (channel_of_connection h.last) [] h.opens.moves.taken k.opens.moves.taken p.0 mine taken p.2)
+      (all_once R k.opens.moves.taken p.0 q.0 Going Going
+      (goes_reads R (channel_of_connection h.last) [] h.opens.moves.taken k.opens.moves.taken p.0 mine taken p.2)
       (goes_reads R (channel_of_connection k.last) [] k.opens.moves.taken k.opens.moves.taken q.0 theirs refl q.2)).0 in
       record { answers = failed_by fault.Read fault.Read f g refl; written = wrote_both (said_both p.0 q.0 told p.1 q.1) }
   by_faults (AtWrite f g w) = record { answers = failed_by fault.Write fault.Write f g refl; written = w }

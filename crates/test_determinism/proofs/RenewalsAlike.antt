@@ -51,7 +51,8 @@ true_false e = cc
 abbrev ClosesTo : ClientPlace → DateTime → List ℕ → Result (Unit {0}) ClientFault → Type 0
 ClosesTo s moment sent a = (a ≡ Ok tt) × (sent ≡ closing_at s moment)
 
-closes_to : (s : ClientPlace) (moment : DateTime) (sent : List ℕ) (a : Result (Unit {0}) ClientFault) → ClosesChannelAt s moment sent a → line_failed_calling a ≡ false
+closes_to : (s : ClientPlace) (moment : DateTime) (sent : List ℕ) (a : Result (Unit {0}) ClientFault) → ClosesChannelAt s moment sent a
+    → line_failed_calling a ≡ false
     → ¬ (IsErrOf a fault.OutOfMemory) → ClosesTo s moment sent a
 closes_to s moment sent (Ok u) h unbroken had = (refl, h)
 closes_to s moment sent (Err fault.Write) h unbroken had = absurd (true_false unbroken)
@@ -136,7 +137,8 @@ data RenewsTo (R : Rules ClientTold Why) (whole : List ℕ) (s : ClientPlace) (m
 
 module _ (R : Rules ClientTold Why) (old new : Connection) (moment : DateTime) (s : ClientPlace) (line after : Option Traffic) (coming : List ℕ) (t : Traffic)
     (line_is : line ≡ Some t) (brings : (more : List ℕ) → untaken_of old ++ t.coming more ≡ coming) (few : length (s.octets ++ coming) < 0xFFFF_FFFF_FFFF_FFFF)
-    (a : Result (Unit {0}) ClientFault) (h : Renews moment old new line after a) (rules : client_rules_of (channel_of_connection new) (asks_renewed s) ≡ R) where
+    (a : Result (Unit {0}) ClientFault) (h : Renews moment old new line after a) (rules : client_rules_of (channel_of_connection new) (asks_renewed s)
+    ≡ R) where
   r : Ran new h.sent h.moves.taken line after coming
   r = ran old new h.sent line after coming t h.moves line_is brings
 
@@ -204,7 +206,8 @@ waited_unrefused f e (ByPeer code p q) = subst (λ (g : ClientFault). (refused_b
 waited_unrefused f e (ByOurs code p q) = subst (λ (g : ClientFault). (refused_by {A = Unit {0}} (Err g) ≡ None) × (ends_client g ≡ true)) (sym p) (refl, refl)
 waited_unrefused f e (ByEnd p q) = subst (λ (g : ClientFault). (refused_by {A = Unit {0}} (Err g) ≡ None) × (ends_client g ≡ true)) (sym p) (refl, refl)
 
-done_by : (f : ClientFault) (one two : Client) (a : Result (Unit {0}) ClientFault) (after later : Option Traffic) → a ≡ Err f → ends_client f ≡ true → HasFailedOrClosed one
+done_by : (f : ClientFault) (one two : Client) (a : Result (Unit {0}) ClientFault) (after later : Option Traffic) → a ≡ Err f → ends_client f ≡ true
+    → HasFailedOrClosed one
     → HasFailedOrClosed two → LeavesBoth a one two after later
 done_by f one two a after later e d p q =
     subst (λ (z : Result (Unit {0}) ClientFault). LeavesBoth z one two after later) (sym e)

@@ -56,8 +56,8 @@ same_replied : (a b : Lane) (body : List ℕ) (n m id : ℕ) → a ≡ b → n �
 same_replied a b body n m id p q = ap (λ (l : Lane). replied l body n id) p ∙ ap (λ (k : ℕ). replied b body k id) q
 
 -- what a channel says of a reply whose octets a view shows
-pub record IsAnswered {A : Type 0} (view : A → List ℕ) (x new : ServerChannel) (frames : List Frame) (body : List ℕ) (id : ℕ) (a : Result A ReplyFault) : Type
-    0 where
+pub record IsAnswered {A : Type 0} (view : A → List ℕ) (x new : ServerChannel) (frames : List Frame) (body : List ℕ) (id : ℕ)
+    (a : Result A ReplyFault) : Type 0 where
   pub sent : IfOk a (λ out. (lane : Lane) × RepliesGo (limits_of x) (channel_of x) (received frames) lane
       × IsReply lane body (next_of x) id (view out) (next_of new))
   pub before : IsErrOf a NotOpen ↔ ((received frames).openings ≡ [])

@@ -76,7 +76,8 @@ come new later after other p q h = subst (λ (z : Option Traffic). ComeAlike (So
 
 pub wrote_at : (line new : Option Traffic) (before after : Traffic) (sent : List ℕ) → line ≡ Some before → new ≡ Some after → WroteExactly line new sent
     → after.written ≡ before.written ++ sent
-wrote_at line new before after sent p q h = subst (λ (z : Option Traffic). WroteExactly (Some before) z sent) q (subst (λ (z : Option Traffic). WroteExactly z new sent) p h)
+wrote_at line new before after sent p q h = subst (λ (z : Option Traffic). WroteExactly (Some before) z sent) q
+    (subst (λ (z : Option Traffic). WroteExactly z new sent) p h)
 
 -- what was written is this
 pub wrote_same : (line new : Option Traffic) (before after : Traffic) (sent other : List ℕ) → line ≡ Some before → new ≡ Some after
@@ -168,8 +169,8 @@ module _ (limits : Limits) (channel : ℕ) (first : State) where
   }
 
   -- what serving comes to, where no call of the line failed and memory was had
-  data Came (whole : List ℕ) (moments : List DateTime) (written : List ℕ) (now : State) (asked : List AnsweredRequest) (a : Result Ending ServeFault) : Type
-      0 where
+  data Came (whole : List ℕ) (moments : List DateTime) (written : List ℕ) (now : State) (asked : List AnsweredRequest)
+      (a : Result Ending ServeFault) : Type 0 where
     Closes : a ≡ Ok ending.Closed → Reads whole Over moments written now asked → Came whole moments written now asked a
     Refuses : (code : StatusCode) → a ≡ Ok (ending.Refused code) → Reads whole (Stopped code.code) moments written now asked
         → Came whole moments written now asked a
@@ -225,8 +226,8 @@ module _ (limits : Limits) (channel : ℕ) (first : State) where
 
   -- ---- two answers are one
 
-  record Once (a b : Result Ending ServeFault) (written other : List ℕ) (ms ns : List DateTime) (now then : State) (asked also : List AnsweredRequest) : Type
-      0 where
+  record Once (a b : Result Ending ServeFault) (written other : List ℕ) (ms ns : List DateTime) (now then : State)
+      (asked also : List AnsweredRequest) : Type 0 where
     answers : a ≡ b
     counts : length ms ≡ length ns
     same : SaysOnce written other now then asked also

@@ -37,8 +37,8 @@ failed_by (Some code) = Some (fault.Service code)
 
 -- what becomes of a service whose request is called there by itself: it is not answered, by this fault; or it is, and the reply says whether
 -- it failed
-data Served (limits : Limits) (request : Request) (s : ClientPlace) (coming : List ℕ) (x : ClientChannel) (sent taken : List ℕ) (o : Option ClientFault) : Type
-    0 where
+data Served (limits : Limits) (request : Request) (s : ClientPlace) (coming : List ℕ) (x : ClientChannel) (sent taken : List ℕ)
+    (o : Option ClientFault) : Type 0 where
   Fails : (f : ClientFault) → o ≡ Some f → Broke false limits (request ∷ []) s coming x sent taken [] 0 f → Served limits request s coming x sent taken o
   Says : (t : ClientPlace) (reply : Reply) → o ≡ failed_by (reply_failure reply) → sent ≡ sent_at s (request ∷ [])
       → IsDone limits (request ∷ []) s coming x t taken (reply ∷ []) → Served limits request s coming x sent taken o

@@ -13,7 +13,8 @@ use Rattle.ua_variant.specs.Data.{VariantData}
 use Rattle.ua_variant.specs.View.{variant_of}
 use Rattle.ua_variant.specs.declared.values.DataValue.{DataValue}
 use Rattle.ua_texts.specs.Replies.{AreAnswers, AreEndpoints, Leaves, NoAnswers, NoEndpoints, endpoint_lines, endpoints_in, fault_in, statuses_in, values_in}
-use Rattle.ua_texts.specs.Script.{AsksForStep, AsksFor, AsksNothing, AsksRead, AsksWrite, IsFirstBadScriptLine, IsLineOf, RefusesScriptLines, range_denoted, typed_denoted}
+use Rattle.ua_texts.specs.Script.{AsksForStep, AsksFor, AsksNothing, AsksRead, AsksWrite, IsFirstBadScriptLine}
+use Rattle.ua_texts.specs.Script.{IsLineOf, RefusesScriptLines, range_denoted, typed_denoted}
 use Rattle.ua_texts.specs.declared.fault.AnswerFault.{AnswerFault}
 use Rattle.ua_texts.specs.declared.fault.AnswerFault.TheVariants.{Service, Unknown, OutOfMemory}
 use Rattle.ua_texts.specs.declared.fault.ScriptFault.{ScriptFault}

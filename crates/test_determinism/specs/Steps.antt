@@ -14,8 +14,8 @@ use Rattle.test_determinism.specs.Servers.{ServersDone}
 -- two servers with the same limits and the same id are in the state after these bytes, which told
 -- both this, if their services were in the same state when the connection began, and each of the
 -- timestamps was used
-pub record StepsAlike (one two : ServerChannel) (octets : List ℕ) (told : List Told) (begun : State) (moments : List DateTime) (state other : State) : Type
-    0 where
+pub record StepsAlike (one two : ServerChannel) (octets : List ℕ) (told : List Told) (begun : State) (moments : List DateTime)
+    (state other : State) : Type 0 where
   pub first : ServerStands one octets told begun moments state
   pub second : ServerStands two octets told begun moments other
   pub limits : limits_of one ≡ limits_of two

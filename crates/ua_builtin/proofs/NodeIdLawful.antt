@@ -12,7 +12,8 @@ use Rattle.ua_wire.proofs.Lawfulness.{sound_number, sound_nothing, sound_image, 
 use Rattle.ua_wire.proofs.CountedLawful.{sound_text, sound_counted}
 use Rattle.ua_wire.proofs.Leasts.{least_starts}
 use Rattle.ua_builtin.specs.NodeId.{node, node_id, in_form, form_of, is_short, two_octets, numeric, textual, by_guid, opaque, is_numeric, is_textual}
-use Rattle.ua_builtin.specs.NodeId.{is_guid, is_opaque, number_of_identifier, text_of_identifier, guid_of, octets_of_identifier, TwoOctet, FourOctet, NumericForm, StringForm}
+use Rattle.ua_builtin.specs.NodeId.{is_guid, is_opaque, number_of_identifier, text_of_identifier, guid_of}
+use Rattle.ua_builtin.specs.NodeId.{octets_of_identifier, TwoOctet, FourOctet, NumericForm, StringForm}
 use Rattle.ua_builtin.specs.NodeId.{GuidForm, OpaqueForm, EncodesNodeId, two_octet, four_octet, numeric_form, string_form, guid_form, opaque_form}
 use Rattle.ua_builtin.specs.declared.node_id.NodeId.{NodeId}
 use Rattle.ua_builtin.specs.declared.node_id.Identifier.{Identifier}

@@ -1,8 +1,10 @@
 -- The ids of the built-in types (OPC 10000-6, 5.1.2).
 use Rattle.std.specs.Prelude.{◌≡◌, ℕ}
 use Rattle.ua_builtin.specs.declared.built_in_type.BuiltInType.{BuiltInType}
-use Rattle.ua_builtin.specs.declared.built_in_type.BuiltInType.TheVariants.{Boolean, SByte, Byte, Int16, UInt16, Int32, UInt32, Int64, UInt64, Float, Double, String, DateTime}
-use Rattle.ua_builtin.specs.declared.built_in_type.BuiltInType.TheVariants.{Guid, ByteString, XmlElement, NodeId, ExpandedNodeId, StatusCode, QualifiedName, LocalizedText, ExtensionObject, DataValue, Variant, DiagnosticInfo}
+use Rattle.ua_builtin.specs.declared.built_in_type.BuiltInType.TheVariants.{Boolean, SByte, Byte, Int16, UInt16, Int32, UInt32}
+use Rattle.ua_builtin.specs.declared.built_in_type.BuiltInType.TheVariants.{Int64, UInt64, Float, Double, String, DateTime}
+use Rattle.ua_builtin.specs.declared.built_in_type.BuiltInType.TheVariants.{Guid, ByteString, XmlElement, NodeId, ExpandedNodeId, StatusCode, QualifiedName}
+use Rattle.ua_builtin.specs.declared.built_in_type.BuiltInType.TheVariants.{LocalizedText, ExtensionObject, DataValue, Variant, DiagnosticInfo}
 
 -- the id of a type
 abbrev pub id_of_type : BuiltInType → ℕ

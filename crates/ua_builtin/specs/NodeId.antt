@@ -157,7 +157,8 @@ two_octets = image (λ n. node 0 (Numeric n)) (λ v. number_of_identifier v.iden
 
 -- forms 0x01 and 0x02: namespace and id, of this many bytes
 abbrev pub numeric : ℕ → ℕ → Flat NodeId
-numeric m n = image (λ p. node p.0 (Numeric p.1)) (λ v. (v.namespace, number_of_identifier v.identifier)) (λ v. is_numeric v.identifier) (both (number m) (number n))
+numeric m n = image (λ p. node p.0 (Numeric p.1)) (λ v. (v.namespace, number_of_identifier v.identifier)) (λ v. is_numeric v.identifier)
+    (both (number m) (number n))
 
 -- form 0x03: namespace UInt16 and a String
 abbrev pub textual : Flat NodeId

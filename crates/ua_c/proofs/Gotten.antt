@@ -31,7 +31,8 @@ encodes_sound id v sound =
 some_same : {x y : Variable} → ◌≡◌ {A = Option Variable} (Some x) (Some y) → x ≡ y
 some_same e = cc
 
-encodes_at : (nodes : Nodes) (index : ℕ) (v : Variable) → AreNodesSound nodes → option_map (λ (node : NodeId × Variable). node.1) (slice_get nodes index) ≡ Some v
+encodes_at : (nodes : Nodes) (index : ℕ) (v : Variable) → AreNodesSound nodes → option_map (λ (node : NodeId × Variable). node.1) (slice_get nodes index)
+    ≡ Some v
     → IsTrue (variant_encodable v.value)
 encodes_at [] index v sound e = absurd cc
 encodes_at (node ∷ nodes) zero v sound e = subst (λ (w : Variable). IsTrue (variant_encodable w.value)) (some_same e) (encodes_sound node.0 node.1 sound.0)

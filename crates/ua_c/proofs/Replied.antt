@@ -153,7 +153,8 @@ of_another_kind kind.ServiceFault other s = refl
 abbrev image_of : (k : ResponseKind) → Option (ResponseStructure k × List ℕ) → Option (Response × List ℕ)
 image_of k found = found >>= λ x. Some (responses.make k x.0, x.1)
 
-made_by : (k : ResponseKind) → (k ≡ kind.Read → ⊥) → (r : Response) (found : Option (ResponseStructure k × List ℕ)) → image_of k found ≡ Some (r, []) → HasNoResults r
+made_by : (k : ResponseKind) → (k ≡ kind.Read → ⊥) → (r : Response) (found : Option (ResponseStructure k × List ℕ)) → image_of k found ≡ Some (r, [])
+    → HasNoResults r
 made_by k other r None e = absurd cc
 made_by k other r (Some x) e =
     let p : Response × List ℕ = (responses.make k x.0, x.1) in

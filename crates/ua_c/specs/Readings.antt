@@ -110,7 +110,8 @@ LacksPart octets given = (given.has_source_time ≡ 0) ⊎ ¬ (HasPart octets gi
 -- an allocation failed, or it is none
 abbrev pub IsNoReading : List ℕ → UaReading → ℕ → Type 0
 IsNoReading octets given status =
-    (status ≡ no_memory) ⊎ ((status ≡ bad_reading) × LacksPart octets given) ⊎ ((status ≡ bad_octets) × IsWhole variant_format (value_octets_of octets given) None)
+    (status ≡ no_memory) ⊎ ((status ≡ bad_reading) × LacksPart octets given)
+    ⊎ ((status ≡ bad_octets) × IsWhole variant_format (value_octets_of octets given) None)
 
 -- ---- the place of a node
 

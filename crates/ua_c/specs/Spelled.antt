@@ -97,4 +97,5 @@ pub record CannotEncodeBy (plain : Bool) (kind text : List ℕ) (bad : BadText) 
 abbrev pub EncodesBy : Bool → List ℕ → List ℕ → List ℕ → List ℕ → ℕ → ℕ → ℕ → Type 0
 EncodesBy plain kind text before after needed reason status =
     (PutsValueBy plain kind text before after needed status × (reason ≡ 0))
-    ⊎ (IsBufferKept before after needed × (HasNoValueBy plain kind text (bad_whole_text reason status) ⊎ CannotEncodeBy plain kind text (bad_whole_text reason status)))
+    ⊎ (IsBufferKept before after needed
+    × (HasNoValueBy plain kind text (bad_whole_text reason status) ⊎ CannotEncodeBy plain kind text (bad_whole_text reason status)))

@@ -2,9 +2,11 @@
 
 ghost use Rattle.std.specs.Prelude.{◌≡◌, IfOk, IfErr};
 ghost use Rattle.ua_services.specs.SessionRequests.{activate_session, close_session, create_session, get_endpoints};
-ghost use Rattle.ua_c.specs.Requests.{LinesNameNodes, AreNoNodes, AreNodeTexts, AreUnnamed, IsNoNode, IsNoText, IsNodeText};
+ghost use Rattle.ua_c.specs.Requests.{LinesNameNodes, AreNoNodes, AreNodeTexts};
+ghost use Rattle.ua_c.specs.Requests.{AreUnnamed, IsNoNode, IsNoText, IsNodeText};
 ghost use Rattle.ua_c.specs.Requests.{IsRangeText, IsUnnamed, MakesRequestBody, MakesActivation, MakesOfUrl, MakesRead};
-ghost use Rattle.ua_c.specs.Requests.{MakesUnder, MakesWrite, Names, PutsBody, PutsMade, PutsTold, MakesRequestBodyTelling, items_of_read};
+ghost use Rattle.ua_c.specs.Requests.{MakesUnder, MakesWrite, Names, PutsBody, PutsMade};
+ghost use Rattle.ua_c.specs.Requests.{PutsTold, MakesRequestBodyTelling, items_of_read};
 ghost use Rattle.ua_c.specs.BadText.{index_in};
 ghost use Rattle.ua_c.specs.Status.{text_node};
 
@@ -299,7 +301,8 @@ pub extern "C" fn ua_get_endpoints_request(
     buffer: &mut [u8],
     needed: &mut usize,
 ) -> u32
-    ensures { MakesRequestBody (λ made. MakesOfUrl (λ u. get_endpoints u (record { ticks = moment }) handle) url.now made)
+    ensures { MakesRequestBody
+        (λ made. MakesOfUrl (λ u. get_endpoints u (record { ticks = moment }) handle) url.now made)
         buffer.old buffer.new needed.new result }
 {
     let made = match string_of(alloc, url) {
@@ -319,7 +322,8 @@ pub extern "C" fn ua_create_session_request(
     buffer: &mut [u8],
     needed: &mut usize,
 ) -> u32
-    ensures { MakesRequestBody (λ made. MakesOfUrl (λ u. create_session u (record { ticks = moment }) handle) url.now made)
+    ensures { MakesRequestBody
+        (λ made. MakesOfUrl (λ u. create_session u (record { ticks = moment }) handle) url.now made)
         buffer.old buffer.new needed.new result }
 {
     let made = creating(alloc, url, DateTime { ticks: moment }, handle);
@@ -336,7 +340,8 @@ pub extern "C" fn ua_activate_session_request(
     buffer: &mut [u8],
     needed: &mut usize,
 ) -> u32
-    ensures { MakesRequestBody (λ made. MakesUnder (λ id. activate_session id (record { ticks = moment }) handle) token.now made)
+    ensures { MakesRequestBody
+        (λ made. MakesUnder (λ id. activate_session id (record { ticks = moment }) handle) token.now made)
         buffer.old buffer.new needed.new result }
 {
     let made = activating(alloc, token, DateTime { ticks: moment }, handle);
@@ -356,7 +361,8 @@ pub extern "C" fn ua_activate_session_request_as(
     needed: &mut usize,
     reason: &mut u32,
 ) -> u32
-    ensures { MakesRequestBodyTelling (λ made. MakesActivation token.now policy.now (record { ticks = moment }) handle made) buffer.old
+    ensures { MakesRequestBodyTelling
+        (λ made. MakesActivation token.now policy.now (record { ticks = moment }) handle made) buffer.old
         buffer.new needed.new reason.new result }
 {
     let made = activating_as(alloc, token, policy, DateTime { ticks: moment }, handle);
@@ -373,7 +379,8 @@ pub extern "C" fn ua_close_session_request(
     buffer: &mut [u8],
     needed: &mut usize,
 ) -> u32
-    ensures { MakesRequestBody (λ made. MakesUnder (λ id. close_session id (record { ticks = moment }) handle) token.now made)
+    ensures { MakesRequestBody (λ made. MakesUnder (λ id. close_session id (record { ticks = moment }) handle) token.now
+        made)
         buffer.old buffer.new needed.new result }
 {
     let made = match node_of(alloc, token) {
@@ -398,7 +405,8 @@ pub extern "C" fn ua_read_request(
     reason: &mut u32,
     index: &mut usize,
 ) -> u32
-    ensures { MakesRequestBodyTelling (λ made. MakesRead token.now (record { ticks = moment }) handle nodes.now range.now made
+    ensures { MakesRequestBodyTelling
+        (λ made. MakesRead token.now (record { ticks = moment }) handle nodes.now range.now made
         × (index.new ≡ index_in made)) buffer.old buffer.new needed.new reason.new result }
 {
     let made = reading(
@@ -427,7 +435,8 @@ pub extern "C" fn ua_write_request(
     needed: &mut usize,
     reason: &mut u32,
 ) -> u32
-    ensures { MakesRequestBodyTelling (λ made. MakesWrite token.now (record { ticks = moment }) handle node.now kind.now text.now made)
+    ensures { MakesRequestBodyTelling
+        (λ made. MakesWrite token.now (record { ticks = moment }) handle node.now kind.now text.now made)
         buffer.old buffer.new needed.new reason.new result }
 {
     let made = writing(

@@ -2,7 +2,8 @@
 
 ghost use Rattle.std.specs.Prelude.{◌≡◌, ℕ, List, IfOk, IfErr};
 ghost use Rattle.ua_c.specs.Handled.{OfHandles};
-ghost use Rattle.ua_c.specs.Telling.{EncodesHeld, EncodesNone, SaysNoItem, TellsWrite, TellsNext, TellsWritten, untold_in};
+ghost use Rattle.ua_c.specs.Telling.{EncodesHeld, EncodesNone, SaysNoItem};
+ghost use Rattle.ua_c.specs.Telling.{TellsWrite, TellsNext, TellsWritten, untold_in};
 ghost use Rattle.ua_c.specs.declared.holding.Machine.TheVariants as machine;
 ghost use Rattle.ua_c.specs.declared.untold.ToldItem.{ToldItem as ToldItemOf};
 

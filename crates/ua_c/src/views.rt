@@ -11,7 +11,8 @@ ghost use Rattle.ua_structures.specs.Attribute.{read_response};
 ghost use Rattle.ua_variant.specs.Formats.{data_value_format};
 ghost use Rattle.ua_c.specs.Responses.{IsNoResponse, OfResponse, TellsNone};
 ghost use Rattle.ua_c.specs.Views.{AnnouncesOther, AreResults, AreViews, AreViewsOf, HasNoResults, IsView};
-ghost use Rattle.ua_c.specs.Views.{PutsReadings, SeesBy, Views, fields_size, if_there, reading_of, status_of_read_fault};
+ghost use Rattle.ua_c.specs.Views.{PutsReadings, SeesBy, Views, fields_size};
+ghost use Rattle.ua_c.specs.Views.{if_there, reading_of, status_of_read_fault};
 
 use crate::readings::UaReading;
 use crate::responses::response_of;

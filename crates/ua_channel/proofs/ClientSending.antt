@@ -87,7 +87,8 @@ module _ (limits : Limits) (before : Received) (asked : List Asking) where
       }
 
   -- why nothing is sent: by what runs, and by what was received and asked
-  shut_there : (reasons : List (AskFault × Bool)) → open_responses before.openings ≡ [] → Some NotOpen ≡ first_reason ((NotOpen, has_no_channel before) ∷ reasons)
+  shut_there : (reasons : List (AskFault × Bool)) → open_responses before.openings ≡ []
+      → Some NotOpen ≡ first_reason ((NotOpen, has_no_channel before) ∷ reasons)
   shut_there reasons none = sym (first_set NotOpen (has_no_channel before) reasons (ap (λ (rs : List OpenResponse). is_none (first_channel rs)) none))
 
   judged_by : (p : Phase) (kept : Talking → List (AskFault × Bool)) (reasons : List (AskFault × Bool)) → InPhase limits p before asked

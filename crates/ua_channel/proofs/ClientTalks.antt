@@ -27,7 +27,8 @@ use Rattle.ua_channel.specs.inside.ClientParts.{IsAnswerOf, IsOpenedWith, IsRene
 use Rattle.ua_channel.specs.inside.ClientParts.{first_reasons, kept_renewal_reasons, chunk_reasons, greeted, left_pending}
 use Rattle.ua_channel.specs.ClientEvents.{event_parts}
 use Rattle.ua_channel.specs.ClientTable.{client_reasons, is_awaited}
-use Rattle.ua_channel.specs.ClientTokens.{answer_in, response_listed, id_listed, open_responses, opened_ids, first_channel, tokens_of, from_last, held_by, held_tokens}
+use Rattle.ua_channel.specs.ClientTokens.{answer_in, response_listed, id_listed, open_responses, opened_ids}
+use Rattle.ua_channel.specs.ClientTokens.{first_channel, tokens_of, from_last, held_by, held_tokens}
 use Rattle.ua_channel.specs.ClientTold.{ClientTold, ClientTold as told, ours, client_tells, told_response}
 use Rattle.ua_channel.specs.Content.{Opening, Content, content, opening_of}
 use Rattle.ua_channel.specs.Content.Content.{Opens, Sends}
@@ -45,7 +46,8 @@ use Rattle.ua_channel.proofs.HeldTokens.{held_by-used, held_by-push, latest-push
 
 -- ---- what one opening adds
 
-pub responses-push : (os : List Opening) (o : Opening) (r : OpenResponse) → answer_in o ≡ Some (Open r) → open_responses (os ++ o ∷ []) ≡ open_responses os ++ r ∷ []
+pub responses-push : (os : List Opening) (o : Opening) (r : OpenResponse) → answer_in o ≡ Some (Open r) → open_responses (os ++ o ∷ []) ≡ open_responses os
+    ++ r ∷ []
 unfolding open_responses
 responses-push os o r is = flat_map-append (λ (p : Opening). response_listed (answer_in p)) os (o ∷ [])
     ∙ ap (λ (a : Option OpenAnswer). flat_map (λ (p : Opening). response_listed (answer_in p)) os ++ (response_listed a ++ [])) is

@@ -135,9 +135,11 @@ last_is limits before c None tells goes = silent_open limits before c tells goes
 last_is limits before c (Some (event.Agreed a)) tells goes = telling_open limits before c (server_told_of_event (event.Agreed a)) tells (λ z. absurd cc) goes
 last_is limits before c (Some (event.Opened id handle token lifetime)) tells goes =
     telling_open limits before c (server_told_of_event (event.Opened id handle token lifetime)) tells (λ z. absurd cc) goes
-last_is limits before c (Some (event.Asked id token message)) tells goes = telling_open limits before c (server_told_of_event (event.Asked id token message)) tells
+last_is limits before c (Some (event.Asked id token message)) tells goes = telling_open limits before c (server_told_of_event (event.Asked id token message))
+    tells
     (λ z. absurd cc) goes
-last_is limits before c (Some (event.Aborted id)) tells goes = telling_open limits before c (server_told_of_event (event.Aborted id)) tells (λ z. absurd cc) goes
+last_is limits before c (Some (event.Aborted id)) tells goes = telling_open limits before c (server_told_of_event (event.Aborted id)) tells
+    (λ z. absurd cc) goes
 last_is limits before c (Some event.Closed) tells goes = closing limits before c tells
 
 list_is : (e : Option Event) → told_list e ≡ told_if server_side e

@@ -78,7 +78,8 @@ module _ (limits : Limits) (r : Running) (before : Received) (channel : ℕ) (c 
   -- a chunk that is taken
   pub takes_message : (d : Option Delivered) (e : Option Event) (new : Assembler) → first_reason (ids_reasons c channel r.used r.issued) ≡ None
       → chunk_refusal (octet_limit r.assembler) (chunk_limit r.assembler) (last_number r.assembler) before.messages c ≡ None
-      → given before.messages c ≡ delivered_items d → HasParts d (bodies (gathered before.messages c)) → told_list e ≡ map (told_under c.token) (delivered_items d)
+      → given before.messages c ≡ delivered_items d → HasParts d (bodies (gathered before.messages c))
+      → told_list e ≡ map (told_under c.token) (delivered_items d)
       → parts_of_event e ≡ parts_in d → assembling.Stands new (before.messages ++ c ∷ []) → last_number new ≡ Some c.sequence → SameLimits r.assembler new
       → TakesSo limits channel before (Sends c) e × Stays limits (record r { assembler = new; used = c.token }) (after before (Sends c))
   takes_message d e new ids good items parts event same_parts stands last same = (

@@ -122,7 +122,8 @@ impl Line for MemoryLine {
     fn read(&mut self, buffer: &mut [u8]) -> Result<usize, LineFault>
         ensures within { IfOk result (λ n. n ≤ length buffer.new) }
         ensures failed { self.new.failures ≡ failures_after self.old.failures result }
-        ensures octets { HandsOut result buffer.new (traffic_of_stored self.old.traffic) (traffic_of_stored self.new.traffic) }
+        ensures octets { HandsOut result buffer.new (traffic_of_stored self.old.traffic)
+            (traffic_of_stored self.new.traffic) }
         ensures paced { result ≡ moves self.old.reads (min (length self.old.traffic.coming) (length buffer.old)) }
         ensures reads { self.new.reads ≡ after_call self.old.reads }
         ensures writes { self.new.writes ≡ self.old.writes }
@@ -146,7 +147,8 @@ impl Line for MemoryLine {
         ensures within { IfOk result (λ n. n ≤ length octets.now) }
         ensures some { 0 < length octets.now → IfOk result (λ n. 0 < n) }
         ensures failed { self.new.failures ≡ failures_after self.old.failures result }
-        ensures octets { WriteTakes result octets.now (traffic_of_stored self.old.traffic) (traffic_of_stored self.new.traffic) }
+        ensures octets { WriteTakes result octets.now (traffic_of_stored self.old.traffic)
+            (traffic_of_stored self.new.traffic) }
         ensures paced { IfOk result (λ n. Ok n ≡ moves self.old.writes (length octets.now)) }
         ensures writes { self.new.writes ≡ after_call self.old.writes }
         ensures reads { self.new.reads ≡ self.old.reads }

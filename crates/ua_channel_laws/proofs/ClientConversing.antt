@@ -34,7 +34,8 @@ use Rattle.ua_channel.specs.Asks.{Asking, Placed, asked_before, end_of, is_in, p
 use Rattle.ua_channel_laws.specs.ClientConversation.{ClientConversation, ClientContinues, IsClientConversation, IsClientOrder, IsGoodReply}
 use Rattle.ua_channel_laws.specs.ClientConversation.{IsGoodResponse, IsOrderAgreed, IsClientOrderOpen, MayCarryBack, largest_taken}
 use Rattle.ua_channel.specs.inside.ClientParts.{why_of}
-use Rattle.ua_channel.specs.ClientTable.{client_gate, client_reasons, client_rules, client_gate_behind, is_awaited, is_bad_answer, is_other, of_numbers, of_response}
+use Rattle.ua_channel.specs.ClientTable.{client_gate, client_reasons, client_rules, client_gate_behind}
+use Rattle.ua_channel.specs.ClientTable.{is_awaited, is_bad_answer, is_other, of_numbers, of_response}
 use Rattle.ua_channel.specs.ClientTokens.{answer_behind, answer_in, first_channel, held_tokens, opened_ids, open_responses}
 use Rattle.ua_channel.specs.ClientTold.{Why, ours}
 use Rattle.ua_channel.specs.Content.{Content, Opening, content, content_by, opening_of, sends}
@@ -52,7 +53,8 @@ use Rattle.ua_channel_laws.proofs.PairedCalls.{none_holds}
 
 -- ---- an OPN
 
-good_answer : (a : OpenAnswer) → is_bad_answer (Some a) ≡ false → (r : OpenResponse) × (a ≡ Open r) × (leb 0x8000_0000 r.response_header.service_result.code ≡ false)
+good_answer : (a : OpenAnswer) → is_bad_answer (Some a) ≡ false → (r : OpenResponse) × (a ≡ Open r)
+    × (leb 0x8000_0000 r.response_header.service_result.code ≡ false)
 good_answer (Open r) e = (r, refl, e)
 good_answer (Fault f) e = absurd cc
 
@@ -83,7 +85,8 @@ response_as n m ts us awaits more o p q wait g = record {
 
 module _ (limits : Limits) (asked : List Asking) (b : Received) where
   abbrev IsResponse : Opening → Type 0
-  IsResponse o = IsGoodResponse (first_channel (open_responses b.openings)) (held_tokens b) (is_awaited (open_responses b.openings) (opened_ids b.openings) asked) o
+  IsResponse o = IsGoodResponse (first_channel (open_responses b.openings)) (held_tokens b)
+      (is_awaited (open_responses b.openings) (opened_ids b.openings) asked) o
 
   abbrev IsReply : Chunk → Type 0
   IsReply c = IsGoodReply (first_channel (open_responses b.openings)) (held_tokens b) (pending_calls b.messages asked) c
@@ -109,7 +112,8 @@ module _ (limits : Limits) (asked : List Asking) (b : Received) where
         numbers_are = numbers.1;
         awaited =
             not-false (is_awaited (open_responses b.openings) (opened_ids b.openings) asked numbers.0.1)
-            (ap (of_numbers (λ n. not (is_awaited (open_responses b.openings) (opened_ids b.openings) asked n.1))) (sym numbers.1) ∙ all.1.1.1.1.1.1.1.1.1.1.1.1.0);
+            (ap (of_numbers (λ n. not (is_awaited (open_responses b.openings) (opened_ids b.openings) asked n.1))) (sym numbers.1)
+            ∙ all.1.1.1.1.1.1.1.1.1.1.1.1.0);
       }
 
   response_follows : (o : Opening) → first_reason (client_reasons limits b asked (Opens o)) ≡ None → AreOrdered b.last (number_listed o.numbers)
@@ -218,7 +222,8 @@ Order b ks = order_by b.ack (open_responses b.openings) ks
 abbrev pub IsPlaced : Received → Type 0
 IsPlaced b = b.ack ≡ None → open_responses b.openings ≡ []
 
-order_is : (b : Received) (ks : List Kind) (o : Option Ack) (rs : List OpenResponse) → b.ack ≡ o → open_responses b.openings ≡ rs → Order b ks ↔ order_by o rs ks
+order_is : (b : Received) (ks : List Kind) (o : Option Ack) (rs : List OpenResponse) → b.ack ≡ o → open_responses b.openings ≡ rs
+    → Order b ks ↔ order_by o rs ks
 order_is b ks o rs q r = subst (λ (t : Option Ack). Order b ks ↔ order_by t rs ks) q
     (subst (λ (t : List OpenResponse). Order b ks ↔ order_by b.ack t ks) r (λ h. h, λ h. h))
 

@@ -35,7 +35,8 @@ use Rattle.ua_channel.specs.Asks.{is_finished, is_in, next_id, pending_calls, pe
 use Rattle.ua_channel_laws.specs.ClientConversation.{IsClientOrderOpen, IsGoodReply, IsGoodResponse, MayCarryBack, largest_taken}
 use Rattle.ua_channel_laws.specs.ClientReads.{AtClient, ClientReads}
 use Rattle.ua_channel.specs.ClientTable.{client_rules, is_awaited, is_other}
-use Rattle.ua_channel.specs.ClientTokens.{answer_in, first_channel, from_last, held_by, held_tokens, id_listed, opened_ids, response_listed, open_responses, tokens_of}
+use Rattle.ua_channel.specs.ClientTokens.{answer_in, first_channel, from_last, held_by, held_tokens}
+use Rattle.ua_channel.specs.ClientTokens.{id_listed, opened_ids, response_listed, open_responses, tokens_of}
 use Rattle.ua_channel.specs.ClientTold.{ClientTold, client_tells, told_item, told_response}
 use Rattle.ua_channel.specs.ClientTold.ClientTold.{Agreed, Opened, Answered, GaveUp, Renewed}
 use Rattle.ua_channel.specs.Content.{Content, Opening, closes, content, content_by}
@@ -174,7 +175,8 @@ pub held_renewed : (b : Received) (o : Opening) (r : OpenResponse) (newest : ℕ
 unfolding held_tokens
 held_renewed b o r newest answers is fresh =
     ap (λ (rs : List OpenResponse). held_by b.used (tokens_of rs)) (responses-push b.openings o r answers)
-    ∙ (ap (held_by b.used) (tokens_of-push (open_responses b.openings) r) ∙ held_by-push b.used r.token_id newest (tokens_of (open_responses b.openings)) is fresh)
+    ∙ (ap (held_by b.used) (tokens_of-push (open_responses b.openings) r)
+    ∙ held_by-push b.used r.token_id newest (tokens_of (open_responses b.openings)) is fresh)
 
 holds_renewed : (at : AtClient) (b : Received) (o : Opening) (r : OpenResponse) (ts : List ℕ) (rs : List OpenResponse) → answer_in o ≡ Some (Open r)
     → Holds at b ts rs

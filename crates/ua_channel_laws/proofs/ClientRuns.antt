@@ -138,7 +138,8 @@ module _ (limits : Limits) (n : ℕ) (least : 2 ≤ n) (asked : List Asking) (be
   }
 
   abbrev IsResponse : Opening → Type 0
-  IsResponse o = IsGoodResponse (first_channel (open_responses b.openings)) (held_tokens b) (is_awaited (open_responses b.openings) (opened_ids b.openings) asked) o
+  IsResponse o = IsGoodResponse (first_channel (open_responses b.openings)) (held_tokens b)
+      (is_awaited (open_responses b.openings) (opened_ids b.openings) asked) o
 
   newest_opened : (o : Opening) (g : IsResponse o) (rs : List OpenResponse) → open_responses b.openings ≡ rs → HasNewest (after b (Opens o))
   newest_opened o g [] e = (g.response.token_id, ap latest (first_held b o g.response g.answer_is e (known.unused e)))

@@ -24,7 +24,8 @@ tokens_used b c held = held_by-used b.used c.token (tokens_of (open_responses b.
 
 -- why a chunk is refused: for its ids, then for its number and message, then for a call that is not unanswered
 pub judged_reply : (limits : Limits) (asked : List Asking) (b : Received) (c : Chunk) → first_reason (client_reasons limits b asked (Sends c))
-    ≡ first_reason (((ours 0x807F_0000, is_other (first_channel (open_responses b.openings)) c.channel) ∷ (ours 0x8087_0000, not (is_in c.token (held_tokens b))) ∷ [])
+    ≡ first_reason
+    (((ours 0x807F_0000, is_other (first_channel (open_responses b.openings)) c.channel) ∷ (ours 0x8087_0000, not (is_in c.token (held_tokens b))) ∷ [])
     ++ (map (renamed_reason why_of) (reasons limits.max_message_size limits.max_chunk_count b.last b.messages c)
     ++ (ours 0x8009_0000, not (is_in c.request (pending_calls b.messages asked))) ∷ []))
 judged_reply limits asked b c = refl

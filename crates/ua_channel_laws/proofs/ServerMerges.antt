@@ -266,7 +266,8 @@ module _ (limits : Limits) (channel : ℕ) (octets : List ℕ) (told : List Told
       (ap messages_in (sym tells_all)
       ∙ (messages_delivered limits channel (r.frames ++ more) ∙ ap (λ (cs : List Chunk). map message_of_item (delivered cs)) there.messages_are))
 
-  pub reads_once : (id : ℕ) → filter (is_message_under id) (messages_in (told_of_merge ms at.issued more)) ≡ map message_of_item (outcome_under (sent_under id ms))
+  pub reads_once : (id : ℕ) → filter (is_message_under id) (messages_in (told_of_merge ms at.issued more))
+      ≡ map message_of_item (outcome_under (sent_under id ms))
   reads_once id = ap (filter (is_message_under id)) reads_messages ∙ outcomes_once limits ms (messages more) m.merged message_of_item (is_message_under id) id
       (message_names id)
 

@@ -43,4 +43,5 @@ message_told limits b Nothing = refl
 pub messages_delivered : (limits : Limits) (channel : ℕ) (frames : List Frame) → messages_in (events (server_rules limits channel) frames)
     ≡ map message_of_item (delivered (received frames).messages)
 unfolding each_after
-messages_delivered limits channel frames = found_all messages_in message_of_item (server_tells limits) refl (flat_map-append message_in) (message_told limits) frames
+messages_delivered limits channel frames = found_all messages_in message_of_item (server_tells limits) refl (flat_map-append message_in)
+    (message_told limits) frames

@@ -87,8 +87,10 @@ abbrev pub MayCarryBack : Limits → Received → List Asking → Content → Ty
 MayCarryBack limits before asked (Acks ack) = IsGoodAck limits ack
 MayCarryBack limits before asked (Fails error) = ⊥
 MayCarryBack limits before asked (Opens o) =
-    IsGoodResponse (first_channel (open_responses before.openings)) (held_tokens before) (is_awaited (open_responses before.openings) (opened_ids before.openings) asked) o
-MayCarryBack limits before asked (Sends c) = IsGoodReply (first_channel (open_responses before.openings)) (held_tokens before) (pending_calls before.messages asked) c
+    IsGoodResponse (first_channel (open_responses before.openings)) (held_tokens before)
+    (is_awaited (open_responses before.openings) (opened_ids before.openings) asked) o
+MayCarryBack limits before asked (Sends c) = IsGoodReply (first_channel (open_responses before.openings)) (held_tokens before)
+    (pending_calls before.messages asked) c
 MayCarryBack limits before asked other = Unit {0}
 
 -- a conversation at a client with these limits and operations

@@ -63,7 +63,8 @@ parts_are cs c ms d e h =
     (ap (λ (m : Pending). m.message ++ filled (c.body ∷ [])) (ap (message_under_id c.request) e ∙ message_is c.request cs)
     ∙ sym (bodies_push (unfinished c.request cs) c)) h
 
-pub delivered_is : (cs : List Chunk) (c : Chunk) (ms : List Pending) (ds : List Item) → ms ≡ kept_messages cs → ds ≡ given_kept (message_under_id c.request ms) c
+pub delivered_is : (cs : List Chunk) (c : Chunk) (ms : List Pending) (ds : List Item) → ms ≡ kept_messages cs
+    → ds ≡ given_kept (message_under_id c.request ms) c
     → delivered (cs ++ c ∷ []) ≡ delivered cs ++ ds
 delivered_is cs c ms ds e f = delivered_push cs c ∙ ap (λ t. delivered cs ++ t) (given_is cs c ms ds e f)
 
@@ -127,7 +128,8 @@ pub refusal_is : (a b : Assembler) (cs : List Chunk) (c : Chunk) → Stands a cs
     → b.pending ≡ without (is_under c.request) a.pending
     → chunk_refusal a.octets a.chunks a.last cs c ≡ refusal_kept b (message_under_id c.request a.pending) c
 refusal_is a b cs c s h last octets chunks pending =
-    let m : message_under_id c.request a.pending ≡ kept c.request (unfinished c.request cs) = ap (message_under_id c.request) s.unfinished ∙ message_is c.request cs in
+    let m : message_under_id c.request a.pending ≡ kept c.request (unfinished c.request cs) = ap (message_under_id c.request) s.unfinished
+    ∙ message_is c.request cs in
     let p : b.pending ≡ without (is_under c.request) (kept_messages cs) = pending ∙ ap (without (is_under c.request)) s.unfinished in
     ap (λ t. chain (may_follow a.last c.sequence) (is_abort_flag c.flag && not (is_readable_abort c.body)) t
     (not (is_abort_flag c.flag) && passes a.octets (length (joined (gathered cs c))))

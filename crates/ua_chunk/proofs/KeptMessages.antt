@@ -25,7 +25,8 @@ found id f (j ∷ ids) h =
     found_here (eqb j id) id j f (message_under_id id (map (λ j. kept j (f j)) ids)) refl
     (λ e. found id f ids (left_any (eqb j id) (list_any (λ j. eqb j id) ids) h e))
 
-missing : (id : ℕ) (f : ℕ → List Chunk) (ids : List ℕ) → list_any (λ j. eqb j id) ids ≡ false → message_under_id id (map (λ j. kept j (f j)) ids) ≡ nothing_of id
+missing : (id : ℕ) (f : ℕ → List Chunk) (ids : List ℕ) → list_any (λ j. eqb j id) ids ≡ false → message_under_id id (map (λ j. kept j (f j)) ids)
+    ≡ nothing_of id
 missing id f [] h = refl
 missing id f (j ∷ ids) h =
     let parts = or_parts (eqb j id) (list_any (λ j. eqb j id) ids) h in

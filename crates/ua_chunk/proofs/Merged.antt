@@ -227,7 +227,8 @@ fits_whole octets chunks m before c end w g body =
           (omega (arith, g.count, ap length bodies, length-append m.pieces (m.last ∷ []))) w.chunks_fit;
     }
 
-fine_last : (f : Flag) (octets chunks : ℕ) (m : Sent) (before : List Chunk) (c : Chunk) → m.end ≡ f → IsMessageWithin octets chunks m → Gathers before c m.pieces
+fine_last : (f : Flag) (octets chunks : ℕ) (m : Sent) (before : List Chunk) (c : Chunk) → m.end ≡ f → IsMessageWithin octets chunks m
+    → Gathers before c m.pieces
     → part_of c ≡ last_part m → Fine octets chunks before c
 fine_last F octets chunks m before c end w g e =
     fine_counted octets chunks before c (ap (λ (p : Part). is_abort_flag p.flag) e ∙ ap is_abort_flag end)
@@ -245,7 +246,8 @@ fine_front octets chunks m before c ys w (among ps1 ps2 q parts_is xs_is y_is) =
 fine_front octets chunks m before c ys w (at_end xs_is y_is) =
     fine_last m.end octets chunks m before c refl w (gathers m.request m.pieces before c xs_is) y_is
 
-fine_under : (octets chunks : ℕ) (before : List Chunk) (c : Chunk) (rest : List Part) (o : Option Sent) → ((m : Sent) → o ≡ Some m → IsMessageWithin octets chunks m)
+fine_under : (octets chunks : ℕ) (before : List Chunk) (c : Chunk) (rest : List Part) (o : Option Sent)
+    → ((m : Sent) → o ≡ Some m → IsMessageWithin octets chunks m)
     → map part_of (filter (is_of c.request) before) ++ part_of c ∷ rest ≡ parts_under o → Fine octets chunks before c
 fine_under octets chunks before c rest None w h = absurd (no_more (map part_of (filter (is_of c.request) before)) rest (part_of c) h)
 fine_under octets chunks before c rest (Some m) w h = fine_front octets chunks m before c rest (w m refl)

@@ -18,7 +18,8 @@ ghost use Rattle.ua_chunk.specs.Opening.{IsOpenChunkOf, opening_in, open_refusal
 ghost use Rattle.ua_chunk.specs.Merge.{Sent, HaveOwnIds, AllWithin, Merges, IsMerge, parts_of, part_of};
 ghost use Rattle.ua_chunk.specs.Merge.{sent_under, outcome_under, outcomes, id_of_item, is_item_of};
 ghost use Rattle.ua_chunk.specs.Open.{open_ids, open_octets};
-ghost use Rattle.ua_chunk.specs.Refusal.{FewOpen, TakesAllChunks, TakesMessages, message_refusal, passes, chunk_refusal};
+ghost use Rattle.ua_chunk.specs.Refusal.{FewOpen, TakesAllChunks, TakesMessages};
+ghost use Rattle.ua_chunk.specs.Refusal.{message_refusal, passes, chunk_refusal};
 ghost use Rattle.ua_chunk.specs.Sequence.{ordered, may_follow};
 ghost use Rattle.ua_chunk.specs.declared.assembler.Assembler.{Assembler};
 ghost use Rattle.ua_chunk.specs.declared.chunk.Chunk.{Chunk};

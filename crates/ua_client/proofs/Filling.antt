@@ -77,7 +77,8 @@ slots-set (r ∷ rs) id told t (slot ∷ slots) zero request reply h at first by
     (subst (λ (m : ℕ). IsReplyBy (kind_of_request request) m t reply) (add-zero id) by) in
     let mine : is_told_of id t ≡ true = own-one (kind_of_request r) id t reply own in (
       (t, told-own id told t mine (first id mine), own),
-      slots-other rs (id + 1) told t slots (λ k few. of-one (kind_of_request r) id ((id + 1) + k) t reply own (eqb-other id ((id + 1) + k) (λ e. omega (arith, e))))
+      slots-other rs (id + 1) told t slots
+          (λ k few. of-one (kind_of_request r) id ((id + 1) + k) t reply own (eqb-other id ((id + 1) + k) (λ e. omega (arith, e))))
           h.1,
     )
 slots-set (r ∷ rs) id told t (slot ∷ slots) (suc n) request reply h at first by = (

@@ -58,7 +58,8 @@ front-unread (r ∷ rs) id told t (Some reply ∷ slots) once h e = (reply-stays
 misanswer-other : (request : Request) (id n : ℕ) (t : ClientTold) → IsMisanswer (kind_of_request request) (id + suc n) t → is_told_of id t ≡ false
 misanswer-other request id n t by = ap (is_told_of id) by.1 ∙ eqb-other (id + suc n) id (λ e. omega (arith, e))
 
-misanswer-own : (r request : Request) (id : ℕ) (t : ClientTold) → request ≡ r → IsMisanswer (kind_of_request request) (id + 0) t → IsMisanswer (kind_of_request r) id t
+misanswer-own : (r request : Request) (id : ℕ) (t : ClientTold) → request ≡ r → IsMisanswer (kind_of_request request) (id + 0) t
+    → IsMisanswer (kind_of_request r) id t
 misanswer-own r request id t at by = subst (λ (q : Request). IsMisanswer (kind_of_request q) id t) at
     (subst (λ (m : ℕ). IsMisanswer (kind_of_request request) m t) (add-zero id) by)
 

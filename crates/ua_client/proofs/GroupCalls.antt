@@ -149,7 +149,8 @@ group-refused {A} requests few x t reads c replies h place = record {
 }
   where
     refused : (y : ClientFault) (n : ℕ) (s : ClientPlace) → StandsAt (channel_of_connection x) s → IsIdle (channel_of_connection x) s
-        → (group_refusal (phase_of (channel_of_connection x)) 0 (take n requests) ≡ None) × (group_refusal (phase_of (channel_of_connection x)) 0 (take (n + 1) requests) ≡ Some y)
+        → (group_refusal (phase_of (channel_of_connection x)) 0 (take n requests) ≡ None)
+        × (group_refusal (phase_of (channel_of_connection x)) 0 (take (n + 1) requests) ≡ Some y)
         → IsGroupRefusedFor requests s y n
     refused y n s at idle k =
         let before = few-taken n requests in
@@ -166,9 +167,12 @@ group-refused {A} requests few x t reads c replies h place = record {
     breaks fault.Exhausted e s at there = (refl, refl, at, sym there ∙ e)
     breaks fault.Closed e s at there = let no : is_reason fault.Closed ≡ true = refused-for s requests fault.Closed (sym there ∙ e) in absurd cc
     breaks fault.OutOfMemory e s at there = inl (refl, refl)
-    breaks fault.Read e s at there = let no : is_asking_fault fault.Read ≡ true = by-group (phase_of (channel_of_connection x)) 0 requests fault.Read e in absurd cc
-    breaks fault.Write e s at there = let no : is_asking_fault fault.Write ≡ true = by-group (phase_of (channel_of_connection x)) 0 requests fault.Write e in absurd cc
-    breaks fault.Ended e s at there = let no : is_asking_fault fault.Ended ≡ true = by-group (phase_of (channel_of_connection x)) 0 requests fault.Ended e in absurd cc
+    breaks fault.Read e s at there = let no : is_asking_fault fault.Read ≡ true =
+        by-group (phase_of (channel_of_connection x)) 0 requests fault.Read e in absurd cc
+    breaks fault.Write e s at there = let no : is_asking_fault fault.Write ≡ true =
+        by-group (phase_of (channel_of_connection x)) 0 requests fault.Write e in absurd cc
+    breaks fault.Ended e s at there = let no : is_asking_fault fault.Ended ≡ true =
+        by-group (phase_of (channel_of_connection x)) 0 requests fault.Ended e in absurd cc
     breaks (fault.Peer code) e s at there = let no : is_asking_fault (fault.Peer code) ≡ true =
         by-group (phase_of (channel_of_connection x)) 0 requests (fault.Peer code) e in absurd cc
     breaks (fault.Refused code) e s at there = let no : is_asking_fault (fault.Refused code) ≡ true =
@@ -183,7 +187,8 @@ group-refused {A} requests few x t reads c replies h place = record {
         by-group (phase_of (channel_of_connection x)) 0 requests fault.TooManyTokens e in absurd cc
 
     keeps : (y : ClientFault) (n : ℕ) → AnswersBy {A = Unit {0}} (group_refusal (phase_of (channel_of_connection x)) 0 requests) (Err y)
-        → RefusesBy (phase_of (channel_of_connection x)) requests n y → (s : ClientPlace) → StandsAt (channel_of_connection x) s → IsIdle (channel_of_connection x) s
+        → RefusesBy (phase_of (channel_of_connection x)) requests n y → (s : ClientPlace) → StandsAt (channel_of_connection x) s
+        → IsIdle (channel_of_connection x) s
         → KeepsRepliesAt requests s x [] y n []
     keeps fault.TooLarge n e k s at idle = (refused fault.TooLarge n s at idle k, refl)
     keeps fault.NotWritable n e k s at idle = (refused fault.NotWritable n s at idle k, refl)
@@ -191,9 +196,12 @@ group-refused {A} requests few x t reads c replies h place = record {
     keeps fault.Closed n e k s at idle = let no : is_reason fault.Closed ≡ true =
         refused-for s requests fault.Closed (sym (group-judged (channel_of_connection x) requests few s at idle) ∙ e) in absurd cc
     keeps fault.OutOfMemory n e k s at idle = (k, inl (refl, refl))
-    keeps fault.Read n e k s at idle = let no : is_asking_fault fault.Read ≡ true = by-group (phase_of (channel_of_connection x)) 0 requests fault.Read e in absurd cc
-    keeps fault.Write n e k s at idle = let no : is_asking_fault fault.Write ≡ true = by-group (phase_of (channel_of_connection x)) 0 requests fault.Write e in absurd cc
-    keeps fault.Ended n e k s at idle = let no : is_asking_fault fault.Ended ≡ true = by-group (phase_of (channel_of_connection x)) 0 requests fault.Ended e in absurd cc
+    keeps fault.Read n e k s at idle = let no : is_asking_fault fault.Read ≡ true =
+        by-group (phase_of (channel_of_connection x)) 0 requests fault.Read e in absurd cc
+    keeps fault.Write n e k s at idle = let no : is_asking_fault fault.Write ≡ true =
+        by-group (phase_of (channel_of_connection x)) 0 requests fault.Write e in absurd cc
+    keeps fault.Ended n e k s at idle = let no : is_asking_fault fault.Ended ≡ true =
+        by-group (phase_of (channel_of_connection x)) 0 requests fault.Ended e in absurd cc
     keeps (fault.Peer code) n e k s at idle = let no : is_asking_fault (fault.Peer code) ≡ true =
         by-group (phase_of (channel_of_connection x)) 0 requests (fault.Peer code) e in absurd cc
     keeps (fault.Refused code) n e k s at idle = let no : is_asking_fault (fault.Refused code) ≡ true =
@@ -221,7 +229,8 @@ group-refused {A} requests few x t reads c replies h place = record {
     stops (fault.Refused code) e = tt
     stops fault.UnknownResponse e = tt
     stops (fault.Service code) e = tt
-    stops fault.TooLong e = let no : is_asking_fault fault.TooLong ≡ true = by-group (phase_of (channel_of_connection x)) 0 requests fault.TooLong e in absurd cc
+    stops fault.TooLong e = let no : is_asking_fault fault.TooLong ≡ true = by-group (phase_of (channel_of_connection x)) 0 requests fault.TooLong e in absurd
+        cc
     stops fault.TooManyTokens e = tt
 
 -- a refusal to ask is no fault of the line
@@ -284,7 +293,8 @@ pub record IsAsked (requests : List Request) (old mid : Connection) (first : ℕ
 module _ (requests : List Request) (old mid : Connection) (first : ℕ) (out : List ℕ) (q : IsAsked requests old mid first out) where
   module _ (s : ClientPlace) (at : StandsAt (channel_of_connection old) s) where
     asked : AsksFrom (bodies_of requests) (channel_of_connection old) (channel_of_connection mid) s.asks s.octets at.goes.frames at.goes.rest (first, out)
-    asked = subst (λ (bs : List (List ℕ)). AsksFrom bs (channel_of_connection old) (channel_of_connection mid) s.asks s.octets at.goes.frames at.goes.rest (first, out)) q.bodies_are
+    asked = subst (λ (bs : List (List ℕ)). AsksFrom bs (channel_of_connection old) (channel_of_connection mid) s.asks s.octets at.goes.frames at.goes.rest
+        (first, out)) q.bodies_are
         (q.asks s.asks s.octets at.goes.frames at.goes.rest at.goes.stands)
 
     goes-asked : ClientGoes (channel_of_connection mid) (asked_at s requests) s.octets s.told
@@ -415,7 +425,8 @@ module _ (requests : List Request) (old mid : Connection) (first : ℕ) (out : L
           keeps fault.TooManyTokens s h = absurd h
           keeps (fault.Service code) s h = absurd h
 
-          stops : (y : ClientFault) → StopsByTraffic {A = B} reads left c.moves.got new after (Err y) → StopsByTraffic {A = A} reads left c.moves.got new after (Err y)
+          stops : (y : ClientFault) → StopsByTraffic {A = B} reads left c.moves.got new after (Err y)
+              → StopsByTraffic {A = A} reads left c.moves.got new after (Err y)
           stops (fault.Peer code) h = h
           stops (fault.Refused code) h = h
           stops fault.Ended h = h

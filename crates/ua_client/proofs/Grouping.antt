@@ -81,8 +81,8 @@ rounds-same x y same (OneRound group z r b a) =
 -- ---- one group more
 
 -- these requests are answered, in groups that are full where there are more
-pub record Called (requests : List Request) (more : Type 0) (old now : Connection) (before at : Option Traffic) (left : ℕ) (had have : List Reply) : Type
-    0 where
+pub record Called (requests : List Request) (more : Type 0) (old now : Connection) (before at : Option Traffic) (left : ℕ)
+    (had have : List Reply) : Type 0 where
   pub sent : List ℕ
   pub moves : MovesConnection old now sent before at
   pub same : SameClient (channel_of_connection old) (channel_of_connection now)

@@ -22,8 +22,10 @@ use Rattle.ua_channel.specs.declared.client.event.ClientEvent.TheVariants as eve
 use Rattle.ua_channel.specs.declared.client.fault.ClientTakeFault.{ClientTakeFault}
 use Rattle.ua_channel.specs.declared.client.fault.ClientTakeFault.TheVariants as take_fault
 use Rattle.ua_client.specs.Carried.{Carries}
-use Rattle.ua_client.specs.Hearing.{channel_of_connection, untaken_of, most_fragment_octets, failure_of, effort, KeepsClient, TellsEvent, MovesConnection, Starved, Listens}
-use Rattle.ua_client.specs.Hearing.{ListensAfter, is_channel_fault, of_take_fault, failures_behind, Fills, FillsByTraffic, Hears, HearsAfter, is_hearing_fault, StopsByTraffic}
+use Rattle.ua_client.specs.Hearing.{channel_of_connection, untaken_of, most_fragment_octets, failure_of}
+use Rattle.ua_client.specs.Hearing.{effort, KeepsClient, TellsEvent, MovesConnection, Starved, Listens}
+use Rattle.ua_client.specs.Hearing.{ListensAfter, is_channel_fault, of_take_fault, failures_behind, Fills}
+use Rattle.ua_client.specs.Hearing.{FillsByTraffic, Hears, HearsAfter, is_hearing_fault, StopsByTraffic}
 use Rattle.ua_client.specs.declared.connection.Connection.{Connection}
 use Rattle.ua_client.specs.declared.fault.ClientFault.{ClientFault}
 use Rattle.ua_client.specs.declared.fault.ClientFault.TheVariants as fault
@@ -121,12 +123,14 @@ starves x y asks octets told same g done = record {
   told_is = subst (λ (l : Limits). events (client_rules l asks) g.frames ≡ told) same.limits g.told_is;
 }
 
-fault-at : (f : ClientTakeFault) (old new : Connection) (moment : DateTime) (asks : List Placed) (octets : List ℕ) (told : List ClientTold) → KeepsClient old new
+fault-at : (f : ClientTakeFault) (old new : Connection) (moment : DateTime) (asks : List Placed) (octets : List ℕ) (told : List ClientTold)
+    → KeepsClient old new
     → ClientGoes (channel_of_connection old) asks octets told
     → ClientAnswers moment (untaken_of old) (Err f) (channel_of_connection new) asks octets told
     → ListensAfter moment (Err (of_take_fault f)) (channel_of_connection new) asks (octets ++ []) told
 fault-at take_fault.Closed old new moment asks octets told keeps g h = h
-fault-at take_fault.OutOfMemory old new moment asks octets told keeps g h = starves (channel_of_connection old) (channel_of_connection new) asks octets told keeps.same g h
+fault-at take_fault.OutOfMemory old new moment asks octets told keeps g h = starves (channel_of_connection old) (channel_of_connection new) asks octets told
+    keeps.same g h
 
 of-channel : (f : ClientTakeFault) → is_channel_fault (of_take_fault f) ≡ true
 of-channel take_fault.Closed = refl
@@ -267,7 +271,8 @@ module _ (old now mid : Connection) (before at then : Option Traffic) (reads lef
   goes-then result f asks octets told g = subst (λ (c : ClientChannel). ClientGoes c asks (octets ++ q.moves.taken) told) (sym f.channel)
       (q.goes asks octets told g)
 
-  keeps-here : {A : Type 0} (result : Result A ClientFault) → Fills now mid at then left less result → (new : Connection) → KeepsClient mid new → KeepsClient old new
+  keeps-here : {A : Type 0} (result : Result A ClientFault) → Fills now mid at then left less result → (new : Connection) → KeepsClient mid new
+      → KeepsClient old new
   keeps-here result f new k = keeps-then old mid new (keeps-then old now mid q.keeps (keeps-channel now mid f.channel)) k
 
   spent-then : (more : List ℕ) → left ≤ less + length more → reads ≤ less + length (q.moves.got ++ more)
@@ -427,7 +432,8 @@ module _ (old now mid : Connection) (before at then : Option Traffic) (reads lef
     moves = moves-then (Err x) mid [] f refl;
     keeps = keeps-here (Err x) f mid (keeps-all mid);
     answers = λ asks octets told g. moment-free moment x f.got f.found asks (octets ++ (q.moves.taken ++ [])) told
-        (subst (λ (t : List ℕ). ClientGoes (channel_of_connection mid) asks (octets ++ t) told) (sym (append-nil q.moves.taken)) (goes-then (Err x) f asks octets told g));
+        (subst (λ (t : List ℕ). ClientGoes (channel_of_connection mid) asks (octets ++ t) told) (sym (append-nil q.moves.taken))
+        (goes-then (Err x) f asks octets told g));
     less = tt;
     faults = read-heard x f.got f.found;
     stops = read-stops x f.got f.found;

@@ -78,7 +78,8 @@ pub record Waiting (requests : List Request) (first : ℕ) (old now : Connection
     (slots : List (Option Reply)) : Type 0 where
   pub moves : MovesConnection old now [] before at
   pub keeps : KeepsClient old now
-  pub goes : (asks : List Placed) (octets : List ℕ) (told : List ClientTold) → ClientGoes (channel_of_connection old) asks octets told → AreUntold requests first told
+  pub goes : (asks : List Placed) (octets : List ℕ) (told : List ClientTold) → ClientGoes (channel_of_connection old) asks octets told
+      → AreUntold requests first told
       → ClientGoesOn (channel_of_connection now) asks (octets ++ moves.taken) told (λ all. AreSlots requests first all slots
       × IsLast requests first now asks (octets ++ moves.taken) slots all)
   pub spent : reads ≤ left + length moves.got
@@ -148,7 +149,8 @@ module _ (requests : List Request) (first : ℕ) (old now new : Connection) (bef
 
   module _ (e : ClientEvent) (h : Hears now new moment at then left less (Ok e)) (goes_on : GoesOnBehind) (once : ToldOnce) where
     -- the history behind an event
-    behind : (P : List ClientTold → Type 0) (asks : List Placed) (octets : List ℕ) (told : List ClientTold) → ClientGoes (channel_of_connection old) asks octets told
+    behind : (P : List ClientTold → Type 0) (asks : List Placed) (octets : List ℕ) (told : List ClientTold)
+        → ClientGoes (channel_of_connection old) asks octets told
         → AreUntold requests first told
         → ((all : List ClientTold) (t : ClientTold) → Says moment e t
         → ClientGoesTelling (channel_of_connection new) asks (octets ++ (w.moves.taken ++ h.moves.taken)) all t → AreSlots requests first all slots
@@ -161,7 +163,8 @@ module _ (requests : List Request) (first : ℕ) (old now new : Connection) (bef
         let t : ClientTold = says.0 in
         let whole : List ℕ = octets ++ (w.moves.taken ++ h.moves.taken) in
         let tells : ClientGoesTelling (channel_of_connection new) asks whole (told ++ heard) t =
-        subst (λ (o : List ℕ). ClientGoesTelling (channel_of_connection new) asks o (told ++ heard) t) (append_assoc octets w.moves.taken h.moves.taken) says.2 in
+        subst (λ (o : List ℕ). ClientGoesTelling (channel_of_connection new) asks o (told ++ heard) t) (append_assoc octets w.moves.taken h.moves.taken) says.2
+        in
         let is : P ((told ++ heard) ++ t ∷ []) = filled (told ++ heard) t says.1 tells on.2.0 in (
           heard ++ t ∷ [],
           subst (λ (all : List ClientTold). ClientGoes (channel_of_connection new) asks whole all) (append_assoc told heard (t ∷ []))
@@ -203,7 +206,8 @@ module _ (requests : List Request) (first : ℕ) (old now new : Connection) (bef
     misread-by : (A : Type 0) (x : ClientFault) (next : List (Option Reply)) → next ≡ slots → list_any is_none slots ≡ true
         → ((m : DateTime) (all : List ClientTold) (t : ClientTold) → Says m e t → IsFirstOf all t → AreSlots requests first all slots
         → FillsSlots requests first (all ++ t ∷ []) next (Err x))
-        → (asks : List Placed) (octets : List ℕ) (told : List ClientTold) → ClientGoes (channel_of_connection old) asks octets told → AreUntold requests first told
+        → (asks : List Placed) (octets : List ℕ) (told : List ClientTold) → ClientGoes (channel_of_connection old) asks octets told
+        → AreUntold requests first told
         → CollectsAfter {A = A} next requests first new then (Err x) asks (octets ++ (w.moves.taken ++ h.moves.taken)) told
     misread-by A fault.UnknownResponse next same missing filled asks octets told g none =
         behind (λ all. IsMisanswered requests first all × IsFront LacksAnswer (front_of next) requests first all) asks octets told g none
@@ -229,10 +233,12 @@ module _ (requests : List Request) (first : ℕ) (old now new : Connection) (bef
 
   -- a fault of the line or of the channel while replies are missing
   heard-fault : (A : Type 0) (x : ClientFault) (h : Hears now new moment at then left less (Err x)) → list_any is_none slots ≡ true
-      → (asks : List Placed) (octets : List ℕ) (told : List ClientTold) → ClientGoes (channel_of_connection old) asks octets told → AreUntold requests first told
+      → (asks : List Placed) (octets : List ℕ) (told : List ClientTold) → ClientGoes (channel_of_connection old) asks octets told
+      → AreUntold requests first told
       → CollectsAfter {A = A} slots requests first new then (Err x) asks (octets ++ (w.moves.taken ++ h.moves.taken)) told
   heard-fault A x h missing asks octets told g none =
-      by x (subst (λ (o : List ℕ). HearsAfter moment (Err x) (channel_of_connection new) asks o (told ++ on.0)) (append_assoc octets w.moves.taken h.moves.taken)
+      by x (subst (λ (o : List ℕ). HearsAfter moment (Err x) (channel_of_connection new) asks o (told ++ on.0))
+      (append_assoc octets w.moves.taken h.moves.taken)
       (h.answers asks (octets ++ w.moves.taken) (told ++ on.0) on.1))
     where
       on : ClientGoesOn (channel_of_connection now) asks (octets ++ w.moves.taken) told (λ all. AreSlots requests first all slots

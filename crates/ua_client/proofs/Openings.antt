@@ -15,7 +15,8 @@ use Rattle.ua_channel.specs.declared.client.channel.ClientChannel.{ClientChannel
 use Rattle.ua_channel.specs.declared.client.event.ClientEvent.{ClientEvent}
 use Rattle.ua_channel.specs.declared.client.event.ClientEvent.TheVariants as event
 use Rattle.ua_client.specs.Carried.{Carries, IsPart, WritesFront}
-use Rattle.ua_client.specs.Hearing.{channel_of_connection, BreaksOff, KeepsClient, MovesConnection, Says, Starved, Hears, HearsAfter, StopsByTraffic, most_reads}
+use Rattle.ua_client.specs.Hearing.{channel_of_connection, BreaksOff, KeepsClient, MovesConnection}
+use Rattle.ua_client.specs.Hearing.{Says, Starved, Hears, HearsAfter, StopsByTraffic, most_reads}
 use Rattle.ua_client.specs.Opening.{is_agreed, is_opened, EndsWithout, GoesWithout, GoesUntil, StarvesWithout, WaitsAfter}
 use Rattle.ua_client.specs.Opening.{Waits, any_done, hello_octets, open_frame_octets, BreaksOpening, IsOpened, Opens}
 use Rattle.ua_client.specs.declared.connection.Connection.{Connection}
@@ -182,14 +183,16 @@ module _ (test : ClientEvent → Bool) (wanted : ClientTold → Bool) (tests : T
     answers = λ asks octets told g.
         let on = w.goes asks octets told g in
         by x asks (octets ++ (w.moves.taken ++ h.moves.taken)) told on.heard on.none
-        (subst (λ (o : List ℕ). HearsAfter moment (Err x) (channel_of_connection new) asks o (told ++ on.heard)) (append_assoc octets w.moves.taken h.moves.taken)
+        (subst (λ (o : List ℕ). HearsAfter moment (Err x) (channel_of_connection new) asks o (told ++ on.heard))
+        (append_assoc octets w.moves.taken h.moves.taken)
         (h.answers asks (octets ++ w.moves.taken) (told ++ on.heard) on.goes));
     faults = h.faults;
     stops = stops x h.moves.got h.stops;
   }
     where
       by : (y : ClientFault) (asks : List Placed) (octets : List ℕ) (told heard : List ClientTold) → list_any wanted heard ≡ false
-          → HearsAfter moment (Err y) (channel_of_connection new) asks octets (told ++ heard) → WaitsAfter wanted P (Err y) (channel_of_connection new) asks octets told
+          → HearsAfter moment (Err y) (channel_of_connection new) asks octets (told ++ heard)
+          → WaitsAfter wanted P (Err y) (channel_of_connection new) asks octets told
       by (fault.Peer code) asks octets told heard none k = record { heard = heard; none = none; ended = k }
       by (fault.Refused code) asks octets told heard none k = record { heard = heard; none = none; ended = k }
       by fault.Ended asks octets told heard none k = record { heard = heard; none = none; goes = k }
@@ -258,7 +261,8 @@ agreed-alone : GoesOnBehind → (x : ClientChannel) (octets : List ℕ) → Goes
     → (ack : Ack) × ClientGoesTelling x [] octets [] (Agreed ack)
 agreed-alone goes_on x octets u =
     let a = the-ack u.last u.is_wanted in
-    let first : u.heard ≡ [] = none-behind u.heard u.last u.none (shape-of x [] octets (u.heard ++ u.last ∷ []) (goes_on x [] octets u.heard u.last u.tells)) in (
+    let shape = shape-of x [] octets (u.heard ++ u.last ∷ []) (goes_on x [] octets u.heard u.last u.tells) in
+    let first : u.heard ≡ [] = none-behind u.heard u.last u.none shape in (
       a.0,
       subst (λ (t : ClientTold). ClientGoesTelling x [] octets [] t) a.1
           (subst (λ (heard : List ClientTold). ClientGoesTelling x [] octets heard u.last) first u.tells),
@@ -342,7 +346,8 @@ opens-nothing moment x t = record {
 
 -- the HEL was not written whole
 pub opens-unwritten : {A : Type 0} (moment : DateTime) (x : Connection) (hello : List ℕ) (before after : Option Traffic)
-    → hello ≡ hello_octets (client_limits (channel_of_connection x)) (url_of (channel_of_connection x)) → 0 < length hello → IfTrafficKnown (WritesFront hello) before after
+    → hello ≡ hello_octets (client_limits (channel_of_connection x)) (url_of (channel_of_connection x)) → 0 < length hello
+    → IfTrafficKnown (WritesFront hello) before after
     → Opens {A = A} moment x x before after (Err fault.Write)
 opens-unwritten moment x hello before after is some h =
     let front = sends-part hello before after some h in
@@ -374,7 +379,8 @@ module _ (moment : DateTime) (x mid : Connection) (hello : List ℕ) (a b c : Op
   }
     where
       by : (y : ClientFault) → WaitsAfter is_agreed P (Err y) (channel_of_connection mid) [] h.moves.taken []
-          → BreaksOpening (hello_octets (client_limits (channel_of_connection x)) (url_of (channel_of_connection x))) (open_frame_octets moment) (channel_of_connection mid) hello h.moves.taken y
+          → BreaksOpening (hello_octets (client_limits (channel_of_connection x)) (url_of (channel_of_connection x))) (open_frame_octets moment)
+          (channel_of_connection mid) hello h.moves.taken y
       by fault.Read k = inl (is, told-none is_agreed P [] none-agreed (channel_of_connection mid) [] h.moves.taken fault.Read k)
       by fault.Ended k = inl (is, told-none is_agreed P [] none-agreed (channel_of_connection mid) [] h.moves.taken fault.Ended k)
       by fault.TooLong k = inl (is, told-none is_agreed P [] none-agreed (channel_of_connection mid) [] h.moves.taken fault.TooLong k)
@@ -390,7 +396,8 @@ module _ (moment : DateTime) (x mid : Connection) (hello : List ℕ) (a b c : Op
       by fault.TooManyTokens k = absurd k
       by fault.Closed k = absurd k
 
-      stops : (y : ClientFault) → StopsByTraffic {A = B} most_reads left h.moves.got mid c (Err y) → StopsByTraffic {A = A} most_reads most_reads h.moves.got mid c (Err y)
+      stops : (y : ClientFault) → StopsByTraffic {A = B} most_reads left h.moves.got mid c (Err y)
+          → StopsByTraffic {A = A} most_reads most_reads h.moves.got mid c (Err y)
       stops fault.TooLong k = k
       stops fault.Ended k = k
       stops fault.Read k = k
@@ -409,19 +416,23 @@ module _ (moment : DateTime) (x mid : Connection) (hello : List ℕ) (a b c : Op
   module _ {B : Type 0} (P : B → Type 0) (found : B) (h : Waits is_agreed P x mid b c most_reads left (Ok found)) (opening : List ℕ) (open_is : P found
       → opening ≡ open_frame_octets moment) where
     -- the ACK
-    agreed-first : GoesOnBehind → ClientGoes (channel_of_connection x) [] [] [] → (ack : Ack) × ClientGoesTelling (channel_of_connection mid) [] h.moves.taken [] (Agreed ack)
+    agreed-first : GoesOnBehind → ClientGoes (channel_of_connection x) [] [] []
+        → (ack : Ack) × ClientGoesTelling (channel_of_connection mid) [] h.moves.taken [] (Agreed ack)
     agreed-first goes_on g = agreed-alone goes_on (channel_of_connection mid) h.moves.taken (h.answers [] [] [] g).0
 
     -- what it told
-    agreed-told : GoesOnBehind → ClientGoes (channel_of_connection x) [] [] [] → (ack : Ack) × ClientGoes (channel_of_connection mid) [] h.moves.taken (Agreed ack ∷ [])
+    agreed-told : GoesOnBehind → ClientGoes (channel_of_connection x) [] [] []
+        → (ack : Ack) × ClientGoes (channel_of_connection mid) [] h.moves.taken (Agreed ack ∷ [])
     agreed-told goes_on g = let a = agreed-first goes_on g in (a.0, goes_on (channel_of_connection mid) [] h.moves.taken [] (Agreed a.0) a.1)
 
     opening-is : ClientGoes (channel_of_connection x) [] [] [] → opening ≡ open_frame_octets moment
     opening-is g = open_is (h.answers [] [] [] g).1
 
-    both-sent : ClientGoes (channel_of_connection x) [] [] [] → hello ++ opening ≡ hello_octets (client_limits (channel_of_connection x)) (url_of (channel_of_connection x))
+    both-sent : ClientGoes (channel_of_connection x) [] [] []
+        → hello ++ opening ≡ hello_octets (client_limits (channel_of_connection x)) (url_of (channel_of_connection x))
         ++ open_frame_octets moment
-    both-sent g = ap (λ (o : List ℕ). o ++ opening) is ∙ ap (λ (o : List ℕ). hello_octets (client_limits (channel_of_connection x)) (url_of (channel_of_connection x)) ++ o)
+    both-sent g = ap (λ (o : List ℕ). o ++ opening) is
+        ∙ ap (λ (o : List ℕ). hello_octets (client_limits (channel_of_connection x)) (url_of (channel_of_connection x)) ++ o)
         (opening-is g)
 
     -- the OPN was not written whole
@@ -460,8 +471,11 @@ module _ (moment : DateTime) (x mid : Connection) (hello : List ℕ) (a b c : Op
         moves = both-moves k.moves;
         keeps = keeps-then x mid new h.keeps k.keeps;
         answers = λ g.
-            let t = agreed-told goes_on g in
-            (both-sent g, opened-next goes_on (channel_of_connection new) (h.moves.taken ++ k.moves.taken) t.0 (k.answers [] h.moves.taken (Agreed t.0 ∷ []) t.1).0);
+            let t = agreed-told goes_on g in (
+              both-sent g,
+              opened-next goes_on (channel_of_connection new) (h.moves.taken ++ k.moves.taken) t.0
+                  (k.answers [] h.moves.taken (Agreed t.0 ∷ []) t.1).0,
+            );
         stops = omega arith;
       }
 
@@ -477,22 +491,35 @@ module _ (moment : DateTime) (x mid : Connection) (hello : List ℕ) (a b c : Op
         where
           by : (y : ClientFault) → ClientGoes (channel_of_connection x) [] [] [] → (ack : Ack)
               → WaitsAfter is_opened any_done (Err y) (channel_of_connection new) [] (h.moves.taken ++ k.moves.taken) (Agreed ack ∷ [])
-              → BreaksOpening (hello_octets (client_limits (channel_of_connection x)) (url_of (channel_of_connection x))) (open_frame_octets moment) (channel_of_connection new) (hello ++ opening)
+              → BreaksOpening (hello_octets (client_limits (channel_of_connection x)) (url_of (channel_of_connection x))) (open_frame_octets moment)
+              (channel_of_connection new) (hello ++ opening)
               (h.moves.taken ++ k.moves.taken) y
           by fault.Read g ack i =
               inr (
                 both-sent g,
-                (ack, told-none is_opened any_done (Agreed ack ∷ []) (none-opened ack) (channel_of_connection new) [] (h.moves.taken ++ k.moves.taken) fault.Read i),
+                (
+                  ack,
+                  told-none is_opened any_done (Agreed ack ∷ []) (none-opened ack) (channel_of_connection new) [] (h.moves.taken ++ k.moves.taken)
+                      fault.Read i,
+                ),
               )
           by fault.Ended g ack i =
               inr (
                 both-sent g,
-                (ack, told-none is_opened any_done (Agreed ack ∷ []) (none-opened ack) (channel_of_connection new) [] (h.moves.taken ++ k.moves.taken) fault.Ended i),
+                (
+                  ack,
+                  told-none is_opened any_done (Agreed ack ∷ []) (none-opened ack) (channel_of_connection new) [] (h.moves.taken ++ k.moves.taken)
+                      fault.Ended i,
+                ),
               )
           by fault.TooLong g ack i =
               inr (
                 both-sent g,
-                (ack, told-none is_opened any_done (Agreed ack ∷ []) (none-opened ack) (channel_of_connection new) [] (h.moves.taken ++ k.moves.taken) fault.TooLong i),
+                (
+                  ack,
+                  told-none is_opened any_done (Agreed ack ∷ []) (none-opened ack) (channel_of_connection new) [] (h.moves.taken ++ k.moves.taken)
+                      fault.TooLong i,
+                ),
               )
           by (fault.Peer code) g ack i =
               inr (
@@ -517,7 +544,8 @@ module _ (moment : DateTime) (x mid : Connection) (hello : List ℕ) (a b c : Op
                 both-sent g,
                 (
                   ack,
-                  told-none is_opened any_done (Agreed ack ∷ []) (none-opened ack) (channel_of_connection new) [] (h.moves.taken ++ k.moves.taken) fault.OutOfMemory
+                  told-none is_opened any_done (Agreed ack ∷ []) (none-opened ack) (channel_of_connection new) [] (h.moves.taken ++ k.moves.taken)
+                      fault.OutOfMemory
                       i,
                 ),
               ))

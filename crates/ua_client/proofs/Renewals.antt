@@ -201,7 +201,8 @@ answers-pending : (limits : Limits) (before : Received) (place : ℕ) (asks : Li
 answers-pending limits before place asks o n q qs numbers some e =
     let all = none-holds (client_reasons limits before (asked_before place asks) (Opens o)) e in
     let one : of_numbers (λ m. not (is_awaited (open_responses before.openings) (opened_ids before.openings) (asked_before place asks) m.1)) (Some n) ≡ false =
-    subst (λ (m : Option (ℕ × ℕ)). of_numbers (λ k. not (is_awaited (open_responses before.openings) (opened_ids before.openings) (asked_before place asks) k.1)) m
+    subst (λ (m : Option (ℕ × ℕ)).
+    of_numbers (λ k. not (is_awaited (open_responses before.openings) (opened_ids before.openings) (asked_before place asks) k.1)) m
     ≡ false) numbers all.1.1.1.1.1.1.1.1.1.1.1.1.0 in
     let awaited : is_awaited (q ∷ qs) (opened_ids before.openings) (asked_before place asks) n.1 ≡ true =
     ap (λ (rs : List OpenResponse). is_awaited rs (opened_ids before.openings) (asked_before place asks) n.1) (sym some)
@@ -338,7 +339,8 @@ told-opens before (Acks ack) h = let e = sym (ack-opens-none ack) ∙ h in absur
 told-opens before (Fails error) h = absurd cc
 told-opens before (Opens o) h =
     ap has_some (responses-more before.openings o)
-    ∙ some-right (open_responses before.openings) (response_listed (answer_in o)) (some-mapped (open_responses before.openings) (response_listed (answer_in o)) h)
+    ∙ some-right (open_responses before.openings) (response_listed (answer_in o))
+    (some-mapped (open_responses before.openings) (response_listed (answer_in o)) h)
 told-opens before (Sends c) h = let e = sym (is-opened-items (given before.messages c)) ∙ h in absurd cc
 told-opens before (Closes c) h = absurd cc
 told-opens before Nothing h = absurd cc

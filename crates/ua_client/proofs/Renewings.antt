@@ -185,7 +185,8 @@ refusal-stops A ask_fault.RequestTooLarge x t = tt
 refusal-stops A ask_fault.OutOfMemory x t = tt
 
 -- it was not asked
-pub renews-refused : {A : Type 0} (moment : DateTime) (x y : Connection) (t : Option Traffic) (f : AskFault) → y ≡ x → IsAskFaultFor (renewal_refused (channel_of_connection x)) f
+pub renews-refused : {A : Type 0} (moment : DateTime) (x y : Connection) (t : Option Traffic) (f : AskFault) → y ≡ x
+    → IsAskFaultFor (renewal_refused (channel_of_connection x)) f
     → ((s : ClientPlace) → StandsAt (channel_of_connection x) s → IsIdle (channel_of_connection x) s) → Renews {A = A} moment x y t t (Err (of_renew_fault f))
 renews-refused {A} moment x y t f same h idle = record {
   sent = [];
@@ -278,7 +279,8 @@ settled-more s heard token before octets number h =
 
 module _ (moment : DateTime) (x mid new : Connection) (id : ℕ) (out : List ℕ) (asked : Asks moment (channel_of_connection x) (channel_of_connection mid) id out)
     (untaken : untaken_of mid ≡ untaken_of x) (a b c : Option Traffic)
-    (stands : StandsSettled (channel_of_connection x)) (idle : (s : ClientPlace) → StandsAt (channel_of_connection x) s → IsIdle (channel_of_connection x) s) where
+    (stands : StandsSettled (channel_of_connection x)) (idle : (s : ClientPlace) → StandsAt (channel_of_connection x) s
+    → IsIdle (channel_of_connection x) s) where
   -- the OPN was not written whole
   pub renews-unwritten : {A : Type 0} → new ≡ mid → 0 < length out → IfTrafficKnown (WritesFront out) a c → Renews {A = A} moment x new a c (Err fault.Write)
   renews-unwritten same some h =
@@ -306,7 +308,8 @@ module _ (moment : DateTime) (x mid new : Connection) (id : ℕ) (out : List ℕ
       token-told = the-token u.last u.is_wanted
 
       tells-token : ClientGoesTelling (channel_of_connection new) (asks_renewed s) (s.octets ++ taken) (s.told ++ u.heard) (Renewed token-told.0)
-      tells-token = subst (λ (e : ClientTold). ClientGoesTelling (channel_of_connection new) (asks_renewed s) (s.octets ++ taken) (s.told ++ u.heard) e) token-told.1
+      tells-token = subst (λ (e : ClientTold). ClientGoesTelling (channel_of_connection new) (asks_renewed s) (s.octets ++ taken) (s.told ++ u.heard) e)
+          token-told.1
           u.tells
 
       goes-behind : ClientGoes (channel_of_connection new) (asks_renewed s) (s.octets ++ taken) (s.told ++ (u.heard ++ Renewed token-told.0 ∷ []))
@@ -325,7 +328,12 @@ module _ (moment : DateTime) (x mid new : Connection) (id : ℕ) (out : List ℕ
       }
 
       at-behind : StandsAt (channel_of_connection new) behind
-      at-behind = record { goes = goes-behind; before_is = refl; number_is = k.next ∙ next-is moment (channel_of_connection x) (channel_of_connection mid) id out asked s at }
+      at-behind = record {
+        goes = goes-behind;
+        before_is = refl;
+        number_is = k.next
+            ∙ next-is moment (channel_of_connection x) (channel_of_connection mid) id out asked s at;
+      }
 
       settled-behind : IsSettled s → IsSettled behind
       settled-behind settled = settled-more s u.heard token-told.0 (received goes-behind.frames) (s.octets ++ taken) (next_number s.number) settled
@@ -358,7 +366,8 @@ module _ (moment : DateTime) (x mid new : Connection) (id : ℕ) (out : List ℕ
       stops = omega arith;
     }
       where
-        until : (s : ClientPlace) → StandsAt (channel_of_connection x) s → GoesUntil is_renewed (channel_of_connection new) (asks_renewed s) (s.octets ++ h.moves.taken) s.told
+        until : (s : ClientPlace) → StandsAt (channel_of_connection x) s
+            → GoesUntil is_renewed (channel_of_connection new) (asks_renewed s) (s.octets ++ h.moves.taken) s.told
         until s at = (h.answers (asks_renewed s) s.octets s.told (goes-asked moment (channel_of_connection x) (channel_of_connection mid) id out asked s at)).0
 
         opened : HasNoChannel (channel_of_connection new) → ⊥
@@ -370,7 +379,8 @@ module _ (moment : DateTime) (x mid new : Connection) (id : ℕ) (out : List ℕ
       moves = sent-from h.moves;
       same = same-behind h.keeps;
       judged = λ s at.
-          unrefused f s h.moves.taken (h.answers (asks_renewed s) s.octets s.told (goes-asked moment (channel_of_connection x) (channel_of_connection mid) id out asked s at))
+          unrefused f s h.moves.taken
+          (h.answers (asks_renewed s) s.octets s.told (goes-asked moment (channel_of_connection x) (channel_of_connection mid) id out asked s at))
           ∙ sym (none-refused moment (channel_of_connection x) (channel_of_connection mid) id out asked s at (idle s at));
       answers = λ s at.
           by f s h.moves.taken (out-is moment (channel_of_connection x) (channel_of_connection mid) id out asked s at)
@@ -379,7 +389,8 @@ module _ (moment : DateTime) (x mid new : Connection) (id : ℕ) (out : List ℕ
     }
       where
         unrefused : (y : ClientFault) (s : ClientPlace) (taken : List ℕ)
-            → WaitsAfter is_renewed any_done (Err y) (channel_of_connection new) (asks_renewed s) (s.octets ++ taken) s.told → refused_by {A = Unit {0}} (Err y) ≡ None
+            → WaitsAfter is_renewed any_done (Err y) (channel_of_connection new) (asks_renewed s) (s.octets ++ taken) s.told
+            → refused_by {A = Unit {0}} (Err y) ≡ None
         unrefused fault.Read s taken k = refl
         unrefused fault.Ended s taken k = refl
         unrefused fault.TooLong s taken k = refl

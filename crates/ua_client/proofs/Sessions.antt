@@ -334,7 +334,8 @@ module _ (url : Option (List ℕ)) (moment : DateTime) (request : Request) (old 
 
 -- CreateSession failed
 pub begins-first : (policy_id : Option (List ℕ)) (moment : DateTime) (old new : Connection) (before after : Option Traffic) (left : ℕ) (f : ClientFault)
-    → DoesIdle {A = NodeId} (λ s sent taken. ServesAt (creating_at (url_of (channel_of_connection old)) moment s) brings_token s new sent taken (Err f)) old new before
+    → DoesIdle {A = NodeId} (λ s sent taken. ServesAt (creating_at (url_of (channel_of_connection old)) moment s) brings_token s new sent taken (Err f)) old new
+    before
     after most_reads left (Err f)
     → ((s : ClientPlace) → StandsAt (channel_of_connection old) s → IsIdle (channel_of_connection old) s)
     → TriesSession policy_id moment old new before after (Err (record { token = None; fault = f }))
@@ -358,7 +359,8 @@ begins-unasked policy_id moment x t = record {
 }
 
 module _ (policy_id : Option (List ℕ)) (moment : DateTime) (old mid new : Connection) (before between after : Option Traffic) (left less : ℕ) (token : NodeId)
-    (d : DoesIdle {A = NodeId} (λ s sent taken. ServesAt (creating_at (url_of (channel_of_connection old)) moment s) brings_token s mid sent taken (Ok token)) old mid
+    (d : DoesIdle {A = NodeId} (λ s sent taken. ServesAt (creating_at (url_of (channel_of_connection old)) moment s) brings_token s mid sent taken (Ok token))
+    old mid
     before between most_reads left (Ok token))
     (stands : StandsSettled (channel_of_connection old)) (idle : IdleStanding) where
   -- behind CreateSession it may be called again
@@ -371,7 +373,8 @@ module _ (policy_id : Option (List ℕ)) (moment : DateTime) (old mid new : Conn
   second : (result : Result (Unit {0}) ClientFault) (P : NodeId → Type 0) → P token
       → (e : DoesIdle {A = Unit {0}} (λ s sent taken. ServesAt (activating_at policy_id token moment s) brings_any s new sent taken result) mid new between
       after left less result)
-      → (s : ClientPlace) → StandsAt (channel_of_connection old) s → ActivatesBehind (url_of (channel_of_connection old)) policy_id moment s new (d.sent ++ e.sent)
+      → (s : ClientPlace) → StandsAt (channel_of_connection old) s → ActivatesBehind (url_of (channel_of_connection old)) policy_id moment s new
+      (d.sent ++ e.sent)
       (d.moves.taken ++ e.moves.taken) P result
   second result P p e s at =
       let a = d.answers s at (idle (channel_of_connection old) s stands at) in

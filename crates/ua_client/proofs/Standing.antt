@@ -102,8 +102,10 @@ module _ (policy_id : Option (List ℕ)) (moment : DateTime) (old new : Connecti
   stands-unbegun failed e c = ∥∥₁_map stands (λ (w : Settled (channel_of_connection old)). by w.0 w.2 failed.token (c.answers w.0 w.1))
     where
       by : (s : ClientPlace) → IsSettled s → (token : Option NodeId)
-          → FailsSessionAt (url_of (channel_of_connection old)) policy_id moment s new c.sent c.moves.taken token failed.fault → Settled (channel_of_connection new)
-      by s settled None h = service-standing (creating_at (url_of (channel_of_connection old)) moment s) brings_token s new c.sent c.moves.taken failed.fault e settled h
+          → FailsSessionAt (url_of (channel_of_connection old)) policy_id moment s new c.sent c.moves.taken token failed.fault
+          → Settled (channel_of_connection new)
+      by s settled None h = service-standing (creating_at (url_of (channel_of_connection old)) moment s) brings_token s new c.sent c.moves.taken failed.fault e
+          settled h
       by s settled (Some token) a = service-standing (activating_at policy_id a.token moment a.between) brings_any a.between new a.sent_then a.taken_then
           failed.fault e (a.settled settled) a.further.1
 
@@ -121,7 +123,8 @@ module _ (moment : DateTime) (old new : Connection) (before after : Option Traff
       unmoved is = subst (λ (x : Connection). StandsSettled (channel_of_connection x)) (sym is) stands
 
       by : (y : ClientFault) → ends_client y ≡ false → (IsRefusal {A = A} (Err y) → new ≡ old)
-          → ((w : Settled (channel_of_connection old)) → RenewsAt {A = A} w.0 moment (channel_of_connection new) c.sent c.moves.taken (Err y)) → StandsSettled (channel_of_connection new)
+          → ((w : Settled (channel_of_connection old)) → RenewsAt {A = A} w.0 moment (channel_of_connection new) c.sent c.moves.taken (Err y))
+          → StandsSettled (channel_of_connection new)
       by fault.TooManyTokens k is h = unmoved (is tt)
       by fault.Exhausted k is h = unmoved (is tt)
       by (fault.Service code) k is h = ∥∥₁_map stands (λ (w : Settled (channel_of_connection old)). absurd (h w))

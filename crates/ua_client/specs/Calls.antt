@@ -89,7 +89,8 @@ CollectsAfter slots requests first new after (Err fault.Read) asks octets told =
 CollectsAfter slots requests first new after (Err fault.TooLong) asks octets told =
     ClientGoesOn (channel_of_connection new) asks octets told (λ all. AreSlots requests first all slots × (list_any is_none slots ≡ true))
 CollectsAfter slots requests first new after (Err fault.UnknownResponse) asks octets told =
-    ClientGoesOn (channel_of_connection new) asks octets told (λ all. IsMisanswered requests first all × IsFront LacksAnswer (front_of slots) requests first all)
+    ClientGoesOn (channel_of_connection new) asks octets told (λ all. IsMisanswered requests first all
+    × IsFront LacksAnswer (front_of slots) requests first all)
 CollectsAfter slots requests first new after (Err fault.OutOfMemory) asks octets told = (heard : List ClientTold)
     × LacksMemory (channel_of_connection new) asks octets (told ++ heard) × IsFront IsUntoldBefore (front_of slots) requests first (told ++ heard)
 CollectsAfter slots requests first new after (Err other) asks octets told = ⊥
@@ -108,7 +109,8 @@ pub record Collects {A : Type 0} (slots : List (Option Reply)) (requests : List 
     (reads left : ℕ) (result : Result A ClientFault) : Type 0 where
   pub moves : MovesConnection old new [] before after
   pub keeps : KeepsClient old new
-  pub answers : (asks : List Placed) (octets : List ℕ) (told : List ClientTold) → ClientGoes (channel_of_connection old) asks octets told → AreUntold requests first told
+  pub answers : (asks : List Placed) (octets : List ℕ) (told : List ClientTold) → ClientGoes (channel_of_connection old) asks octets told
+      → AreUntold requests first told
       → CollectsAfter slots requests first new after result asks (octets ++ moves.taken) told
   pub stops : StopsByTraffic reads left moves.got new after result
 
@@ -129,15 +131,20 @@ pub record Answered (requests : List Request) (s t : ClientPlace) (taken : List 
 
 -- a group of calls is refused here, or is not answered
 abbrev pub BreaksAt : List Request → ClientPlace → Connection → List ℕ → List ℕ → ClientFault → Type 0
-BreaksAt requests s new sent taken (fault.Peer code) = IsSentAt requests s sent × EndsOn (channel_of_connection new) (asked_at s requests) (s.octets ++ taken) s.told
+BreaksAt requests s new sent taken (fault.Peer code) = IsSentAt requests s sent × EndsOn (channel_of_connection new) (asked_at s requests)
+    (s.octets ++ taken) s.told
     (peers code.code) (AreAwaited requests (id_at s))
-BreaksAt requests s new sent taken (fault.Refused code) = IsSentAt requests s sent × EndsOn (channel_of_connection new) (asked_at s requests) (s.octets ++ taken) s.told
+BreaksAt requests s new sent taken (fault.Refused code) = IsSentAt requests s sent × EndsOn (channel_of_connection new) (asked_at s requests)
+    (s.octets ++ taken) s.told
     (ours code.code) (AreAwaited requests (id_at s))
-BreaksAt requests s new sent taken fault.Ended = IsSentAt requests s sent × ClientGoesOn (channel_of_connection new) (asked_at s requests) (s.octets ++ taken) s.told
+BreaksAt requests s new sent taken fault.Ended = IsSentAt requests s sent × ClientGoesOn (channel_of_connection new) (asked_at s requests)
+    (s.octets ++ taken) s.told
     (AreAwaited requests (id_at s))
-BreaksAt requests s new sent taken fault.Read = IsSentAt requests s sent × ClientGoesOn (channel_of_connection new) (asked_at s requests) (s.octets ++ taken) s.told
+BreaksAt requests s new sent taken fault.Read = IsSentAt requests s sent × ClientGoesOn (channel_of_connection new) (asked_at s requests)
+    (s.octets ++ taken) s.told
     (AreAwaited requests (id_at s))
-BreaksAt requests s new sent taken fault.TooLong = IsSentAt requests s sent × ClientGoesOn (channel_of_connection new) (asked_at s requests) (s.octets ++ taken) s.told
+BreaksAt requests s new sent taken fault.TooLong = IsSentAt requests s sent × ClientGoesOn (channel_of_connection new) (asked_at s requests)
+    (s.octets ++ taken) s.told
     (AreAwaited requests (id_at s))
 BreaksAt requests s new sent taken fault.UnknownResponse = IsSentAt requests s sent × ClientGoesOn (channel_of_connection new) (asked_at s requests)
     (s.octets ++ taken) s.told (IsMisanswered requests (id_at s))
@@ -145,11 +152,14 @@ BreaksAt requests s new sent taken fault.Write = (refusal_at s requests ≡ None
     × (length sent < length (sent_at s requests))
 BreaksAt requests s new sent taken fault.OutOfMemory =
     ((sent ≡ []) × (taken ≡ []))
-    ⊎ (IsSentAt requests s sent × ((heard : List ClientTold) × LacksMemory (channel_of_connection new) (asked_at s requests) (s.octets ++ taken) (s.told ++ heard)))
-BreaksAt requests s new sent taken fault.TooLarge = (sent ≡ []) × (taken ≡ []) × StandsAt (channel_of_connection new) s × (refusal_at s requests ≡ Some fault.TooLarge)
+    ⊎ (IsSentAt requests s sent
+    × ((heard : List ClientTold) × LacksMemory (channel_of_connection new) (asked_at s requests) (s.octets ++ taken) (s.told ++ heard)))
+BreaksAt requests s new sent taken fault.TooLarge = (sent ≡ []) × (taken ≡ []) × StandsAt (channel_of_connection new) s
+    × (refusal_at s requests ≡ Some fault.TooLarge)
 BreaksAt requests s new sent taken fault.NotWritable = (sent ≡ []) × (taken ≡ []) × StandsAt (channel_of_connection new) s
     × (refusal_at s requests ≡ Some fault.NotWritable)
-BreaksAt requests s new sent taken fault.Exhausted = (sent ≡ []) × (taken ≡ []) × StandsAt (channel_of_connection new) s × (refusal_at s requests ≡ Some fault.Exhausted)
+BreaksAt requests s new sent taken fault.Exhausted = (sent ≡ []) × (taken ≡ []) × StandsAt (channel_of_connection new) s
+    × (refusal_at s requests ≡ Some fault.Exhausted)
 BreaksAt requests s new sent taken other = ⊥
 
 -- ---- groups of calls, one after another

@@ -66,8 +66,8 @@ IsOpenedOver (Ok x) last = (connection_of x ≡ last) × (x.is_done ≡ false)
 IsOpenedOver (Err f) last = Unit {0}
 
 -- what was done to open a client
-pub record OpensClient (limits : Limits) (url : Option (List ℕ)) (moment : DateTime) (before after : Option Traffic) (result : Result Client ClientFault) : Type
-    0 where
+pub record OpensClient (limits : Limits) (url : Option (List ℕ)) (moment : DateTime) (before after : Option Traffic)
+    (result : Result Client ClientFault) : Type 0 where
   pub begun : Connection
   pub fresh : IsFresh limits url begun
   pub last : Connection

@@ -225,8 +225,8 @@ StopsByTraffic reads left got new after (Err fault.Ended) = (untaken_of new ≡ 
 StopsByTraffic reads left got new after (Err other) = Unit {0}
 
 -- the bytes up to an event, or up to a fault
-pub record Hears (old new : Connection) (moment : DateTime) (before after : Option Traffic) (reads left : ℕ) (result : Result ClientEvent ClientFault) : Type
-    0 where
+pub record Hears (old new : Connection) (moment : DateTime) (before after : Option Traffic) (reads left : ℕ)
+    (result : Result ClientEvent ClientFault) : Type 0 where
   pub moves : MovesConnection old new [] before after
   pub keeps : KeepsClient old new
   pub answers : (asks : List Placed) (octets : List ℕ) (told : List ClientTold) → ClientGoes (channel_of_connection old) asks octets told

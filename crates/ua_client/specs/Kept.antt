@@ -38,17 +38,23 @@ IsGroupRefusedFor requests s f n = (refusal_at s (take n requests) ≡ None) × 
 -- that came up to the first that is missing, which is named; none of a group that is refused or not
 -- written, and named is the request for which it is refused, else the first
 abbrev pub KeepsRepliesAt : List Request → ClientPlace → Connection → List ℕ → ClientFault → ℕ → List Reply → Type 0
-KeepsRepliesAt requests s new taken (fault.Peer code) n kept = (n ≡ length kept) × EndsOn (channel_of_connection new) (asked_at s requests) (s.octets ++ taken) s.told
+KeepsRepliesAt requests s new taken (fault.Peer code) n kept = (n ≡ length kept) × EndsOn (channel_of_connection new) (asked_at s requests)
+    (s.octets ++ taken) s.told
     (peers code.code) (IsFront IsUntold kept requests (id_at s))
-KeepsRepliesAt requests s new taken (fault.Refused code) n kept = (n ≡ length kept) × EndsOn (channel_of_connection new) (asked_at s requests) (s.octets ++ taken) s.told
+KeepsRepliesAt requests s new taken (fault.Refused code) n kept = (n ≡ length kept) × EndsOn (channel_of_connection new) (asked_at s requests)
+    (s.octets ++ taken) s.told
     (ours code.code) (IsFront IsUntold kept requests (id_at s))
-KeepsRepliesAt requests s new taken fault.Ended n kept = (n ≡ length kept) × ClientGoesOn (channel_of_connection new) (asked_at s requests) (s.octets ++ taken) s.told
+KeepsRepliesAt requests s new taken fault.Ended n kept = (n ≡ length kept) × ClientGoesOn (channel_of_connection new) (asked_at s requests)
+    (s.octets ++ taken) s.told
     (IsFront IsUntold kept requests (id_at s))
-KeepsRepliesAt requests s new taken fault.Read n kept = (n ≡ length kept) × ClientGoesOn (channel_of_connection new) (asked_at s requests) (s.octets ++ taken) s.told
+KeepsRepliesAt requests s new taken fault.Read n kept = (n ≡ length kept) × ClientGoesOn (channel_of_connection new) (asked_at s requests)
+    (s.octets ++ taken) s.told
     (IsFront IsUntold kept requests (id_at s))
-KeepsRepliesAt requests s new taken fault.TooLong n kept = (n ≡ length kept) × ClientGoesOn (channel_of_connection new) (asked_at s requests) (s.octets ++ taken) s.told
+KeepsRepliesAt requests s new taken fault.TooLong n kept = (n ≡ length kept) × ClientGoesOn (channel_of_connection new) (asked_at s requests)
+    (s.octets ++ taken) s.told
     (IsFront IsUntold kept requests (id_at s))
-KeepsRepliesAt requests s new taken fault.UnknownResponse n kept = (n ≡ length kept) × ClientGoesOn (channel_of_connection new) (asked_at s requests) (s.octets ++ taken) s.told
+KeepsRepliesAt requests s new taken fault.UnknownResponse n kept = (n ≡ length kept) × ClientGoesOn (channel_of_connection new) (asked_at s requests)
+    (s.octets ++ taken) s.told
     (IsFront LacksAnswer kept requests (id_at s))
 KeepsRepliesAt requests s new taken fault.OutOfMemory n kept = (n ≡ length kept) ×
     (((taken ≡ []) × (kept ≡ []))
@@ -75,7 +81,8 @@ pub record CallsGroup {A : Type 0} (requests : List Request) (old new : Connecti
   pub same : SameClient (channel_of_connection old) (channel_of_connection new)
   pub added : List Reply
   pub have_is : have ≡ had ++ added
-  pub answers : (s : ClientPlace) → StandsAt (channel_of_connection old) s → IsIdle (channel_of_connection old) s → CallsGroupAt requests s new sent moves.taken result added
+  pub answers : (s : ClientPlace) → StandsAt (channel_of_connection old) s → IsIdle (channel_of_connection old) s
+      → CallsGroupAt requests s new sent moves.taken result added
   pub stops : StopsByTraffic reads left moves.got new after (fault_alone result)
 
 -- ---- all calls

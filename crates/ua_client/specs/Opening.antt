@@ -66,7 +66,8 @@ pub record StarvesWithout (wanted : ClientTold → Bool) (x : ClientChannel) (as
   pub starved : Starved x asks octets (told ++ heard)
 
 -- the outcome when something is expected
-abbrev pub WaitsAfter : {A : Type 0} → (ClientTold → Bool) → (A → Type 0) → Result A ClientFault → ClientChannel → List Placed → List ℕ → List ClientTold → Type 0
+abbrev pub WaitsAfter : {A : Type 0} → (ClientTold → Bool) → (A → Type 0) → Result A ClientFault → ClientChannel → List Placed → List ℕ → List ClientTold
+    → Type 0
 WaitsAfter wanted P (Ok found) new asks octets told = GoesUntil wanted new asks octets told × P found
 WaitsAfter wanted P (Err (fault.Peer code)) new asks octets told = EndsWithout wanted new asks octets told (peers code.code)
 WaitsAfter wanted P (Err (fault.Refused code)) new asks octets told = EndsWithout wanted new asks octets told (ours code.code)
@@ -144,6 +145,7 @@ pub record Opens {A : Type 0} (moment : DateTime) (old new : Connection) (before
   pub sent : List ℕ
   pub moves : MovesConnection old new sent before after
   pub keeps : KeepsClient old new
-  pub answers : ClientGoes (channel_of_connection old) [] [] [] → OpensAfter (hello_octets (client_limits (channel_of_connection old)) (url_of (channel_of_connection old))) (open_frame_octets moment)
+  pub answers : ClientGoes (channel_of_connection old) [] [] []
+      → OpensAfter (hello_octets (client_limits (channel_of_connection old)) (url_of (channel_of_connection old))) (open_frame_octets moment)
       (channel_of_connection new) sent moves.taken result
   pub stops : StopsByTraffic most_reads most_reads moves.got new after result

@@ -146,8 +146,10 @@ IsPlace first id count (Some n) = (n < count) × (id ≡ first + n)
 -- their calls
 abbrev pub PlacesReply : List Request → ℕ → ClientTold → Result (Option (ℕ × Reply)) ClientFault → Type 0
 PlacesReply requests first t (Ok None) = IsOfNone first (length requests) t
-PlacesReply requests first t (Ok (Some (n, reply))) = (request : Request) × IsRequestAt requests n request × IsReplyBy (kind_of_request request) (first + n) t reply
-PlacesReply requests first t (Err fault.UnknownResponse) = (n : ℕ) × (request : Request) × IsRequestAt requests n request × IsMisanswer (kind_of_request request) (first + n) t
+PlacesReply requests first t (Ok (Some (n, reply))) = (request : Request) × IsRequestAt requests n request
+    × IsReplyBy (kind_of_request request) (first + n) t reply
+PlacesReply requests first t (Err fault.UnknownResponse) = (n : ℕ) × (request : Request) × IsRequestAt requests n request
+    × IsMisanswer (kind_of_request request) (first + n) t
 PlacesReply requests first t (Err fault.OutOfMemory) = Unit {0}
 PlacesReply requests first t (Err other) = ⊥
 

@@ -121,8 +121,10 @@ CallsOneAt request s new sent taken (Err f) = BreaksAt (request ∷ []) s new se
 -- the outcome of a service whose request is called there by itself: a reply by which it did not
 -- fail, and what that brings; the code of one by which it failed; or a fault of the call
 abbrev pub ServesAt : {A : Type 0} → Request → (A → Reply → Type 0) → ClientPlace → Connection → List ℕ → List ℕ → Result A ClientFault → Type 0
-ServesAt request brings s new sent taken (Ok found) = Replies request s (channel_of_connection new) sent taken (λ reply. (reply_failure reply ≡ None) × brings found reply)
-ServesAt request brings s new sent taken (Err (fault.Service code)) = Replies request s (channel_of_connection new) sent taken (λ reply. reply_failure reply ≡ Some code)
+ServesAt request brings s new sent taken (Ok found) = Replies request s (channel_of_connection new) sent taken
+    (λ reply. (reply_failure reply ≡ None) × brings found reply)
+ServesAt request brings s new sent taken (Err (fault.Service code)) = Replies request s (channel_of_connection new) sent taken
+    (λ reply. reply_failure reply ≡ Some code)
 ServesAt request brings s new sent taken (Err f) = BreaksAt (request ∷ []) s new sent taken f
 
 -- ---- both services
@@ -200,17 +202,20 @@ pub record Does {A : Type 0} (P : ClientPlace → List ℕ → List ℕ → Type
 -- the same, for a channel that is idle
 abbrev pub DoesIdle : {A : Type 0} → (ClientPlace → List ℕ → List ℕ → Type 0) → Connection → Connection → Option Traffic → Option Traffic → ℕ → ℕ
     → Result A ClientFault → Type 0
-DoesIdle P old new before after reads left result = Does (λ s sent taken. IsIdle (channel_of_connection old) s → P s sent taken) old new before after reads left result
+DoesIdle P old new before after reads left result = Does (λ s sent taken. IsIdle (channel_of_connection old) s → P s sent taken) old new before after reads left
+    result
 
 -- a session is begun at this time over a transport, by the token policy with this PolicyId
 abbrev pub BeginsSessionAs : Option (List ℕ) → DateTime → Connection → Connection → Option Traffic → Option Traffic → Result NodeId ClientFault → Type 0
 BeginsSessionAs policy_id moment old new before after result =
-    Does (λ s sent taken. BeginsSessionAt (url_of (channel_of_connection old)) policy_id moment s new sent taken result) old new before after most_reads most_reads result
+    Does (λ s sent taken. BeginsSessionAt (url_of (channel_of_connection old)) policy_id moment s new sent taken result) old new before after most_reads
+    most_reads result
 
 -- the same, with the token of a session that was created and not activated
 abbrev pub TriesSession : Option (List ℕ) → DateTime → Connection → Connection → Option Traffic → Option Traffic → Result NodeId SessionFault → Type 0
 TriesSession policy_id moment old new before after result =
-    Does (λ s sent taken. TriesSessionAt (url_of (channel_of_connection old)) policy_id moment s new sent taken result) old new before after most_reads most_reads
+    Does (λ s sent taken. TriesSessionAt (url_of (channel_of_connection old)) policy_id moment s new sent taken result) old new before after most_reads
+    most_reads
     (session_alone result)
 
 -- a session is begun by the token policy `anonymous`

@@ -90,7 +90,8 @@ impl Client {
         ensures begins { IsReady self.old → BeginsSession moment (connection_of self.old) (connection_of self.new)
             (L.traffic line.old) (L.traffic line.new) result }
         ensures left { IsReady self.old → IsLeft result self.new }
-        ensures closed { HasFailedOrClosed self.old → (result ≡ Err Closed) × (self.new ≡ self.old) × (line.new ≡ line.old) }
+        ensures closed { HasFailedOrClosed self.old → (result ≡ Err Closed) × (self.new ≡ self.old)
+            × (line.new ≡ line.old) }
         ensures failed { L.failures line.new ≡ failures_behind (L.failures line.old) result }
     {
         if self.is_done {
@@ -127,7 +128,8 @@ impl Client {
         ensures begins { IsReady self.old → BeginsSessionAs policy_id moment (connection_of self.old)
             (connection_of self.new) (L.traffic line.old) (L.traffic line.new) result }
         ensures left { IsReady self.old → IsLeft result self.new }
-        ensures closed { HasFailedOrClosed self.old → (result ≡ Err Closed) × (self.new ≡ self.old) × (line.new ≡ line.old) }
+        ensures closed { HasFailedOrClosed self.old → (result ≡ Err Closed) × (self.new ≡ self.old)
+            × (line.new ≡ line.old) }
         ensures failed { L.failures line.new ≡ failures_behind (L.failures line.old) result }
     {
         match self.try_begin_session(line, policy_id, moment) {
@@ -182,7 +184,8 @@ impl Client {
         ensures calls { IsReady self.old → CallsAll (λ reply. reply ∷ []) (request.now ∷ []) (connection_of self.old)
             (connection_of self.new) (L.traffic line.old) (L.traffic line.new) result }
         ensures left { IsReady self.old → IsLeft result self.new }
-        ensures closed { HasFailedOrClosed self.old → (result ≡ Err Closed) × (self.new ≡ self.old) × (line.new ≡ line.old) }
+        ensures closed { HasFailedOrClosed self.old → (result ≡ Err Closed) × (self.new ≡ self.old)
+            × (line.new ≡ line.old) }
         ensures failed { L.failures line.new ≡ failures_behind (L.failures line.old) result }
     {
         match self.call_all(line, slice::from_ref(request), moment) {
@@ -209,7 +212,8 @@ impl Client {
             (connection_of self.new) (L.traffic line.old) (L.traffic line.new) result }
         ensures count { IfOk result (λ replies. length replies.items ≡ length requests.now) }
         ensures left { IsReady self.old → IsLeft result self.new }
-        ensures closed { HasFailedOrClosed self.old → (result ≡ Err Closed) × (self.new ≡ self.old) × (line.new ≡ line.old) }
+        ensures closed { HasFailedOrClosed self.old → (result ≡ Err Closed) × (self.new ≡ self.old)
+            × (line.new ≡ line.old) }
         ensures failed { L.failures line.new ≡ failures_behind (L.failures line.old) result }
     {
         let mut replies = no_replies(self.alloc, requests.len());
@@ -244,7 +248,8 @@ impl Client {
         ensures count { OnOk result (length replies.new.items ≡ length replies.old.items + length requests.now) }
         ensures names { IsReady self.old → IfErr result (λ calls. calls.request < length requests.now) }
         ensures left { IsReady self.old → IsLeft (fault_alone result) self.new }
-        ensures closed { HasFailedOrClosed self.old → (result ≡ Err (closed_at_request 0)) × (self.new ≡ self.old) × (line.new ≡ line.old)
+        ensures closed { HasFailedOrClosed self.old → (result ≡ Err (closed_at_request 0)) × (self.new ≡ self.old)
+            × (line.new ≡ line.old)
             × (replies.new ≡ replies.old) }
         ensures failed { L.failures line.new ≡ failures_behind (L.failures line.old) (fault_alone result) }
     {
@@ -317,7 +322,8 @@ impl Client {
             (L.traffic line.old) (L.traffic line.new) result }
         ensures left { IsReady self.old → IsLeft result self.new }
         ensures unchanged { IsRefusal result → (self.new ≡ self.old) × (line.new ≡ line.old) }
-        ensures closed { HasFailedOrClosed self.old → (result ≡ Err Closed) × (self.new ≡ self.old) × (line.new ≡ line.old) }
+        ensures closed { HasFailedOrClosed self.old → (result ≡ Err Closed) × (self.new ≡ self.old)
+            × (line.new ≡ line.old) }
         ensures failed { L.failures line.new ≡ failures_behind (L.failures line.old) result }
     {
         if self.is_done {
@@ -337,7 +343,8 @@ impl Client {
         ensures closes { IsReady self.old → Closes moment (client_channel self.old) (L.traffic line.old)
             (L.traffic line.new) result }
         ensures done { HasFailedOrClosed self.new }
-        ensures closed { HasFailedOrClosed self.old → (result ≡ Err Closed) × (self.new ≡ self.old) × (line.new ≡ line.old) }
+        ensures closed { HasFailedOrClosed self.old → (result ≡ Err Closed) × (self.new ≡ self.old)
+            × (line.new ≡ line.old) }
         ensures failed { L.failures line.new ≡ failures_behind (L.failures line.old) result }
     {
         if self.is_done {

@@ -89,13 +89,15 @@ pub fn clients_follow_asking()
         (code : StatusCode) (later : List Placed) (more : List ℕ) (all : List ClientTold) (at : AtClient) →
         BreaksAt requests s new sent taken (Peer code)
         → AllByRecursion (λ (a : Placed). length (s.octets ++ taken) ≤ a.0) later →
-        ClientReads (client_limits (channel_of_connection new)) (asked_at s requests ++ later) ((s.octets ++ taken) ++ more) all at
+        ClientReads (client_limits (channel_of_connection new)) (asked_at s requests ++ later)
+        ((s.octets ++ taken) ++ more) all at
         → ⊥ }
     ensures not_refused { (requests : List Request) (s : ClientPlace) (new : Connection) (sent taken : List ℕ)
         (code : StatusCode) (later : List Placed) (more : List ℕ) (all : List ClientTold) (at : AtClient) →
         BreaksAt requests s new sent taken (Refused code)
         → AllByRecursion (λ (a : Placed). length (s.octets ++ taken) ≤ a.0) later →
-        ClientReads (client_limits (channel_of_connection new)) (asked_at s requests ++ later) ((s.octets ++ taken) ++ more) all at
+        ClientReads (client_limits (channel_of_connection new)) (asked_at s requests ++ later)
+        ((s.octets ++ taken) ++ more) all at
         → ⊥ }
 {
     client_follows_asking();

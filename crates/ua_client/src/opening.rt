@@ -101,7 +101,8 @@ impl Connection {
 
     /// Sends the CLO.
     pub fn close<L: Line>(&mut self, line: &mut L, moment: DateTime) -> Result<(), ClientFault>
-        ensures closes { Closes moment (channel_of_connection self.old) (L.traffic line.old) (L.traffic line.new) result }
+        ensures closes { Closes moment (channel_of_connection self.old) (L.traffic line.old) (L.traffic line.new)
+            result }
         ensures failed { L.failures line.new ≡ failures_behind (L.failures line.old) result }
     {
         let Ok(octets) = self.channel.close(moment) else {

@@ -152,7 +152,8 @@ impl Connection {
         moment: DateTime,
     ) -> Result<NodeId, ClientFault>
         ensures creates { DoesIdle
-            (λ s sent taken. ServesAt (creating_at (url_of (channel_of_connection self.old)) moment s) brings_token s self.new sent
+            (λ s sent taken. ServesAt (creating_at (url_of (channel_of_connection self.old)) moment s) brings_token s
+            self.new sent
             taken result) self.old self.new (L.traffic line.old) (L.traffic line.new) reads.old reads.new result }
         ensures failed { L.failures line.new ≡ failures_behind (L.failures line.old) result }
     {

@@ -33,7 +33,8 @@ others_trans k es more again first before mid now a b =
 -- ---- one conversation
 
 module _ {S : Type 0} (heard : S → Option Carried) where
-  pub went_none : (es : List SharedEvent) (first now : State) (t : Talk S) → (shared_over own_id (opened first) es).state ≡ now → TalkStands heard es first now t
+  pub went_none : (es : List SharedEvent) (first now : State) (t : Talk S) → (shared_over own_id (opened first) es).state ≡ now
+      → TalkStands heard es first now t
       → Went heard es first now now t
   went_none es first now t state s = record {
     more = [];
@@ -66,7 +67,8 @@ module _ {S : Type 0} (heard : S → Option Carried) where
   -- one did this, and then that
   pub went_then : (first before mid now : State) (a b c : Talk S)
       → ((es : List SharedEvent) → TalkStands heard es first before a → Went heard es first before mid b) → c.number ≡ b.number
-      → ((es : List SharedEvent) → TalkStands heard es first mid b → Went heard es first mid now c) → (es : List SharedEvent) → TalkStands heard es first before a
+      → ((es : List SharedEvent) → TalkStands heard es first mid b → Went heard es first mid now c) → (es : List SharedEvent)
+      → TalkStands heard es first before a
       → Went heard es first before now c
   went_then first before mid now a b c f same h es s = let w = f es s in went_trans es first before mid now b c w same (h (es ++ w.more) w.stands)
 

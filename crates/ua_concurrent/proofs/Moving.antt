@@ -37,7 +37,8 @@ some_there (x ∷ xs) h = refl
 module _ {S : Type 0} (heard : S → Option Carried) where
   -- ---- it stands where it stood
 
-  pub stands_wrote : (es : List SharedEvent) (first now : State) (a b : Talk S) → WroteToSocket heard a b → TalkStands heard es first now a → TalkStands heard es first now b
+  pub stands_wrote : (es : List SharedEvent) (first now : State) (a b : Talk S) → WroteToSocket heard a b → TalkStands heard es first now a
+      → TalkStands heard es first now b
   stands_wrote es first now a b w s =
       let n = w.count in
       let sent : (s.written ++ take n a.waiting) ++ drop n a.waiting ≡ s.written ++ a.waiting =
@@ -89,7 +90,8 @@ module _ {S : Type 0} (heard : S → Option Carried) where
         carried = λ c e. s.carried c (sym w.heard_is ∙ e);
       })
 
-  pub stands_failed : (failure : Failure) (es : List SharedEvent) (first now : State) (a b : Talk S) → Failed heard failure a b → TalkStands heard es first now a
+  pub stands_failed : (failure : Failure) (es : List SharedEvent) (first now : State) (a b : Talk S) → Failed heard failure a b
+      → TalkStands heard es first now a
       → TalkStands heard es first now b
   stands_failed failure es first now a b w s =
       subst (λ (t : Talk S). TalkStands heard es first now t) (sym w.is) (record {
@@ -99,7 +101,8 @@ module _ {S : Type 0} (heard : S → Option Carried) where
         carried = λ c e. s.carried c (sym w.heard_is ∙ e);
       })
 
-  pub stands_writes : (writable : S → Bool) (es : List SharedEvent) (first now : State) (a b : Talk S) → WritesSocket heard writable a b → TalkStands heard es first now a
+  pub stands_writes : (writable : S → Bool) (es : List SharedEvent) (first now : State) (a b : Talk S) → WritesSocket heard writable a b
+      → TalkStands heard es first now a
       → TalkStands heard es first now b
   stands_writes writable es first now a b (inl w) s = stands_wrote es first now a b w s
   stands_writes writable es first now a b (inr (inl w)) s = stands_stopped writable es first now a b w s
@@ -131,8 +134,11 @@ module _ {S : Type 0} (heard : S → Option Carried) where
   told_on f x y c e s = e ∙ ap (option_map f) s
 
   pub nothing_writes : (writable : S → Bool) (a b : Talk S) → WritesSocket heard writable a b → ReadsNothing heard a b
-  nothing_writes writable a b (inl w) = λ c e.
-      (with_more_written (take w.count a.waiting) c, told_on (with_more_written (take w.count a.waiting)) (heard a.socket) (heard b.socket) c w.heard_is e, refl)
+  nothing_writes writable a b (inl w) = λ c e. (
+    with_more_written (take w.count a.waiting) c,
+    told_on (with_more_written (take w.count a.waiting)) (heard a.socket) (heard b.socket) c w.heard_is e,
+    refl,
+  )
   nothing_writes writable a b (inr (inl w)) = λ c e. (c, w.heard_is ∙ e, refl)
   nothing_writes writable a b (inr (inr w)) = λ c e. (c, w.heard_is ∙ e, refl)
 
@@ -223,7 +229,8 @@ module _ {S : Type 0} (heard : S → Option Carried) where
         ∙ ap (λ (p : Phase). ready_of None [] p t.unread r w) i.0
         ∙ ap (λ (x : List ℕ). ready_of None [] phase.Going x r w) i.1
 
-    pub turned_reads : (a b : Talk S) → IsTalkIdle a → a.outcome ≡ None → length b.unread ≡ 0 → ReadsSocket heard readable a b → Turned heard readable writable a b
+    pub turned_reads : (a b : Talk S) → IsTalkIdle a → a.outcome ≡ None → length b.unread ≡ 0 → ReadsSocket heard readable a b
+        → Turned heard readable writable a b
     turned_reads a b i still none r = record { number_is = number_reads readable a b r; moves = moves r; over = over r }
       where
         idle_b : (t : Talk S) → b ≡ t → IsTalkIdle t → IsTalkIdle b

@@ -114,7 +114,8 @@ module _ {S : Type 0} (heard : S → Option Carried) where
   -- one more is opened, under the next number
   pub together_opened : (es : List SharedEvent) (first now : State) (last p : ℕ) (t : Talk S) (before : List (Option (Talk S))) → p < length before
       → t.number ≡ last + 1
-      → TalkStands heard es first now t → StandTogether heard es first now last before → StandTogether heard es first now (last + 1) (slice_set before p (Some t))
+      → TalkStands heard es first now t → StandTogether heard es first now last before
+      → StandTogether heard es first now (last + 1) (slice_set before p (Some t))
   together_opened es first now last p t before within number stands s = record {
     state_is = s.state_is;
     numbered =
@@ -285,7 +286,8 @@ module _ {S : Type 0} (heard : S → Option Carried) where
 
     pub put_stand : (places : List (Option (Talk S))) (p : ℕ) (a b : Talk S) (first before now : State) (last : ℕ) → p < length places → IsAt places p a
         → b.number ≡ a.number
-        → ((es : List SharedEvent) → (shared_over own_id (opened first) es).state ≡ before → TalkStands heard es first before a → Went heard es first before now b)
+        → ((es : List SharedEvent) → (shared_over own_id (opened first) es).state ≡ before → TalkStands heard es first before a
+        → Went heard es first before now b)
         → (es : List SharedEvent) → StandTogether heard es first before last places → GoOn heard es first now last (slice_set places p (Some b))
     put_stand places p a b first before now last within here same went es s =
         together_turn es first before now last p a b places (slice_set places p (Some b)) here

@@ -68,8 +68,8 @@ pub record StandTogether {S : Type 0} (heard : S → Option Carried) (es : List 
   pub unheard : (k : ℕ) → last < k → told_by k es ≡ []
 
 -- They go on: more was handled, and the state of all is that after it.
-pub record GoOn {S : Type 0} (heard : S → Option Carried) (es : List SharedEvent) (first now : State) (last : ℕ) (places : List (Option (Talk S))) : Type
-    0 where
+pub record GoOn {S : Type 0} (heard : S → Option Carried) (es : List SharedEvent) (first now : State) (last : ℕ)
+    (places : List (Option (Talk S))) : Type 0 where
   pub more : List SharedEvent
   pub stand : StandTogether heard (es ++ more) first now last places
 

@@ -39,7 +39,8 @@ use Rattle.ua_exchange.proofs.Words.{hello_fits, url_fits}
 -- what the server says of itself can be written
 pub endpoint_fits : (e : Endpoint) → e ≡ endpoint → IsEndpointEncodable e
 endpoint_fits e is =
-    subst IsEndpointEncodable (sym is) (record { url = url_fits; application_uri = word_fits (codes "urn:ua:server") refl refl; name = word_fits (codes "ua") refl refl })
+    subst IsEndpointEncodable (sym is)
+    (record { url = url_fits; application_uri = word_fits (codes "urn:ua:server") refl refl; name = word_fits (codes "ua") refl refl })
 
 -- a server reads what a client says of turns that are accepted
 pub turns-closed : (moment : DateTime) (turns : List Turn) → IsTrue (date_time.encodable moment) → AreAccepted turns

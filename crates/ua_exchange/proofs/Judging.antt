@@ -121,7 +121,8 @@ none_named : (n : ℕ) (o : Option ClientFault) → option_map (fault_at n) o �
 none_named n None e = refl
 none_named n (Some fault) e = absurd cc
 
-served-from : (start turns : List Turn) → AllFrom IsAccepted start turns → AllFrom (judged.IsAcceptedUnder exchange_ack) (served_turns start) (served_turns turns)
+served-from : (start turns : List Turn) → AllFrom IsAccepted start turns
+    → AllFrom (judged.IsAcceptedUnder exchange_ack) (served_turns start) (served_turns turns)
 served-from start [] h = tt
 served-from start (t ∷ ts) h = (
   none_named (length start) (refusal_served start t) (sym (refusal-same start t (room-accepted start t h.0)) ∙ h.0),

@@ -138,7 +138,11 @@ stops_from R start (f ∷ fs) x why (raw ∷ frames) rest e good ends each parti
     (sym (joined-cons raw frames rest) ∙ (sym e ∙ front_frame f fs x)) in
     let named : frame_in raw ≡ Some f = ap frame_in one.0 ∙ frame_in-frame f in
     let fault : header_fault gate raw ≡ None = ap (header_fault gate) one.0 ∙ fault-from_let_in gate f good.0.sized good.0.let_in in
-    let passes : PassesFrame R start raw = record { goes_on = good.0.goes_on; accepted = first_by_rules R (frames_in start) raw f fault named ∙ good.0.accepted } in
+    let passes : PassesFrame R start raw = record {
+      goes_on = good.0.goes_on;
+      accepted = first_by_rules R (frames_in start) raw f fault named
+          ∙ good.0.accepted;
+    } in
     let pushed : frames_in (start ++ raw ∷ []) ≡ frames_in start ++ f ∷ [] = frames_in-push start raw f named in
     let good' : AllFrom (Fits R) (frames_in (start ++ raw ∷ [])) fs = subst (λ (t : List Frame). AllFrom (Fits R) t fs) (sym pushed) good.1 in
     let ends' : EndsIn R (frames_in (start ++ raw ∷ []) ++ fs) x (Stopped why) = subst (λ (t : List Frame). EndsIn R t x (Stopped why))

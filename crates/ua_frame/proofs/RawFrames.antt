@@ -37,7 +37,8 @@ pub joined-nil : (x : List ℕ) → joined_parts [] ++ x ≡ x
 unfolding joined_parts
 joined-nil x = refl
 
-frames_same : (fs gs : List (List ℕ)) (x y : List ℕ) → joined_parts fs ++ x ≡ joined_parts gs ++ y → AllByRecursion IsRawFrame fs → AllByRecursion IsRawFrame gs → IsRest x
+frames_same : (fs gs : List (List ℕ)) (x y : List ℕ) → joined_parts fs ++ x ≡ joined_parts gs ++ y → AllByRecursion IsRawFrame fs → AllByRecursion IsRawFrame gs
+    → IsRest x
     → IsRest y → (fs ≡ gs) × (x ≡ y)
 frames_same [] [] x y e p q r s = (refl, sym (joined-nil x) ∙ (e ∙ joined-nil y))
 frames_same [] (b ∷ gs) x y e p q r s = absurd (no_raw_rest b (joined_parts gs ++ y) q.0 (subst IsRest (sym (joined-nil x) ∙ (e ∙ joined-cons b gs y)) r))

@@ -55,7 +55,8 @@ unfolding decoded_whole
 encodes_body f lawful octets v h = found_all (Within f.encodes f.depth most_levels) (f.decode most_levels) (lawful.exact most_levels) octets v
     (f.decode most_levels octets) refl h
 
-no_body : {A : Type 0} (f : Format A) → IsLawful f → (octets : List ℕ) → IsWhole f octets None → (o : Option A) → decoded_whole f octets ≡ o → decoded_whole f octets ≡ None
+no_body : {A : Type 0} (f : Format A) → IsLawful f → (octets : List ℕ) → IsWhole f octets None → (o : Option A) → decoded_whole f octets ≡ o
+    → decoded_whole f octets ≡ None
 no_body f lawful octets h None e = e
 no_body f lawful octets h (Some v) e = let b = encodes_body f lawful octets v e in absurd (h v b.1 b.0)
 

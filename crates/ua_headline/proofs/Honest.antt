@@ -40,7 +40,8 @@ took_of e turns x sent took p s = record {
 
 pub got_of : (e : Ends) (turns : List (List Outgoing)) (x : ServerChannel) (y : ClientChannel) (sent took wrote got : List ℕ) (told : List Told)
     (asks : List Placed)
-    → IsPrefix took sent → IsPrefix got wrote → IsPrefixOfSent e turns x sent → Goes x took told → AreGiven e turns told y asks wrote → GotOf e turns x y asks got
+    → IsPrefix took sent → IsPrefix got wrote → IsPrefixOfSent e turns x sent → Goes x took told → AreGiven e turns told y asks wrote
+    → GotOf e turns x y asks got
 got_of e turns x y sent took wrote got told asks up down s goes g = record {
   took = took;
   took_of = took_of e turns x sent took up s;

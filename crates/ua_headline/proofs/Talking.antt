@@ -130,7 +130,8 @@ module _ (connect : EndsConnect) (reach : RoundsReach) (e : Ends) (turns : List 
       (opening_tells e.server e.channel e.client e.url e.opened can.hello_fits can.url_fits can.opened_fits)
 
   pub said : AreSaid e (told_by_turns e turns) (state_from e.first (behind_first e.times) turns) written
-  said = are_said e (both_opened e) e.first (behind_first e.times) turns _ (opening_answer_of_ends e) (between_first e) (dated_behind e.times can.times_fit) accepted
+  said = are_said e (both_opened e) e.first (behind_first e.times) turns _ (opening_answer_of_ends e) (between_first e) (dated_behind e.times can.times_fit)
+      accepted
       (is_said_first e)
 
 -- the first turns are accepted where all are
@@ -178,7 +179,8 @@ module _ (connect : EndsConnect) (reach : RoundsReach) (e : Ends) (turns : List 
     there = (rounds_behind e.server e.channel (both_opened e) (rounds_in e first)).server
 
     first_reads : ServerReads (limits_of x) (channel_of x) (sent_in e first) (told_by_turns e first) there
-    first_reads = as_own (sent_in e first) (told_by_turns e first) there (connected connect reach e first t.can (accepted_in e first turns f t.accepted)).server_reads
+    first_reads = as_own (sent_in e first) (told_by_turns e first) there
+        (connected connect reach e first t.can (accepted_in e first turns f t.accepted)).server_reads
 
     pub first_told : (told : List Told) → Goes x took told → IsPrefix (sent_in e first) took → IsPrefix (told_by_turns e first) told
     first_told told g p =
@@ -194,7 +196,8 @@ module _ (connect : EndsConnect) (reach : RoundsReach) (e : Ends) (turns : List 
         )
 
     -- they are told only where they were
-    too_early : (told : List Told) (g : Goes x took told) (o : ℕ) (more : List ℕ) → sent_in e first ≡ took ++ o ∷ more → IsPrefix (told_by_turns e first) told → ⊥
+    too_early : (told : List Told) (g : Goes x took told) (o : ℕ) (more : List ℕ) → sent_in e first ≡ took ++ o ∷ more → IsPrefix (told_by_turns e first) told
+        → ⊥
     too_early told g o more e_is p =
         let R : Rules Told ℕ = rules_of x in
         let r = first_reads in
@@ -292,7 +295,8 @@ module _ (connect : EndsConnect) (reach : RoundsReach) (earlier : AsksEarlier) (
   not_failed hears why k = client_not_failed y asks got got_first.0 hears (heard_in e turns) here why k client_reads
 
   -- and nothing of a call of which the server was not told
-  pub heard_just : (first : List (List Outgoing)) → AreFirstOf first turns → c.told ≡ told_by_turns e first → (hears : List ClientTold) → ClientGoes y asks got hears
+  pub heard_just : (first : List (List Outgoing)) → AreFirstOf first turns → c.told ≡ told_by_turns e first → (hears : List ClientTold)
+      → ClientGoes y asks got hears
       → IsPrefix hears (heard_in e first)
   unfolding AllAfter
   heard_just first f is hears k =

@@ -103,6 +103,7 @@ pub fn clients_do_turns(server: &Server, client: &ClientChannel)
 /// at once, and a call after the answers to these, which goes under the new token.
 pub fn there_are_conversations()
     ensures opens { CanOpen example_ends }
-    ensures accepted { AreRoundsAccepted example_ends (both_opened example_ends) (rounds_in example_ends example_turns) }
+    ensures accepted { AreRoundsAccepted example_ends (both_opened example_ends)
+        (rounds_in example_ends example_turns) }
     ensures told { told_by_turns example_ends example_turns ≡ example_turns_told }
 {}

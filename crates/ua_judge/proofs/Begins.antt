@@ -16,7 +16,8 @@ use Rattle.ua_services.specs.declared.request.RequestKind.{RequestKind}
 use Rattle.ua_judge.specs.Begun.{AreBegun, begun_after, begun_if, begun_kind}
 use Rattle.ua_judge.specs.Kinds.{request_kind_of}
 use Rattle.ua_judge.specs.RawFrames.{id_place, number_from}
-use Rattle.ua_judge.specs.Requests.{chunk_kind, chunk_kind_at, first_kind, is_chunk_by, is_chunk_of, is_last, request_message_kind, request_in, unfinished_chunks}
+use Rattle.ua_judge.specs.Requests.{chunk_kind, chunk_kind_at, first_kind, is_chunk_by, is_chunk_of}
+use Rattle.ua_judge.specs.Requests.{is_last, request_message_kind, request_in, unfinished_chunks}
 use Rattle.ua_judge.specs.declared.named.Named.{Named}
 use Rattle.ua_judge.specs.declared.requests.Begun.{Begun}
 use Rattle.ua_judge.proofs.FramesRead.{all_more, joined_more}

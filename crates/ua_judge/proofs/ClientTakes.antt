@@ -24,7 +24,8 @@ use Rattle.ua_channel.specs.declared.client.event.ClientEvent.TheVariants as eve
 use Rattle.ua_channel.specs.declared.client.fault.AskFault.{AskFault}
 use Rattle.ua_judge.specs.Judging.{GoesOnJudging, TakesReply, TakesClientBytes, TakesTo, TakesUpTo, failed, reply_verdict, verdict_at}
 use Rattle.ua_judge.specs.Kinds.{is_misfit}
-use Rattle.ua_judge.specs.Verdicts.{EndWrong, GoesOnAfter, GoOnFaultless, IsBefore, IsBy, IsReasonAgainstAsking, IsNoStop, IsVerdictOn, asking, asking_reasons, named_asks_from, named_asks_of}
+use Rattle.ua_judge.specs.Verdicts.{EndWrong, GoesOnAfter, GoOnFaultless, IsBefore, IsBy, IsReasonAgainstAsking}
+use Rattle.ua_judge.specs.Verdicts.{IsNoStop, IsVerdictOn, asking, asking_reasons, named_asks_from, named_asks_of}
 use Rattle.ua_judge.specs.Verdicts.{judge_rules, place_after}
 use Rattle.ua_judge.specs.declared.named.Named.{Named}
 use Rattle.ua_judge.specs.declared.verdict.Verdict.{Verdict}
@@ -263,7 +264,8 @@ one_ask n id = (n.place, asking n.opens id) ∷ []
 asks_more : (id : ℕ) (ns : List Named) (n : Named) → named_asks_from id (ns ++ n ∷ []) ≡ named_asks_from id ns ++ one_ask n (id + length ns)
 asks_more id [] n = ap (one_ask n) (omega arith)
 asks_more id (m ∷ ms) n =
-    ap (λ (t : List Placed). (m.place, asking m.opens id) ∷ t) (asks_more (suc id) ms n ∙ ap (λ (k : ℕ). named_asks_from (suc id) ms ++ one_ask n k) (omega arith))
+    ap (λ (t : List Placed). (m.place, asking m.opens id) ∷ t) (asks_more (suc id) ms n
+    ∙ ap (λ (k : ℕ). named_asks_from (suc id) ms ++ one_ask n k) (omega arith))
 
 asks_count : (id : ℕ) (ns : List Named) → length (named_asks_from id ns) ≡ length ns
 asks_count id [] = refl
@@ -277,7 +279,8 @@ pub place_more : (at : ℕ) (ns : List Named) (n : Named) → place_after at (ns
 place_more at [] n = refl
 place_more at (m ∷ ms) n = place_more m.place ms n
 
-pub asks_with : (ns : List Named) (n : Named) → named_asks_of ns ++ (n.place, asking n.opens (next_id (asked_in (named_asks_of ns)))) ∷ [] ≡ named_asks_of (ns ++ n ∷ [])
+pub asks_with : (ns : List Named) (n : Named) → named_asks_of ns ++ (n.place, asking n.opens (next_id (asked_in (named_asks_of ns)))) ∷ []
+    ≡ named_asks_of (ns ++ n ∷ [])
 asks_with ns n = ap (λ (k : ℕ). named_asks_of ns ++ one_ask n k) (next_so ns) ∙ sym (asks_more 2 ns n)
 
 pub judged_so : (requests : List Named) (x : ClientChannel) (limits : Limits) (asks : List Placed) (octets : List ℕ) (opens : Bool) (why : Option AskFault)

@@ -12,7 +12,8 @@ use Rattle.ua_channel.specs.declared.client.channel.ClientChannel.{ClientChannel
 use Rattle.ua_channel.specs.declared.client.fault.AskFault.{AskFault}
 use Rattle.ua_channel.specs.declared.client.fault.AskFault.TheVariants.{NotOpen}
 use Rattle.ua_judge.specs.Judging.{GoesOnJudging, Sends}
-use Rattle.ua_judge.specs.Verdicts.{GoesOnAfter, GoOnFaultless, IsBefore, IsReasonAgainstAsking, IsNoStop, IsSent, IsVerdictOn, LeavesUnsent, asking, named_asks_of, judge_rules, place_after}
+use Rattle.ua_judge.specs.Verdicts.{GoesOnAfter, GoOnFaultless, IsBefore, IsReasonAgainstAsking, IsNoStop, IsSent}
+use Rattle.ua_judge.specs.Verdicts.{IsVerdictOn, LeavesUnsent, asking, named_asks_of, judge_rules, place_after}
 use Rattle.ua_judge.specs.declared.named.Named.{Named}
 use Rattle.ua_judge.specs.declared.taken.Taken.{Taken}
 use Rattle.ua_judge.specs.declared.verdict.Verdict.{Verdict}
@@ -21,7 +22,8 @@ use Rattle.ua_judge.proofs.ClientTakes.{asks_with, place_more}
 
 pub sends_so : (limits : Limits) (requests before : List Named) (request : Named) (octets : List ℕ) (from at : ℕ) (y : ClientChannel) (why : Option AskFault)
     → at ≤ length octets → place_after 0 before ≡ from
-    → at ≡ max from (min request.place (length octets)) → request.place ≡ at → IsReasonAgainstAsking limits (named_asks_of before) requests request.opens (take at octets) why
+    → at ≡ max from (min request.place (length octets)) → request.place ≡ at → IsReasonAgainstAsking limits (named_asks_of before) requests request.opens
+    (take at octets) why
     → why ≡ None
     → GoesOnAfter requests y (named_asks_of before ++ (request.place, asking request.opens (next_id (asked_in (named_asks_of before)))) ∷ []) (take at octets)
     → Sends limits requests before request octets at y
@@ -51,7 +53,8 @@ stops_so limits requests before request octets from at y fault within last at_is
 
 judged_named : (limits : Limits) (requests before : List Named) (request : Named) (octets : List ℕ) (at : ℕ) (fault : AskFault)
     → ((why : Option AskFault) → IsAskFaultFor why fault → why ≡ Some fault)
-    → (request.place ≡ at → (why : Option AskFault) × (IsReasonAgainstAsking limits (named_asks_of before) requests request.opens (take at octets) why × IsAskFaultFor why fault))
+    → (request.place ≡ at → (why : Option AskFault) × (IsReasonAgainstAsking limits (named_asks_of before) requests request.opens (take at octets) why
+    × IsAskFaultFor why fault))
     → request.place ≡ at → IsReasonAgainstAsking limits (named_asks_of before) requests request.opens (take at octets) (Some fault)
 judged_named limits requests before request octets at fault named judged place =
     let j = judged place in
@@ -63,7 +66,8 @@ pub stops_taken : {E : Type 0} (r : Result Taken E) (limits : Limits) (requests 
     → ((why : Option AskFault) → IsAskFaultFor why fault → IfOk r (λ (t : Taken). why ≡ Some fault))
     → at ≤ length octets → place_after 0 before ≡ from → at ≡ max from (min request.place (length octets))
     → GoOnFaultless (judge_rules limits (named_asks_of before) requests) (take at octets)
-    → (request.place ≡ at → (why : Option AskFault) × (IsReasonAgainstAsking limits (named_asks_of before) requests request.opens (take at octets) why × IsAskFaultFor why fault))
+    → (request.place ≡ at → (why : Option AskFault) × (IsReasonAgainstAsking limits (named_asks_of before) requests request.opens (take at octets) why
+    × IsAskFaultFor why fault))
     → ((request.place ≡ at → ⊥) → fault ≡ NotOpen)
     → IfOk r (λ (t : Taken). GoesOnJudging limits requests before request octets t.at y t.verdict)
 stops_taken (Ok t) limits requests before request octets from at y fault is named within last at_is goes judged placeless =

@@ -79,7 +79,8 @@ module _ (limits : Limits) (channel : ℕ) (id number : ℕ) (moment : DateTime)
   at_event all v within parts (Asked request message) some h = absurd cc
   at_event all v within parts (Aborted request) some h = absurd cc
   at_event all v within parts event.Closed some h =
-      let over : EndFaultless (server_rules limits channel) (octets ++ take n piece) = on_close limits channel y (octets ++ take n piece) (told ++ said.Closed ∷ [])
+      let over : EndFaultless (server_rules limits channel) (octets ++ take n piece) = on_close limits channel y (octets ++ take n piece)
+      (told ++ said.Closed ∷ [])
       limits_are channel_is h in
       subst (IsClientVerdict limits channel all) (sym (some_is some))
       (record { within = within; holds = subst (EndFaultless (server_rules limits channel)) parts over })
@@ -103,7 +104,8 @@ goes_at limits channel x octets s = (_, record { frames = s.frames; rest = s.res
 pub on_end : (limits : Limits) (channel : ℕ) (x : ServerChannel) (octets : List ℕ) → ServerAt limits channel x octets
     → GoOnFaultless (server_rules limits channel) octets
 on_end limits channel x octets s =
-    subst (λ (R : Rules Told ℕ). GoOnFaultless R octets) (ap (λ (l : Limits). server_rules l (channel_of x)) s.limits_are ∙ ap (server_rules limits) s.channel_is)
+    subst (λ (R : Rules Told ℕ). GoOnFaultless R octets) (ap (λ (l : Limits). server_rules l (channel_of x)) s.limits_are
+    ∙ ap (server_rules limits) s.channel_is)
     (record { frames = s.frames; rest = s.rest; run = s.stands.run })
 
 -- what is made of an answer and a verdict
@@ -129,7 +131,8 @@ further_by piece end n (Err fault.Closed) outcome p some = absurd outcome
 
 pub advances_by : (limits : Limits) (channel id number : ℕ) (moment : DateTime) (y : ServerChannel) (piece octets : List ℕ) (n : ℕ)
     (answer : Result ServerEvent ChannelFault) (told : List Told)
-    → limits_of y ≡ limits → channel_of y ≡ channel → AnswersAt id number moment piece n answer y octets told → AdvancesServer limits channel y piece octets n answer
+    → limits_of y ≡ limits → channel_of y ≡ channel → AnswersAt id number moment piece n answer y octets told
+    → AdvancesServer limits channel y piece octets n answer
 advances_by limits channel id number moment y piece octets n answer told limits_are channel_is h = record {
   limits_are = limits_are;
   channel_is = channel_is;

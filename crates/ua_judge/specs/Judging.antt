@@ -96,8 +96,8 @@ IsOutcome end (Ok e) found = found ≡ closed_at end e
 IsOutcome end (Err why) found = IsRefusalVerdict end why found
 
 -- bytes were taken of a fragment after these, with this answer
-pub record AdvancesServer (limits : Limits) (channel : ℕ) (new : ServerChannel) (piece octets : List ℕ) (n : ℕ) (answer : Result ServerEvent ChannelFault) : Type
-    0 where
+pub record AdvancesServer (limits : Limits) (channel : ℕ) (new : ServerChannel) (piece octets : List ℕ) (n : ℕ)
+    (answer : Result ServerEvent ChannelFault) : Type 0 where
   pub limits_are : limits_of new ≡ limits
   pub channel_is : channel_of new ≡ channel
   pub id : ℕ

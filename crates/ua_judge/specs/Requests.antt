@@ -69,7 +69,8 @@ request_with_id None flag number end asked = None
 abbrev pub request_behind_id : List (List ℕ) → ℕ → Option ℕ → List ℕ → Option Named
 request_behind_id before end None frame = None
 request_behind_id before end (Some place) frame =
-    request_with_id (kind_of frame) (flag_of frame) (number_from place frame) end (request_message_kind before (number_from place frame) (chunk_kind place frame))
+    request_with_id (kind_of frame) (flag_of frame) (number_from place frame) end
+    (request_message_kind before (number_from place frame) (chunk_kind place frame))
 
 -- the request that a frame sends after these, if it sends one
 abbrev pub request_in : List (List ℕ) → List ℕ → Option Named

@@ -111,7 +111,8 @@ asking_reasons true frames asks = renewing_reasons (received frames) (asked_in a
 asking_reasons false frames asks = call_reasons (received frames) (asked_in asks) 0 (0 ∷ [])
 
 -- this is why a request cannot be sent after some bytes, or none where it can
-pub record IsReasonAgainstAsking (limits : Limits) (asks : List Placed) (requests : List Named) (opens : Bool) (octets : List ℕ) (why : Option AskFault) : Type 0 where
+pub record IsReasonAgainstAsking (limits : Limits) (asks : List Placed) (requests : List Named) (opens : Bool) (octets : List ℕ)
+    (why : Option AskFault) : Type 0 where
   pub frames : List Frame
   pub rest : List ℕ
   pub run : Run (judge_rules limits asks requests) octets frames rest Going

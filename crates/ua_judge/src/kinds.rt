@@ -3,7 +3,8 @@
 ghost use Rattle.std.specs.List.{concat};
 ghost use Rattle.std.specs.Prelude.{◌≡◌, not, IfOk};
 ghost use Rattle.ua_channel.specs.ClientTold.ClientTold.{Answered};
-ghost use Rattle.ua_judge.specs.Kinds.{encoding_of, is_fit_answer, is_misfit, is_reply_to, kind_asked_under, request_kind_of};
+ghost use Rattle.ua_judge.specs.Kinds.{encoding_of, is_fit_answer, is_misfit};
+ghost use Rattle.ua_judge.specs.Kinds.{is_reply_to, kind_asked_under, request_kind_of};
 ghost use Rattle.ua_services.specs.Request.{request_kind_numbered as kind_numbered};
 ghost use Rattle.ua_services.specs.Response.{own_answer, responses};
 

@@ -76,7 +76,8 @@ fn ask(client: &mut ClientChannel, opens: bool) -> Result<(), AskFault>
     ensures asks { (requests : List Named) (asks : List Placed) (octets : List ℕ)
         → GoesOnAfter requests client.old asks octets
         → MatchResult result
-        (λ _. GoesOnAfter requests client.new (asks ++ (length octets, asking opens (next_id (asked_in asks))) ∷ []) octets)
+        (λ _. GoesOnAfter requests client.new (asks ++ (length octets, asking opens (next_id (asked_in asks))) ∷ [])
+        octets)
         (λ _. GoesOnAfter requests client.new asks octets) }
     ensures judged { (requests : List Named) (asks : List Placed) (octets : List ℕ)
         → GoesOnAfter requests client.old asks octets
@@ -227,7 +228,8 @@ fn send(client: &mut ClientChannel, request: &Named, at: usize) -> Result<(), As
         (λ _. GoesOnAfter requests client.new asks octets) }
     ensures judged { (requests : List Named) (asks : List Placed) (octets : List ℕ)
         → GoesOnAfter requests client.old asks octets → request.now.place ≡ at
-        → (why : Option AskFault) × (IsReasonAgainstAsking (client_limits client.old) asks requests request.now.opens octets why
+        → (why : Option AskFault)
+        × (IsReasonAgainstAsking (client_limits client.old) asks requests request.now.opens octets why
         × AnswersFor why result) }
     ensures placed { IfOk result (λ _. request.now.place ≡ at) }
     ensures placeless { (request.now.place ≡ at → ⊥) → result ≡ Err NotOpen }

@@ -146,7 +146,8 @@ module _ (b : Beginning) (limits : Limits) (url : Option (List ℕ)) (moment : D
   abbrev l : Limits
   l = client_limits (channel_of_connection o.last)
 
-  at : OpensAfter (hello_octets (client_limits (channel_of_connection o.begun)) (url_of (channel_of_connection o.begun))) (open_frame_octets moment) (channel_of_connection o.last) o.opens.sent
+  at : OpensAfter (hello_octets (client_limits (channel_of_connection o.begun)) (url_of (channel_of_connection o.begun))) (open_frame_octets moment)
+      (channel_of_connection o.last) o.opens.sent
       o.opens.moves.taken (Ok client)
   at = o.opens.answers o.fresh.goes
 
@@ -193,12 +194,14 @@ module _ (b : Beginning) (limits : Limits) (url : Option (List ℕ)) (moment : D
   said_is = opening_said b l url moment can.hello_fits short can.dated
 
   octets_are : settled_there.0.octets ≡ server_output b (opening_octets l url moment)
-  octets_are = opening_taken b url (channel_of_connection o.last) settled_there.0.octets moment opens_there can (subst (Extends settled_there.0.octets) said_is front_is)
+  octets_are = opening_taken b url (channel_of_connection o.last) settled_there.0.octets moment opens_there can
+      (subst (Extends settled_there.0.octets) said_is front_is)
       ∙ sym said_is
 
   serves : AreServing b url (opening_octets l url moment) (opening_told b.limits l url) (with_token (greeted_at (hello_to l url)))
       (channel_of_connection o.last) settled_there.0 (opened_at (ack_to (hello_to l url) b.limits) b.channel 1 (next_number 1))
-  serves = begin_together b url moment (channel_of_connection o.last) settled_there.0 can.hello_fits short can.dated can.ack_fits can.on can.answered settled_there.3
+  serves = begin_together b url moment (channel_of_connection o.last) settled_there.0 can.hello_fits short can.dated can.ack_fits can.on can.answered
+      settled_there.3
       settled_there.2 octets_are (o.opens.keeps.next ∙ o.fresh.next_is)
 
   first_id : id_at settled_there.0 ≡ 2

@@ -178,7 +178,8 @@ module _ (t : SoFar) (x : Client) (before : Option Traffic) (k : IsTalking t x b
     asks_fails never_before (Ok found) c = tt
     asks_fails never_before (Err f) c =
         subst (λ (s : State). FailsBehind (HaveMisanswer s t.server.moment requests) f) k.talks.state_is
-        (calls_fail t.server t.limits t.url t.octets (told_so_far t) (newest_in t) (id_in t) (tokens_held 1 t.turns) k.site (connection_of x) before k.talks.talking
+        (calls_fail t.server t.limits t.url t.octets (told_so_far t) (newest_in t) (id_in t) (tokens_held 1 t.turns) k.site
+        (connection_of x) before k.talks.talking
         (connection_of y) after c.sent c.moves c.same law never_before
         requests f (c.answers k.site stands_there) A c.stops)
 
@@ -194,7 +195,8 @@ module _ (t : SoFar) (x : Client) (before : Option Traffic) (k : IsTalking t x b
     asks_stop never_before (Err f) c = (
       c.sent,
       sent_over c.moves.got c.sent c.sent before after refl c.moves.carried,
-      calls_stop t.server t.limits t.url t.octets (told_so_far t) (newest_in t) (id_in t) (tokens_held 1 t.turns) k.site (connection_of x) before k.talks.talking
+      calls_stop t.server t.limits t.url t.octets (told_so_far t) (newest_in t) (id_in t) (tokens_held 1 t.turns) k.site
+          (connection_of x) before k.talks.talking
           (connection_of y) after c.sent c.moves c.same law never_before
           requests f (c.answers k.site stands_there) A c.stops,
     )
@@ -252,7 +254,8 @@ module _ (t : SoFar) (x : Client) (before : Option Traffic) (k : IsTalking t x b
     renews_stop dated (Err f) c = (
       c.sent,
       sent_over c.moves.got c.sent c.sent before after refl c.moves.carried,
-      renewal_stops t.server t.limits t.url t.octets (told_so_far t) (newest_in t) (id_in t) (tokens_held 1 t.turns) k.site (connection_of x) before k.talks.talking
+      renewal_stops t.server t.limits t.url t.octets (told_so_far t) (newest_in t) (id_in t) (tokens_held 1 t.turns) k.site
+          (connection_of x) before k.talks.talking
           (connection_of y) after c.sent c.moves c.same moment dated k.talks.dated
           (Unit {0}) f (c.answers k.site stands_there) (c.judged k.site stands_there) c.stops,
     )

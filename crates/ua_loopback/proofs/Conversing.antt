@@ -26,7 +26,8 @@ use Rattle.ua_loopback.specs.Accepted.{AreAcceptedUnder, IsAcceptedUnder, acknow
 use Rattle.ua_loopback.specs.Course.{opening_octets}
 use Rattle.ua_loopback.specs.Sends.{closing_behind, conversation_octets, turn_number, turn_octets, turns_number, turns_octets}
 use Rattle.ua_loopback.specs.Together.{behind_calls}
-use Rattle.ua_loopback.specs.Turns.{calls_told, conversation_told, id_behind_turn, ids_behind, opening_told, token_behind_turn, tokens_behind, turn_told, turns_told}
+use Rattle.ua_loopback.specs.Turns.{calls_told, conversation_told, id_behind_turn, ids_behind}
+use Rattle.ua_loopback.specs.Turns.{opening_told, token_behind_turn, tokens_behind, turn_told, turns_told}
 use Rattle.ua_loopback.proofs.Answering.{hello_stays, issued_stays}
 use Rattle.ua_loopback.proofs.Pushes.{ids_push}
 use Rattle.ua_loopback.proofs.Reaching.{AreAsked, calls_counted, calls_read, none_parts, not_refused, opening_read}
@@ -158,7 +159,8 @@ module _ (server client : Limits) (url : Option (List ℕ)) (channel : ℕ) (mom
       let k : ℕ = token_behind_turn token t in
       let n : ℕ = turn_number (lane_under token) number t in
       let i : ℕ = id_behind_turn id t in
-      let judged : first_reason (turn_reasons_under a (tokens_held 1 before) id t) ≡ None = ap (λ (m : ℕ). first_reason (turn_reasons_under a (tokens_held 1 before) m t))
+      let judged : first_reason (turn_reasons_under a (tokens_held 1 before) id t) ≡ None =
+      ap (λ (m : ℕ). first_reason (turn_reasons_under a (tokens_held 1 before) m t))
       (sym same) ∙ accepted.0 in
       subst (λ (o : List ℕ). AreRead o (told ++ turns_told token id (t ∷ ts)) (tokens_behind k ts) (turns_number a channel k n ts) (ids_behind i ts))
       (append_assoc octets one (turns_octets a channel moment k n i ts))
@@ -168,7 +170,8 @@ module _ (server client : Limits) (url : Option (List ℕ)) (channel : ℕ) (mom
       (turn_read octets told token number id r (tokens_held 1 before) t judged) accepted.1))
 
   -- from the HEL to the CLO
-  pub conversation_read : IsTrue (hello.encodable (hello_to client url)) → url_length url ≤ 4095 → (turns : List (Option (List Request))) → AreAcceptedUnder a turns
+  pub conversation_read : IsTrue (hello.encodable (hello_to client url)) → url_length url ≤ 4095 → (turns : List (Option (List Request)))
+      → AreAcceptedUnder a turns
       → ServerCloses server channel (conversation_octets server client url channel moment turns) (conversation_told server client url turns)
   unfolding AllAfter
   conversation_read fits short turns accepted =

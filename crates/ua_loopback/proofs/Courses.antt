@@ -37,7 +37,8 @@ use Rattle.ua_loopback.specs.Replies.{lane_back_by_token, turn_replies, replies_
 use Rattle.ua_loopback.specs.Sends.{closing_behind, turns_octets}
 use Rattle.ua_loopback.specs.Says.{end_by, services_after, server_output}
 use Rattle.ua_loopback.specs.Talking.{IsLineTo, IsTalking, SoFar, StopsOver, TalksAt, acked_in, closed_octets, octets_of_turn, state_in, newest_in, with_turn}
-use Rattle.ua_loopback.specs.inside.Talking.{CanOpenTo, HasMisanswer, HaveMisanswers, StaysAfterTurns, StaysBefore, StaysBehindTurn, StaysTalking, Talked, HasOpenedTo, WentBefore}
+use Rattle.ua_loopback.specs.inside.Talking.{CanOpenTo, HasMisanswer, HaveMisanswers, StaysAfterTurns, StaysBefore}
+use Rattle.ua_loopback.specs.inside.Talking.{StaysBehindTurn, StaysTalking, Talked, HasOpenedTo, WentBefore}
 use Rattle.ua_loopback.specs.Turns.{conversation_told}
 use Rattle.ua_loopback.proofs.Begun.{SettlesOpened, went_first}
 use Rattle.ua_loopback.proofs.Faults.{fails_by, misanswers_in, sent_both, sent_over}
@@ -120,7 +121,8 @@ module _ (b : Beginning) (limits : Limits) (url : Option (List ℕ)) (moment : D
       ap (λ (rs : List Reply). map (λ (r : Reply). Some r) rs) have_is
       ∙ (some-append had added
       ∙ (ap (λ (os : List (Option Reply)). os ++ map (λ (r : Reply). Some r) added) s.replied
-      ∙ (ap (λ (os : List (Option Reply)). replies_to_turns b limits url b.first 1 turns ++ os) replied ∙ sym (replies_push b limits url b.first 1 turns turn))))
+      ∙ (ap (λ (os : List (Option Reply)). replies_to_turns b limits url b.first 1 turns ++ os) replied
+      ∙ sym (replies_push b limits url b.first 1 turns turn))))
 
   -- where both ends are behind it
   talks_on : (turn : Option (List Request)) (u : ClientPlace) (sent : List ℕ) → sent ≡ octets_of_turn talk moment turn
@@ -142,7 +144,8 @@ module _ (b : Beginning) (limits : Limits) (url : Option (List ℕ)) (moment : D
       → StaysTalking b limits url moment opened (turns ++ Some requests ∷ []) y first after have
   asked_on law requests done c =
       let a = c.answers was.site was.at in
-      let sent_is : c.sent ≡ octets_of_turn talk moment (Some requests) = calls_sent talk was.site x now s.talks y after c.sent c.moves c.same law moment requests
+      let sent_is : c.sent ≡ octets_of_turn talk moment (Some requests) = calls_sent talk was.site x now s.talks y after c.sent c.moves c.same law moment
+      requests
       c.added a in
       record {
         stays = record {
@@ -206,7 +209,8 @@ module _ (b : Beginning) (limits : Limits) (url : Option (List ℕ)) (moment : D
   pub asked_not : NonePending → (t : Option (List Request)) (requests : List Request) (f : CallsFault) → t ≡ Some requests
       → CallsInto {A = Unit {0}} requests x y now after (Err f) had have → IsTurnFault f.fault → turn_refusal_under (acked_in talk) turns t ≡ Some f.fault
   asked_not law t requests f is c reason =
-      ap (turn_refusal_under (acked_in talk) turns) is ∙ calls_refused talk was.site x now s.talks y after c.sent c.moves c.same law moment requests f.fault reason
+      ap (turn_refusal_under (acked_in talk) turns) is ∙ calls_refused talk was.site x now s.talks y after c.sent c.moves c.same law moment requests f.fault
+      reason
       (c.answers was.site was.at).broken
 
   pub renewed_not : (t : Option (List Request)) (f : ClientFault) → t ≡ None → Renews {A = Unit {0}} moment x y now after (Err f) → IsTurnFault f
@@ -258,7 +262,8 @@ module _ (b : Beginning) (limits : Limits) (url : Option (List ℕ)) (moment : D
   pub stays_before : NonePending → (t : Option (List Request)) (requests : List Request) (f : CallsFault) → t ≡ Some requests
       → CallsInto {A = Unit {0}} requests x y now after (Err f) had have → IsTurnFault f.fault
       → StaysBehindTurn b limits url moment opened turns t y first after have
-  stays_before law t requests f is c reason = subst (λ (o : Option (List Request)). StaysBehindTurn b limits url moment opened turns o y first after have) (sym is)
+  stays_before law t requests f is c reason = subst (λ (o : Option (List Request)). StaysBehindTurn b limits url moment opened turns o y first after have)
+      (sym is)
       (asked_before law requests f c reason)
 
   pub renewed_before : (t : Option (List Request)) (f : ClientFault) → t ≡ None → Renews {A = Unit {0}} moment x y now after (Err f)
@@ -537,7 +542,8 @@ opens_by limits url moment before after f is (inr o) = by _ _ _ _ _ f is (o.open
     by _ _ _ _ _ fault.OutOfMemory reason k = reason
     by _ _ _ _ _ fault.Closed reason k = reason
 
-pub closes_by : (s : ClientPlace) (moment : DateTime) (sent : List ℕ) (f : ClientFault) → IsTurnFault f → ClosesChannelAt {A = Unit {0}} s moment sent (Err f) → ⊥
+pub closes_by : (s : ClientPlace) (moment : DateTime) (sent : List ℕ) (f : ClientFault) → IsTurnFault f → ClosesChannelAt {A = Unit {0}} s moment sent (Err f)
+    → ⊥
 closes_by s moment sent fault.NotWritable is k = k
 closes_by s moment sent fault.Exhausted is k = k
 closes_by s moment sent fault.TooLarge is k = k

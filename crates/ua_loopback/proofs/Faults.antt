@@ -324,14 +324,16 @@ module _ (b : Beginning) (limits : Limits) (url : Option (List ℕ)) (octets : L
         → ClientReads (client_limits (channel_of_connection y)) (asks_renewed site) (server_output b (octets ++ sent)) renewed now
     reads_renewal judged sent_is =
         subst (λ (l : Limits). ClientReads l (asks_renewed site) (server_output b (octets ++ sent)) renewed now) (t.served.limits_are ∙ sym limits_then)
-        (subst (λ (o : List ℕ). ClientReads (client_limits (channel_of_connection x)) (asks_renewed site) (server_output b (octets ++ o)) renewed now) (sym sent_is)
+        (subst (λ (o : List ℕ). ClientReads (client_limits (channel_of_connection x)) (asks_renewed site) (server_output b (octets ++ o)) renewed now)
+        (sym sent_is)
         (renewal_heard b url octets told s (channel_of_connection x) site c moment t.served.on t.served.serving judged dated t.served.settled answered))
 
     renewing_fails_not : renewal_refusal site ≡ None → sent ≡ renewal_at site moment → (heard : List Heard) (why : Why)
         → ClientEnded (channel_of_connection y) (asks_renewed site) (site.octets ++ moves.taken) heard why → ⊥
     renewing_fails_not judged sent_is heard why ended =
         client_not_failed (channel_of_connection y) (asks_renewed site) (site.octets ++ moves.taken) front_then.more heard renewed now why ended
-        (subst (λ (o : List ℕ). ClientReads (client_limits (channel_of_connection y)) (asks_renewed site) o renewed now) front_then.parts (reads_renewal judged sent_is))
+        (subst (λ (o : List ℕ). ClientReads (client_limits (channel_of_connection y)) (asks_renewed site) o renewed now) front_then.parts
+        (reads_renewal judged sent_is))
 
     never_true : true ≡ false → ⊥
     never_true e = cc
@@ -579,7 +581,8 @@ open_stops b limits url moment first after f (inr o) able short line = (
 
 -- ---- the close
 
-pub close_fails : (A : Type 0) (s : ClientPlace) (moment : DateTime) (sent : List ℕ) (f : ClientFault) → ClosesChannelAt {A = A} s moment sent (Err f) → IsOutside f
+pub close_fails : (A : Type 0) (s : ClientPlace) (moment : DateTime) (sent : List ℕ) (f : ClientFault) → ClosesChannelAt {A = A} s moment sent (Err f)
+    → IsOutside f
 close_fails A s moment out fault.Write h = tt
 close_fails A s moment out fault.OutOfMemory h = tt
 close_fails A s moment out fault.Read h = tt

@@ -28,7 +28,8 @@ use Rattle.ua_loopback.specs.Beginning.{Beginning}
 use Rattle.ua_loopback.specs.Replies.{lane_back_by_token, requests_replies, turn_state}
 use Rattle.ua_loopback.specs.Says.{services_after, server_output, answer_times, state_told}
 use Rattle.ua_loopback.specs.Sends.{closing_behind, turn_number, turn_octets}
-use Rattle.ua_loopback.specs.Talking.{AreTalking, Reads, SoFar, TalksAt, acked_in, closed_octets, id_in, octets_of_turn, state_in, newest_in, told_so_far, with_turn}
+use Rattle.ua_loopback.specs.Talking.{AreTalking, Reads, SoFar, TalksAt, acked_in, closed_octets, id_in}
+use Rattle.ua_loopback.specs.Talking.{octets_of_turn, state_in, newest_in, told_so_far, with_turn}
 use Rattle.ua_loopback.specs.Turns.{id_behind_turn, opening_told, token_behind_turn, turn_told, turns_told}
 use Rattle.ua_loopback.proofs.Pushes.{held_push, ids_push, number_push, state_push, told_push, tokens_push}
 use Rattle.ua_loopback.proofs.Reaching.{closing_read}
@@ -83,7 +84,8 @@ module _ (t : SoFar) (site : ClientPlace) (x : Connection) (before : Option Traf
   abbrev lane : Lane
   lane = call_lane (acked_in t) b.channel (newest_in t)
 
-  more_sent : (moment : DateTime) (turn : Option (List Request)) → sent ≡ turn_octets lane site.number (id_in t) moment turn → sent ≡ octets_of_turn t moment turn
+  more_sent : (moment : DateTime) (turn : Option (List Request)) → sent ≡ turn_octets lane site.number (id_in t) moment turn
+      → sent ≡ octets_of_turn t moment turn
   more_sent moment turn is = is ∙ ap (λ (n : ℕ). turn_octets lane n (id_in t) moment turn) s.number_is
 
   more_talking : SameClient (channel_of_connection x) (channel_of_connection y) → (moment : DateTime) (turn : Option (List Request)) (u : ClientPlace)
@@ -120,19 +122,23 @@ module _ (t : SoFar) (site : ClientPlace) (x : Connection) (before : Option Traf
       pub asked_more : TalksAt (with_turn t moment (Some requests)) u y after
       asked_more =
           more_talking same moment (Some requests) u asked_sent
-          (talks_asked b t.limits t.url t.octets (told_so_far t) (newest_in t) (id_in t) held site x before s.talking y after sent moves same requests replies u at
+          (talks_asked b t.limits t.url t.octets (told_so_far t) (newest_in t) (id_in t) held site x before s.talking y after sent moves same requests replies u
+          at
           octets_are there) there.number_is there.judged
-          (asked_state b t.limits t.url t.octets (told_so_far t) (newest_in t) (id_in t) held site x before s.talking y after sent moves same requests replies u at
+          (asked_state b t.limits t.url t.octets (told_so_far t) (newest_in t) (id_in t) held site x before s.talking y after sent moves same requests replies u
+          at
           octets_are there)
 
       asked_replies : map (λ (r : Reply). Some r) replies ≡ requests_replies (lane_back_by_token b t.limits t.url (newest_in t)) (state_in t) b.moment requests
-      asked_replies = there.replies_are ∙ ap (λ (st : State). requests_replies (lane_back_by_token b t.limits t.url (newest_in t)) st b.moment requests) s.state_is
+      asked_replies = there.replies_are ∙ ap (λ (st : State). requests_replies (lane_back_by_token b t.limits t.url (newest_in t)) st b.moment requests)
+          s.state_is
 
     -- all of them
     module _ (law : NonePending) (moment : DateTime) (requests : List Request) (replies : List Reply)
         (q : AnsweredAll requests site (channel_of_connection y) sent moves.taken replies) where
       there : Behind b t.limits t.url t.octets (told_so_far t) (newest_in t) (id_in t) held site.number sent replies requests q.behind
-      there = answered_behind b t.limits t.url t.octets (told_so_far t) (newest_in t) (id_in t) held site x before s.talking y after sent moves same law requests
+      there = answered_behind b t.limits t.url t.octets (told_so_far t) (newest_in t) (id_in t) held site x before s.talking y after sent moves same law
+          requests
           replies q
 
       pub calls_sent : sent ≡ octets_of_turn t moment (Some requests)
@@ -141,7 +147,8 @@ module _ (t : SoFar) (site : ClientPlace) (x : Connection) (before : Option Traf
       pub calls_talk : TalksAt (with_turn t moment (Some requests)) q.behind y after
       calls_talk = asked_more moment requests replies q.behind q.at (rounds_octets q.rounds) there
 
-      pub calls_replied : map (λ (r : Reply). Some r) replies ≡ requests_replies (lane_back_by_token b t.limits t.url (newest_in t)) (state_in t) b.moment requests
+      pub calls_replied : map (λ (r : Reply). Some r) replies ≡ requests_replies (lane_back_by_token b t.limits t.url (newest_in t))
+          (state_in t) b.moment requests
       calls_replied = asked_replies moment requests replies q.behind q.at (rounds_octets q.rounds) there
 
     -- or the first of them, up to one that is refused
@@ -152,11 +159,13 @@ module _ (t : SoFar) (site : ClientPlace) (x : Connection) (before : Option Traf
           requests f is q
 
       first_there : Behind b t.limits t.url t.octets (told_so_far t) (newest_in t) (id_in t) held site.number sent q.replies (all_of q.groups) q.behind
-      first_there = first_behind b t.limits t.url t.octets (told_so_far t) (newest_in t) (id_in t) held site x before s.talking y after sent moves same law requests
+      first_there = first_behind b t.limits t.url t.octets (told_so_far t) (newest_in t) (id_in t) held site x before s.talking y after sent moves same law
+          requests
           f is q
 
       pub first_at : StandsAt (channel_of_connection y) q.behind
-      first_at = refused_at b t.limits t.url t.octets (told_so_far t) (newest_in t) (id_in t) held site x before s.talking y after sent moves same law requests f is
+      first_at = refused_at b t.limits t.url t.octets (told_so_far t) (newest_in t) (id_in t) held site x before s.talking y after sent moves same law requests
+          f is
           q
 
       pub first_octets : q.behind.octets ≡ site.octets ++ moves.taken
@@ -179,7 +188,8 @@ module _ (t : SoFar) (site : ClientPlace) (x : Connection) (before : Option Traf
   module _ (dated : IsTrue (date_time.encodable moment)) (done : Unit {0}) (c : Renews {A = Unit {0}} moment x y before after (Ok done))
       (at : StandsAt (channel_of_connection x) site) where
     judged : turn_refusal_under (acked_in t) t.turns None ≡ None
-    judged = renewed_judged t.server t.limits t.url t.octets (told_so_far t) (newest_in t) (id_in t) (tokens_held 1 t.turns) site x before s.talking y after c.sent
+    judged = renewed_judged t.server t.limits t.url t.octets (told_so_far t) (newest_in t) (id_in t) (tokens_held 1 t.turns) site x before s.talking y after
+        c.sent
         c.moves c.same moment (sym (c.judged site at))
 
     pub renewing_sent : c.sent ≡ octets_of_turn t moment None
@@ -216,7 +226,8 @@ module _ (b : Beginning) (octets more : List ℕ) (told : List Told) (q : Server
 module _ (t : SoFar) (site : ClientPlace) (x : Connection) (now : Option Traffic) (s : TalksAt t site x now) (moment : DateTime) where
   pub closing_is : closing_at site moment ≡ closing_behind (acked_in t) t.server.channel moment t.turns
   closing_is =
-      closing_there t.server t.limits t.url t.octets (told_so_far t) (newest_in t) (id_in t) (tokens_held 1 t.turns) site (channel_of_connection x) s.talking.served moment
+      closing_there t.server t.limits t.url t.octets (told_so_far t) (newest_in t) (id_in t) (tokens_held 1 t.turns) site (channel_of_connection x)
+      s.talking.served moment
       ∙ ap (λ (n : ℕ). closing_by (Some (call_lane (acked_in t) t.server.channel (newest_in t))) n (id_in t) moment) s.number_is
 
   pub closes_read : ServerCloses t.server.limits t.server.channel (closed_octets t moment) (told_so_far t ++ Closed ∷ [])
@@ -224,7 +235,8 @@ module _ (t : SoFar) (site : ClientPlace) (x : Connection) (now : Option Traffic
       let r = s.talking.served in
       let used : id_at site < 4294967296 = omega (arith, r.id_is, r.few) in
       subst (λ (o : List ℕ). ServerCloses t.server.limits t.server.channel (t.octets ++ o) (told_so_far t ++ Closed ∷ [])) closing_is
-      (closing_read t.server.limits t.url t.server.channel t.octets (told_so_far t) r.at_server (channel_of_connection x) site r.at_client r.on r.serving.together moment used)
+      (closing_read t.server.limits t.url t.server.channel t.octets (told_so_far t) r.at_server (channel_of_connection x) site r.at_client r.on
+      r.serving.together moment used)
 
   pub closes_silent : server_output t.server (closed_octets t moment) ≡ server_output t.server t.octets
   closes_silent =

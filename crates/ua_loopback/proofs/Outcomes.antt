@@ -71,7 +71,8 @@ pub record Ran : Type 0 where
   -- what the client says
   pub talked : OnOk outcome
       (SaysOver begun limits url moment old (λ b. Talked b limits url moment turns (Some (traffic_of begun old)) (Some (traffic_of begun new)) replies))
-  pub refused : IfErr outcome (λ f. IsTurnFault f → SaysOver begun limits url moment old (λ b. FirstRefusedUnder (acknowledged b.limits limits url) turns taken f))
+  pub refused : IfErr outcome (λ f. IsTurnFault f
+      → SaysOver begun limits url moment old (λ b. FirstRefusedUnder (acknowledged b.limits limits url) turns taken f))
   pub before : IfErr outcome (λ f. IsTurnFault f
       → SaysOver begun limits url moment old (λ b.
       WentBefore b limits url moment turns taken (Some (traffic_of begun old)) (Some (traffic_of begun new)) replies))
@@ -137,7 +138,8 @@ module _ (q : Ran) where
 
   pub told_services : LeavesAtStage q.far q.begun q.up q.left
   told_services =
-      subst (λ (u : List ℕ). LeavesAtStage q.far q.begun u q.left) (sym q.up_is) (subst (λ (s : Stage). LeavesAtStage s q.begun q.new.up q.left) (sym q.far_is) q.leaves)
+      subst (λ (u : List ℕ). LeavesAtStage q.far q.begun u q.left) (sym q.up_is)
+      (subst (λ (s : Stage). LeavesAtStage s q.begun q.new.up q.left) (sym q.far_is) q.leaves)
 
   -- ---- where it did all
 

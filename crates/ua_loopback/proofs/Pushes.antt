@@ -30,7 +30,8 @@ pub tokens_push : (token : ℕ) (turns : List (Option (List Request))) (t : Opti
 tokens_push token [] t = refl
 tokens_push token (u ∷ us) t = tokens_push (token_behind_turn token u) us t
 
-pub ids_push : (id : ℕ) (turns : List (Option (List Request))) (t : Option (List Request)) → ids_behind id (turns ++ t ∷ []) ≡ id_behind_turn (ids_behind id turns) t
+pub ids_push : (id : ℕ) (turns : List (Option (List Request))) (t : Option (List Request))
+    → ids_behind id (turns ++ t ∷ []) ≡ id_behind_turn (ids_behind id turns) t
 ids_push id [] t = refl
 ids_push id (u ∷ us) t = ids_push (id_behind_turn id u) us t
 

@@ -51,7 +51,8 @@ module _ (t : SoFar) (x : Client) (before : Option Traffic) (k : IsTalking t x b
   there = c.answers k.site k.talks.talking.served.serving.together.stands
 
   -- and behind ActivateSession
-  activated : Replies (activating_at policy_id there.token moment there.between) there.between (channel_of_connection (connection_of y)) there.sent_then there.taken_then
+  activated : Replies (activating_at policy_id there.token moment there.between) there.between (channel_of_connection (connection_of y)) there.sent_then
+      there.taken_then
       (λ (reply : Reply). (reply_failure reply ≡ None) × brings_any tt reply)
   activated = there.further.1
 
@@ -92,7 +93,8 @@ module _ (t : SoFar) (x : Client) (before : Option Traffic) (k : IsTalking t x b
   behind_there : Behind t.server t.limits t.url t.octets (told_so_far t) (newest_in t) (id_in t) (tokens_held 1 t.turns) k.site.number c.sent
       (there.reply ∷ (activated.reply ∷ [])) (first ∷ (second ∷ [])) activated.behind
   behind_there =
-      asked_behind t.server t.limits t.url t.octets (told_so_far t) (newest_in t) (id_in t) (tokens_held 1 t.turns) k.site (connection_of x) before k.talks.talking
+      asked_behind t.server t.limits t.url t.octets (told_so_far t) (newest_in t) (id_in t) (tokens_held 1 t.turns) k.site
+      (connection_of x) before k.talks.talking
       (connection_of y) after c.sent c.moves c.same law activated.behind rounds
       (omega arith, (omega arith, tt)) sent_is there.taken_parts
 
@@ -120,7 +122,8 @@ module _ (t : SoFar) (x : Client) (before : Option Traffic) (k : IsTalking t x b
 -- a service whose request is called by itself failed, or the call did
 served_or_broken : (A : Type 0) (request : Request) (brings : A → Reply → Type 0) (s : ClientPlace) (new : Connection) (sent taken : List ℕ) (f : ClientFault)
     → ServesAt {A = A} request brings s new sent taken (Err f)
-    → ((code : StatusCode) × (f ≡ fault.Service code) × Replies request s (channel_of_connection new) sent taken (λ (reply : Reply). reply_failure reply ≡ Some code))
+    → ((code : StatusCode) × (f ≡ fault.Service code) × Replies request s (channel_of_connection new) sent taken
+    (λ (reply : Reply). reply_failure reply ≡ Some code))
     ⊎ BreaksAt (request ∷ []) s new sent taken f
 served_or_broken A request brings s new sent taken (fault.Service code) h = inl (code, refl, h)
 served_or_broken A request brings s new sent taken fault.Read h = inr h
@@ -180,7 +183,8 @@ module _ (t : SoFar) (x : Client) (before : Option Traffic) (k : IsTalking t x b
   -- or by the replies to them
   refused_so : (code : StatusCode) → f ≡ fault.Service code → (requests : List Request) → AreSession t policy_id moment requests
       → (first : List Reply) (last : Reply) → reply_failure last ≡ Some code
-      → map (λ (r : Reply). Some r) (first ++ last ∷ []) ≡ requests_replies (lane_back_by_token t.server t.limits t.url (newest_in t)) (state_told t.server (told_so_far t))
+      → map (λ (r : Reply). Some r) (first ++ last ∷ []) ≡ requests_replies (lane_back_by_token t.server t.limits t.url (newest_in t))
+      (state_told t.server (told_so_far t))
       t.server.moment requests → FailsSession t policy_id moment f
   refused_so code is requests are first last failed replied =
       subst (FailsSession t policy_id moment) (sym is) (record {
@@ -188,7 +192,8 @@ module _ (t : SoFar) (x : Client) (before : Option Traffic) (k : IsTalking t x b
         are = are;
         before = first;
         last = last;
-        replied = replied ∙ ap (λ (s : State). requests_replies (lane_back_by_token t.server t.limits t.url (newest_in t)) s t.server.moment requests) k.talks.state_is;
+        replied = replied ∙ ap (λ (s : State). requests_replies (lane_back_by_token t.server t.limits t.url (newest_in t)) s t.server.moment requests)
+            k.talks.state_is;
         failed = failed;
       })
 
@@ -209,13 +214,15 @@ module _ (t : SoFar) (x : Client) (before : Option Traffic) (k : IsTalking t x b
           let one : Rounds (channel_of_connection z) k.site ((creating ∷ []) ∷ []) r.behind (sent_at k.site (creating ∷ [])) c.moves.taken (r.reply ∷ []) =
           OneRound (creating ∷ []) (channel_of_connection z) NoRound (record { same = record { limits = refl; url = refl }; at = r.at; came = r.replied.came })
           r.replied.answered in
-          let there = asked_behind t.server t.limits t.url t.octets (told_so_far t) (newest_in t) (id_in t) held k.site (connection_of x) before k.talks.talking z
+          let there = asked_behind t.server t.limits t.url t.octets (told_so_far t) (newest_in t) (id_in t) held k.site (connection_of x) before k.talks.talking
+          z
           after c.sent c.moves c.same law r.behind one
           (omega arith, tt) r.replied.sent_is refl in
           refused_so code is (creating ∷ []) (inl is_creating) [] r.reply r.says there.replies_are
       by (inr breaks) =
           fails_so (creating ∷ []) (inl is_creating)
-          (group_fails t.server t.limits t.url t.octets (told_so_far t) (newest_in t) (id_in t) held k.site (connection_of x) before k.talks.talking z after c.sent
+          (group_fails t.server t.limits t.url t.octets (told_so_far t) (newest_in t) (id_in t) held k.site (connection_of x) before k.talks.talking z after
+          c.sent
           c.moves c.same law never_before
           [] (creating ∷ []) k.site [] c.sent [] c.moves.taken [] NoRound (omega arith, tt) refl refl NodeId f breaks c.stops)
 
@@ -253,13 +260,15 @@ module _ (t : SoFar) (x : Client) (before : Option Traffic) (k : IsTalking t x b
         (sent_at k.site (creating ∷ []) ++ sent_at w.between (activating ∷ [])) (w.taken_before ++ w.taken_then) (w.reply ∷ (r.reply ∷ [])) =
         OneRound (activating ∷ []) (channel_of_connection z) one (record { same = record { limits = refl; url = refl }; at = r.at; came = r.replied.came })
         r.replied.answered in
-        let behind = asked_behind t.server t.limits t.url t.octets (told_so_far t) (newest_in t) (id_in t) held k.site (connection_of x) before k.talks.talking z
+        let behind = asked_behind t.server t.limits t.url t.octets (told_so_far t) (newest_in t) (id_in t) held k.site (connection_of x) before k.talks.talking
+        z
         after c.sent c.moves c.same law r.behind two
         (omega arith, (omega arith, tt)) (parts_sent ∙ ap (λ (o : List ℕ). sent_at k.site (creating ∷ []) ++ o) r.replied.sent_is) w.taken_parts in
         refused_so code is (creating ∷ (activating ∷ [])) (inr (w.token, session_is)) (w.reply ∷ []) r.reply r.says behind.replies_are
     second_by (inr breaks) =
         fails_so (creating ∷ (activating ∷ [])) (inr (w.token, session_is))
-        (group_fails t.server t.limits t.url t.octets (told_so_far t) (newest_in t) (id_in t) held k.site (connection_of x) before k.talks.talking z after c.sent
+        (group_fails t.server t.limits t.url t.octets (told_so_far t) (newest_in t) (id_in t) held k.site (connection_of x) before k.talks.talking z after
+        c.sent
         c.moves c.same law never_before
         ((creating ∷ []) ∷ []) (activating ∷ []) w.between (sent_at k.site (creating ∷ [])) w.sent_then w.taken_before w.taken_then (w.reply ∷ []) one
         (omega arith, (omega arith, tt)) parts_sent w.taken_parts NodeId f breaks c.stops)

@@ -160,10 +160,12 @@ module _ (b : Beginning) (limits : Limits) (url : Option (List ℕ)) (octets : L
       let said : Extends (server_output b (octets ++ sent_there)) (server_output b (octets ++ sent)) =
       subst (λ (o : List ℕ). Extends (server_output b (octets ++ o)) (server_output b (octets ++ sent))) sent_is (whole (server_output b (octets ++ sent))) in
       subst (λ (o : List ℕ). Behind b limits url octets told token id held site.number o replies (all_of groups) behind) (sym sent_is)
-      (rounds_served b limits url octets told token id held law (channel_of_connection x) t.served limits_then rounds some (server_output b (octets ++ sent)) front said)
+      (rounds_served b limits url octets told token id held law (channel_of_connection x) t.served limits_then rounds some (server_output b (octets ++ sent))
+      front said)
 
   -- where requests are answered
-  pub answered_behind : NonePending → (requests : List Request) (replies : List Reply) (q : AnsweredAll requests site (channel_of_connection y) sent moves.taken replies)
+  pub answered_behind : NonePending
+      → (requests : List Request) (replies : List Reply) (q : AnsweredAll requests site (channel_of_connection y) sent moves.taken replies)
       → Behind b limits url octets told token id held site.number sent replies requests q.behind
   answered_behind law requests replies q =
       subst (λ (ms : List Request). Behind b limits url octets told token id held site.number sent replies ms q.behind) (sym q.parts)
@@ -239,7 +241,8 @@ module _ (b : Beginning) (limits : Limits) (url : Option (List ℕ)) (octets : L
     -- what is sent of that
     pub renewal_sent : renewal_at site moment ≡ turn_octets (call_lane a b.channel token) site.number id moment None
     renewal_sent =
-        ap (λ (l : Option Lane). renewal_by l site.number (id_at site) moment) (lane_there b limits url octets told token id held site (channel_of_connection x) t.served)
+        ap (λ (l : Option Lane). renewal_by l site.number (id_at site) moment)
+        (lane_there b limits url octets told token id held site (channel_of_connection x) t.served)
         ∙ (ap (λ (n : ℕ). renewal_by (Some (call_lane a b.channel token)) site.number n moment) t.served.id_is
         ∙ sym (append-nil (renewal_by (Some (call_lane a b.channel token)) site.number id moment)))
 

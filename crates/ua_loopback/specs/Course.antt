@@ -25,7 +25,8 @@ pub data ClientCourse (moment : DateTime) (s : ClientPlace) : List (Option (List
   -- a renewal
   Renewed : {turns : List (Option (List Request))} {m u : ClientPlace} {sent taken : List ℕ} {replies : List Reply} (t : Option (List Request))
       (x : ClientChannel)
-      → ClientCourse moment s turns m sent replies → t ≡ None → IsRenewed x m u taken → ClientCourse moment s (turns ++ t ∷ []) u (sent ++ renewal_at m moment) replies
+      → ClientCourse moment s turns m sent replies → t ≡ None → IsRenewed x m u taken
+      → ClientCourse moment s (turns ++ t ∷ []) u (sent ++ renewal_at m moment) replies
 
 -- what a client sends to open its connection
 abbrev pub opening_octets : Limits → Option (List ℕ) → DateTime → List ℕ

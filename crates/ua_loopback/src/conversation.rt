@@ -10,7 +10,8 @@ ghost use Rattle.ua_channel_laws.specs.ServerReads.{ServerCloses};
 ghost use Rattle.ua_client.specs.Client.{IsReady, connection_of};
 ghost use Rattle.ua_client.specs.Hearing.{failures_behind, most_reads};
 ghost use Rattle.ua_client.specs.ClientPlace.{ClientPlace};
-ghost use Rattle.ua_loopback.specs.Accepted.{AreAcceptedUnder, FirstRefusedUnder, IsTurnFault, acknowledged, turn_refusal_under};
+ghost use Rattle.ua_loopback.specs.Accepted.{AreAcceptedUnder, FirstRefusedUnder};
+ghost use Rattle.ua_loopback.specs.Accepted.{IsTurnFault, acknowledged, turn_refusal_under};
 ghost use Rattle.ua_loopback.specs.Beginning.{Beginning};
 ghost use Rattle.ua_loopback.specs.Course.{Converses};
 ghost use Rattle.ua_server.specs.declared.step.End.TheVariants.{Closed};
@@ -23,8 +24,10 @@ ghost use Rattle.ua_loopback.specs.Turns.{conversation_told};
 ghost use Rattle.ua_loopback.specs.declared.stage.Stage.TheVariants.{Ended};
 ghost use Rattle.ua_services.specs.declared.request.Request.{Request};
 ghost use Rattle.ua_loopback.specs.Talking.{IsLineTo, StopsOver};
-ghost use Rattle.ua_loopback.specs.inside.Talking.{CanOpenTo, HasMisanswer, HaveMisanswers, StaysBefore, StaysBehindTurn};
-ghost use Rattle.ua_loopback.specs.inside.Talking.{StaysTalking, Talked, HasOpenedTo, WentBefore, fault_at_stage, outcome_at};
+ghost use Rattle.ua_loopback.specs.inside.Talking.{CanOpenTo, HasMisanswer, HaveMisanswers};
+ghost use Rattle.ua_loopback.specs.inside.Talking.{StaysBefore, StaysBehindTurn};
+ghost use Rattle.ua_loopback.specs.inside.Talking.{StaysTalking, Talked, HasOpenedTo};
+ghost use Rattle.ua_loopback.specs.inside.Talking.{WentBefore, fault_at_stage, outcome_at};
 
 use crate::operation::AsOperation;
 use crate::served_line::{Began, ServedLine};
@@ -68,7 +71,8 @@ fn begin<L: Line>(
 ) -> Result<Client, ClientFault>
     requires { IsTrue (text.encodable url) }
     ensures went { IfOk result (λ client. (b : Beginning) → CanOpenTo b limits url moment
-        → IsLineTo b [] [] (L.traffic line.old) → HasOpenedTo b limits url moment (connection_of client) (L.traffic line.old)
+        → IsLineTo b [] [] (L.traffic line.old)
+        → HasOpenedTo b limits url moment (connection_of client) (L.traffic line.old)
         (L.traffic line.new)) }
     ensures ready { IfOk result (λ client. IsReady client) }
     ensures faults { IfErr result (λ fault. IsTurnFault fault → ⊥) }
@@ -208,7 +212,8 @@ fn talk<T: AsOperation, L: Line>(
     requires url { IsTrue (text.encodable url) }
     requires none { replies.old.items ≡ [] }
     requires first { taken.old ≡ 0 }
-    ensures talked { OnOk result ((b : Beginning) → CanOpenTo b limits url moment → IsLineTo b [] [] (L.traffic line.old)
+    ensures talked { OnOk result ((b : Beginning) → CanOpenTo b limits url moment
+        → IsLineTo b [] [] (L.traffic line.old)
         → Talked b limits url moment (map T.turn turns.now) (L.traffic line.old) (L.traffic line.new)
         replies.new.items) }
     ensures taken { OnOk result (taken.new ≡ length turns.now) }
@@ -301,7 +306,8 @@ fn converse_with<T: AsOperation, W: Began>(
         (map T.turn turns.now)) }
     ensures replied { OnOk result.outcome
         (map Some result.replies.items
-        ≡ replies_to_turns (record { limits = limits; channel = channel_id; first = services; moment = moment }) limits url
+        ≡ replies_to_turns (record { limits = limits; channel = channel_id; first = services; moment = moment }) limits
+        url
         services 1 (map T.turn turns.now)) }
     ensures state { OnOk result.outcome (result.services ≡ turns_state services moment (map T.turn turns.now)) }
     ensures accepted { OnOk result.outcome (AreAcceptedUnder (acknowledged limits limits url) (map T.turn turns.now)) }
@@ -398,7 +404,8 @@ pub fn converse<T: AsOperation>(
         (map T.turn turns.now)) }
     ensures replied { OnOk result.outcome
         (map Some result.replies.items
-        ≡ replies_to_turns (record { limits = limits; channel = channel_id; first = services; moment = moment }) limits url
+        ≡ replies_to_turns (record { limits = limits; channel = channel_id; first = services; moment = moment }) limits
+        url
         services 1 (map T.turn turns.now)) }
     ensures state { OnOk result.outcome (result.services ≡ turns_state services moment (map T.turn turns.now)) }
 

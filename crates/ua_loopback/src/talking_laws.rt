@@ -39,7 +39,8 @@ ghost use Rattle.ua_loopback.specs.Says.{services_after, server_output};
 ghost use Rattle.ua_loopback.specs.Sends.{closing_behind};
 ghost use Rattle.ua_loopback.specs.Talking.{CanBegin, FailsSession, IsBehindFirst, IsLineTo, IsSentOver, IsTalking};
 ghost use Rattle.ua_loopback.specs.Talking.{Reads, SoFar, StopsOver, acked_in, closed_octets, id_in, newest_in};
-ghost use Rattle.ua_loopback.specs.Talking.{octets_of_turn, opening, session_requests, state_in, told_so_far, with_turn};
+ghost use Rattle.ua_loopback.specs.Talking.{octets_of_turn, opening, session_requests};
+ghost use Rattle.ua_loopback.specs.Talking.{state_in, told_so_far, with_turn};
 ghost use Rattle.ua_loopback.specs.Turns.{turn_told};
 
 use ua_builtin::DateTime;
@@ -102,13 +103,15 @@ pub fn calls_go_on<A>()
         (x y : Client) (before after : Option Traffic) (result : Result A ClientFault) → IsTalking t x before →
         CallsAll replies requests (connection_of x) (connection_of y) before after result →
         IfOk result (λ found. map Some (replies found) ≡
-        requests_replies (lane_back_by_token t.server t.limits t.url (newest_in t)) (state_in t) t.server.moment requests) }
+        requests_replies (lane_back_by_token t.server t.limits t.url (newest_in t)) (state_in t) t.server.moment
+        requests) }
     // A fault that is an error of a request is the first error among them, and the talk goes on
     // with the first of these requests, which were asked.
     ensures refused { (replies : A → List Reply) (t : SoFar) (requests : List Request)
         (x y : Client) (before after : Option Traffic) (result : Result A ClientFault) → IsTalking t x before →
         CallsAll replies requests (connection_of x) (connection_of y) before after result →
-        IfErr result (λ fault. IsTurnFault fault → turn_refusal_under (acked_in t) t.turns (Some requests) ≡ Some fault) }
+        IfErr result (λ fault. IsTurnFault fault → turn_refusal_under (acked_in t) t.turns (Some requests)
+        ≡ Some fault) }
     ensures before { (replies : A → List Reply) (t : SoFar) (requests : List Request) (moment : DateTime)
         (x y : Client) (before after : Option Traffic) (result : Result A ClientFault) → IsTalking t x before →
         CallsAll replies requests (connection_of x) (connection_of y) before after result → IsLeft result y →

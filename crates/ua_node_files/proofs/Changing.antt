@@ -96,7 +96,8 @@ none_new : (f : List ℕ → Bool) (lines : List (List ℕ)) → nodes_of_new f 
 none_new f [] = refl
 none_new f (line ∷ lines) = refl
 
-one_sound : (t : Bool) (node : NodeId × Variable) (rest : Nodes) → IsSoundNode node.0 node.1 → AreNodesSound rest → AreNodesSound (one_new t (Some node) ++ rest)
+one_sound : (t : Bool) (node : NodeId × Variable) (rest : Nodes) → IsSoundNode node.0 node.1 → AreNodesSound rest
+    → AreNodesSound (one_new t (Some node) ++ rest)
 one_sound true node rest s r = r
 one_sound false node rest s r = (s, r)
 

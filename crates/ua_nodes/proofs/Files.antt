@@ -37,7 +37,8 @@ one_line n text = record { number = n; text = text }
 pub numbered_append : (n : ℕ) (xs ys : List (List ℕ)) → numbered_lines n (xs ++ ys) ≡ numbered_lines n xs ++ numbered_lines (n + length xs) ys
 numbered_append n [] ys = ap (λ (k : ℕ). numbered_lines k ys) (omega arith)
 numbered_append n (x ∷ xs) ys =
-    ap (λ (t : List FileLine). one_line n x ∷ t) (numbered_append (suc n) xs ys ∙ ap (λ (k : ℕ). numbered_lines (suc n) xs ++ numbered_lines k ys) (omega arith))
+    ap (λ (t : List FileLine). one_line n x ∷ t) (numbered_append (suc n) xs ys
+    ∙ ap (λ (k : ℕ). numbered_lines (suc n) xs ++ numbered_lines k ys) (omega arith))
 
 pub read_append : (n : ℕ) (xs ys : List (List ℕ)) → read_from n (xs ++ ys) ≡ read_from n xs ++ read_from (n + length xs) ys
 read_append n xs ys = ap (filter (λ line. is_read line.text)) (numbered_append n xs ys)
@@ -149,7 +150,8 @@ turn_fault text n k x nodes fault e h w r =
     let at : RefusesNodeFile (read_from 1 (front ++ strip_carriage_return x ∷ drop (suc n) (lines_of text))) (load_fault (1 + length front) fault) =
     refuses_at front (strip_carriage_return x) (drop (suc n) (lines_of text)) nodes fault w r in
     subst (λ (m : ℕ). RefusesNodeFile (node_lines text) (load_fault m fault)) number
-    (subst (λ (t : List (List ℕ)). RefusesNodeFile (read_from 1 t) (load_fault (1 + length front) fault)) (sym (lines_at (pieces 10 text) n x here.0 here.1)) at)
+    (subst (λ (t : List (List ℕ)). RefusesNodeFile (read_from 1 t) (load_fault (1 + length front) fault)) (sym (lines_at (pieces 10 text) n x here.0 here.1))
+    at)
 
 pub turns_end : (text : List ℕ) (n k : ℕ) (nodes : Nodes) → n ≡ k → k ≡ length (pieces 10 text) → WriteNodes (read_from 1 (take n (lines_of text))) nodes
     → WriteNodes (node_lines text) nodes

@@ -43,7 +43,8 @@ wider n a b le h = lt-ltb n b (let less = ltb-true n a h in omega arith)
 
 pub signed_fits : (w : Width) (z : ℤ) → 2 ^ hbits w ≤ 256 ^ width_octets w → 2 ^ bits w ≤ 256 ^ width_octets w → 0 < 2 ^ bits w → in_range w z ≡ true
     → (signed w).encodable z ≡ true
-signed_fits w (pos n) half full some h = both_are (nat_lt n (2 ^ hbits w)) (nat_lt n (256 ^ width_octets w)) h (wider n (2 ^ hbits w) (256 ^ width_octets w) half h)
+signed_fits w (pos n) half full some h = both_are (nat_lt n (2 ^ hbits w)) (nat_lt n (256 ^ width_octets w)) h
+    (wider n (2 ^ hbits w) (256 ^ width_octets w) half h)
 signed_fits w (negsuc n) half full some h =
     both_are (nat_lt n (2 ^ hbits w)) (nat_lt (2 ^ bits w - suc n) (256 ^ width_octets w)) h (lt-ltb (2 ^ bits w - suc n) (256 ^ width_octets w) (omega arith))
 

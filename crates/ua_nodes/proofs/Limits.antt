@@ -8,7 +8,8 @@ use Rattle.ua_builtin.specs.declared.node_id.NodeId.{NodeId}
 use Rattle.ua_builtin.specs.declared.status_code.StatusCode.{StatusCode}
 use Rattle.ua_structures.specs.declared.attribute.WriteValue.{WriteValue}
 use Rattle.ua_nodes.specs.declared.node.Variable.{Variable}
-use Rattle.ua_nodes.specs.Limit.{answers_within, begins_refused, codes_behind_first, is_out_of_memory, items_left, items_within, nodes_memory, outgrows, room_after}
+use Rattle.ua_nodes.specs.Limit.{answers_within, begins_refused, codes_behind_first, is_out_of_memory}
+use Rattle.ua_nodes.specs.Limit.{items_left, items_within, nodes_memory, outgrows, room_after}
 use Rattle.ua_nodes.specs.Memory.{value_memory}
 use Rattle.ua_nodes.specs.Status.{bad_attribute_id_invalid, bad_not_writable, bad_out_of_memory, bad_type_mismatch, bad_write_not_supported}
 use Rattle.ua_nodes.specs.Table.{Nodes, node_at}
@@ -84,7 +85,8 @@ pub stored_on : (item : WriteValue) (rest : List WriteValue) (codes behind : Lis
     → refused ≡ begins_refused codes → behind ≡ codes_behind_first codes → is ≡ cond refused was (after_item item moment was)
     → after_write (items_left (item ∷ rest) codes) moment was ≡ after_write (items_left rest behind) moment is
 stored_on item rest codes behind moment was is refused tells left stands =
-    ap (λ (t : Bool). after_write (cond t (items_left rest (codes_behind_first codes)) (item ∷ items_left rest (codes_behind_first codes))) moment was) (sym tells)
+    ap (λ (t : Bool). after_write (cond t (items_left rest (codes_behind_first codes)) (item ∷ items_left rest (codes_behind_first codes))) moment was)
+    (sym tells)
     ∙ ap (λ (cs : List StatusCode). after_write (cond refused (items_left rest cs) (item ∷ items_left rest cs)) moment was) (sym left)
     ∙ by refused (items_left rest behind)
     ∙ ap (λ (n : Nodes). after_write (items_left rest behind) moment n) (sym stands)

@@ -43,7 +43,8 @@ pub pass_none : (before : Nodes) (line : List ℕ) → Passes 0 before line
 pass_none before line other less = absurd (omega arith)
 
 -- one reason more that does not hold
-pub pass : (r : LineReason) (before : Nodes) (line : List ℕ) → Passes (place r) before line → ¬ (HoldsAgainstLine r before line) → Passes (suc (place r)) before line
+pub pass : (r : LineReason) (before : Nodes) (line : List ℕ) → Passes (place r) before line → ¬ (HoldsAgainstLine r before line)
+    → Passes (suc (place r)) before line
 pass r before line p h other less held = absurd (p other (omega (arith, apart)) held)
   where
     apart : place other ≢ place r

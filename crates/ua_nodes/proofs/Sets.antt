@@ -73,7 +73,8 @@ value_sound : (id : NodeId) (nodes : Nodes) (v : Variable) (r : Reading) → nod
 value_sound id [] v r h s = tt
 value_sound id (node ∷ nodes) v r h s = by (same_id id node.0) h (λ e. value_sound id nodes v r e s.1)
   where
-    by : (t : Bool) → cond t (Some node.1) (node_at nodes id) ≡ Some v → (node_at nodes id ≡ Some v → AreNodesSound (set_value (same_id id) nodes (set_node v r)))
+    by : (t : Bool) → cond t (Some node.1) (node_at nodes id) ≡ Some v
+        → (node_at nodes id ≡ Some v → AreNodesSound (set_value (same_id id) nodes (set_node v r)))
         → AreNodesSound (cond t ((node.0, set_node v r) ∷ nodes) (node ∷ set_value (same_id id) nodes (set_node v r)))
     by true k more = (subst (λ (x : Variable). IsSoundNode node.0 (set_node x r)) (some_same k) (node_sound node.0 node.1 r s.0), s.1)
     by false k more = (s.0, more k)

@@ -10,7 +10,8 @@ use Rattle.ua_builtin.specs.declared.node_id.NodeId.{NodeId}
 use Rattle.ua_variant.specs.Encodable.{data_fields_encodable, data_value_encodable}
 use Rattle.ua_variant.specs.Measure.{variant_depth}
 use Rattle.ua_nodes.specs.declared.node.Variable.{Variable}
-use Rattle.ua_nodes.specs.NodeFile.{FileLine, lines_of, numbered_lines, is_read, node_lines, fields, field, has_short_fields, name_denoted, WritesNode, WriteNodes}
+use Rattle.ua_nodes.specs.NodeFile.{FileLine, lines_of, numbered_lines, is_read, node_lines, fields}
+use Rattle.ua_nodes.specs.NodeFile.{field, has_short_fields, name_denoted, WritesNode, WriteNodes}
 use Rattle.ua_nodes.specs.Sound.{held_value, IsSoundNode, AreNodesSound}
 use Rattle.ua_nodes.specs.Table.{Nodes}
 use Rattle.ua_nodes.specs.ValueText.{most_value_octets}
@@ -82,7 +83,8 @@ kept_utf8 (line ∷ lines) h = by (is_read line.text) (kept_utf8 lines h.1)
     by false more = more
 
 lines_utf8 : (text : List ℕ) → IsUtf8 text → AreUtf8 (node_lines text)
-lines_utf8 text u = kept_utf8 (numbered_lines 1 (lines_of text)) (numbered_utf8 1 (lines_of text) (stripped_all (pieces 10 text) (pieces_utf8 10 text (lit< tt) u)))
+lines_utf8 text u =
+    kept_utf8 (numbered_lines 1 (lines_of text)) (numbered_utf8 1 (lines_of text) (stripped_all (pieces 10 text) (pieces_utf8 10 text (lit< tt) u)))
 
 each_sound : (lines : List FileLine) (nodes : Nodes) → AreUtf8 lines → AllZip (λ line node. WritesNode line.text node) lines nodes → AreNodesSound nodes
 each_sound [] [] u w = tt

@@ -90,7 +90,8 @@ stored_fits : (v : Variable) (given : DataValue) (moment : DateTime) → date_ti
 stored_fits v given moment m of fits = by given.value of fits
   where
     by : (o : Option VariantData) → holds_type v.kind v.array o ≡ true → data_value_encodable (value_within o (data_fields_of given)) ≡ true
-        → (is_of_type v.kind v.array (content_or o null) ≡ true) × (data_value_encodable (valued (content_or o null) (held_fields (stored v given moment))) ≡ true)
+        → (is_of_type v.kind v.array (content_or o null) ≡ true)
+        × (data_value_encodable (valued (content_or o null) (held_fields (stored v given moment))) ≡ true)
     by None h f = absurd cc
     by (Some x) h f =
         let a = both_true (leb (1 + variant_depth x) 100) (data_fields_encodable (data_fields_of given) && variant_fits x) f in

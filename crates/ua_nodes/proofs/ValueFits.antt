@@ -218,7 +218,8 @@ pub record ValueFits (kind : ℕ) (array : Bool) (v : VariantData) : Type 0 wher
   pub fits : variant_fits v ≡ true
   pub depth : variant_depth v ≡ 1
 
-one_fits : (kind : ℕ) (text : List ℕ) (v : VariantData) → IsUtf8 text → length text ≤ most_value_octets → scalar_denoted kind text ≡ Some v → ValueFits kind false v
+one_fits : (kind : ℕ) (text : List ℕ) (v : VariantData) → IsUtf8 text → length text ≤ most_value_octets → scalar_denoted kind text ≡ Some v
+    → ValueFits kind false v
 one_fits kind text v u short e =
     let o = mapped_some one (option_map leaf (leaf_denoted kind text)) v e in
     let l = mapped_some leaf (leaf_denoted kind text) o.0 o.1 in

@@ -1,7 +1,8 @@
 //! Items of Write under a limit of memory.
 
 ghost use Rattle.std.specs.Prelude.{◌≡◌, ◌+◌, ◌-◌, ◌≤◌, ◌++◌, Some, cond, drop, length, min, vec_len, vec_capacity};
-ghost use Rattle.ua_nodes.specs.Limit.{after_limited, answer_within, answers_within, begins_refused, codes_behind_first};
+ghost use Rattle.ua_nodes.specs.Limit.{after_limited, answer_within, answers_within};
+ghost use Rattle.ua_nodes.specs.Limit.{begins_refused, codes_behind_first};
 ghost use Rattle.ua_nodes.specs.Limit.{given_memory, growth, items_left, limited_answers, nodes_memory, room_after};
 ghost use Rattle.ua_nodes.specs.Memory.{value_memory};
 ghost use Rattle.ua_nodes.specs.Sound.{AreNodesSound};

@@ -2,7 +2,8 @@
 
 ghost use Rattle.std.specs.Prelude.{◌≡◌, ◌≢◌, ◌+◌, ◌*◌, ◌≤◌, ◌∷◌, [], length, MatchOption, IfOk, IfErr, OnOk};
 ghost use Rattle.std.specs.Str.Lines.{strip_carriage_return};
-ghost use Rattle.ua_nodes.specs.NodeFile.{node_lines, WriteNodes, RefusesNodeFile, AddsNodeOfLine, RefusesLine, GivesNode};
+ghost use Rattle.ua_nodes.specs.NodeFile.{node_lines, WriteNodes, RefusesNodeFile};
+ghost use Rattle.ua_nodes.specs.NodeFile.{AddsNodeOfLine, RefusesLine, GivesNode};
 ghost use Rattle.ua_nodes.specs.NodeFile.{GivesId, GivesName, access_denoted, fields, is_read as is_read_line};
 ghost use Rattle.ua_nodes.specs.Sound.{AreNodesSound};
 

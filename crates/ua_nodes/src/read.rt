@@ -41,7 +41,8 @@ impl NodeTable {
     ) -> Result<DataValue, AllocError>
         ensures answer { IfOk result
             (λ d. data_value_of d ≡ read_answer (node_at self.now item.now.node_id) item.now stamps moment) }
-        ensures encodable { AreNodesSound self.now → IfOk result (λ d. IsTrue (data_value_encodable (data_value_of d))) }
+        ensures encodable { AreNodesSound self.now
+            → IfOk result (λ d. IsTrue (data_value_encodable (data_value_of d))) }
     {
         moment_is_encodable(&moment);
         match self.get(&item.node_id) {

@@ -104,7 +104,8 @@ impl NodeTable {
         ensures err { OnErr result (self.new ≡ self.old) }
         ensures distinct { OnOk result (IsDistinct same_id (keys_of self.new)) }
         ensures duplicate { IsErrOf result Duplicate ↔ IsSome (node_at self.old node.id) }
-        ensures sound { OnOk result (AreNodesSound self.old → IsSoundNode node.id (variable_of node) → AreNodesSound self.new) }
+        ensures sound { OnOk result (AreNodesSound self.old → IsSoundNode node.id (variable_of node)
+            → AreNodesSound self.new) }
     {
         if self.nodes.contains_key(&node.id) {
             drop(node);

@@ -112,4 +112,5 @@ array_back p (Some v) b h =
 pub exact_array : {A : Type 0} (p : A → List ℕ → Type 0) (r : List ℕ → Option (A × List ℕ)) → Exact p r → Exact (EncodesArray p) (array_at r)
 exact_array p r f =
     exact_same (Follows (IsNumber 4) (BehindCount p)) (EncodesArray p) (array_at r) (array_there p) (array_back p)
-    (exact_bind (IsNumber 4) (number_at 4) (BehindCount p) (array_behind_count r) (exact_number 4) (λ n. exact_behind_at p r f n (nat_lt n first_negative) refl))
+    (exact_bind (IsNumber 4) (number_at 4) (BehindCount p) (array_behind_count r) (exact_number 4)
+    (λ n. exact_behind_at p r f n (nat_lt n first_negative) refl))

@@ -150,7 +150,8 @@ message_exact names tree = behind_exact names (codes "  ") [] [] tree (message_l
 pub exact_message : (names : Bool) (tree : Tree) (told : List ℕ) → AreMessageLines (exact_field_style names) tree told → told ≡ message_lines names tree
 exact_message names tree told h = exact_behind names (codes "  ") [] [] tree told h
 
-pub exact_lines : {E : Type 0} (r : Result (Unit {0}) E) (names : Bool) (tree : Tree) (old new : List ℕ) → Adds r old new (AreMessageLines (exact_field_style names) tree)
+pub exact_lines : {E : Type 0} (r : Result (Unit {0}) E) (names : Bool) (tree : Tree) (old new : List ℕ)
+    → Adds r old new (AreMessageLines (exact_field_style names) tree)
     → OnOk r (new ≡ old ++ message_lines names tree)
 exact_lines (Ok u) names tree old new h = h.1 ∙ ap (λ (t : List ℕ). old ++ t) (exact_message names tree h.0 h.2)
 exact_lines (Err x) names tree old new h = tt

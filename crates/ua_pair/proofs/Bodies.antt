@@ -64,7 +64,8 @@ pub header_exact : (names : Bool) (side : Side) (octets : List ℕ) → IsHeader
 header_exact names Client octets = found_exact names close_request_tree (behind_id close_request octets)
 header_exact names Server octets = found_exact names service_fault_tree (behind_id service_fault octets)
 
-pub exact_text_of : (names : Bool) (kind : BodyKind) (octets text : List ℕ) → IsBodyText (exact_field_style names) kind octets text → text ≡ body_fields names kind octets
+pub exact_text_of : (names : Bool) (kind : BodyKind) (octets text : List ℕ) → IsBodyText (exact_field_style names) kind octets text
+    → text ≡ body_fields names kind octets
 unfolding body_fields
 exact_text_of names Request octets text h = exact_found names request_tree (body_of request octets) text h
 exact_text_of names Response octets text h = exact_found names response_tree (body_of response octets) text h
@@ -72,7 +73,8 @@ exact_text_of names OpenRequest octets text h = exact_found names open_request_t
 exact_text_of names OpenResponse octets text h = exact_found names open_answer_tree (answer_read octets) text h
 exact_text_of names CloseRequest octets text h = exact_found names close_request_tree (body_of (message 452 close_request) octets) text h
 
-pub exact_header : (names : Bool) (side : Side) (octets text : List ℕ) → IsHeaderText (exact_field_style names) side octets text → text ≡ header_fields names side octets
+pub exact_header : (names : Bool) (side : Side) (octets text : List ℕ) → IsHeaderText (exact_field_style names) side octets text
+    → text ≡ header_fields names side octets
 exact_header names Client octets text h = exact_found names close_request_tree (behind_id close_request octets) text h
 exact_header names Server octets text h = exact_found names service_fault_tree (behind_id service_fault octets) text h
 

@@ -66,7 +66,8 @@ pub record GoesBehind (d : Dissector) (options : DissectOptions) (octets told : 
   pub place : d.place ≡ place_behind frames
 
 goes_at : (d : Dissector) (options : DissectOptions) (octets told : List ℕ) (fs : List Frame) (rest : List ℕ) (end : End ℕ)
-    → Run (rules options) octets fs rest end → AreTexts options fs told → DissectorStandsAt d options fs rest end → d.place ≡ place_behind fs → is_dissecting d.state ≡ true
+    → Run (rules options) octets fs rest end → AreTexts options fs told → DissectorStandsAt d options fs rest end → d.place ≡ place_behind fs
+    → is_dissecting d.state ≡ true
     → GoesBehind d options octets told
 goes_at d options octets told fs rest Going run told_are at place goes =
     record { frames = fs; rest = rest; run = run; told_are = told_are; goes_on = at; place = place }
@@ -112,7 +113,8 @@ told-none told lines none = sym (ap (λ (l : List ℕ). told ++ l) none ∙ appe
 
 -- where it goes no further, octets more change nothing
 stays_at : (d : Dissector) (options : DissectOptions) (o told more : List ℕ) (fs : List Frame) (rest : List ℕ) (end : End ℕ) → Run (rules options) o fs rest end
-    → AreTexts options fs told → DissectorStandsAt d options fs rest end → d.place ≡ place_behind fs → is_dissecting d.state ≡ false → StandsBehind d options (o ++ more) told
+    → AreTexts options fs told → DissectorStandsAt d options fs rest end → d.place ≡ place_behind fs → is_dissecting d.state ≡ false
+    → StandsBehind d options (o ++ more) told
 stays_at d options o told more fs rest Going run told_are at place still = absurd (going_not_still d.state still at.state)
 stays_at d options o told more fs rest (Stopped code) run told_are at place still = record {
   are = record {
@@ -345,9 +347,11 @@ takes_tells (Err u) d e piece a b x options o told s = tt
 -- ---- the last line
 
 ends_at : (d : Dissector) (options : DissectOptions) (o told old new : List ℕ) (code : StatusCode) (fs : List Frame) (rest : List ℕ) (end : End ℕ)
-    → Run (rules options) o fs rest end → AreTexts options fs told → DissectorStandsAt d options fs rest end → d.place ≡ place_behind fs → d.state ≡ state.Refused code
+    → Run (rules options) o fs rest end → AreTexts options fs told → DissectorStandsAt d options fs rest end → d.place ≡ place_behind fs
+    → d.state ≡ state.Refused code
     → new ≡ old ++ refused_line d.teller.options.names d.place code.code → EndsLines options o told old new
-ends_at d options o told old new code fs rest Going run told_are at place refused grown = absurd (going_not_refused d.state code (ap is_dissecting at.state) refused)
+ends_at d options o told old new code fs rest Going run told_are at place refused grown =
+    absurd (going_not_refused d.state code (ap is_dissecting at.state) refused)
 ends_at d options o told old new code fs rest (Stopped why) run told_are at place refused grown = record {
   line = refused_line d.teller.options.names d.place code.code;
   added = grown;

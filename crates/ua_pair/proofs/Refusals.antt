@@ -61,7 +61,8 @@ message_refused side last cs f c Closed Holds old new e h = absurd h
 
 -- the limits and the last number of a teller are those of its frames
 pub refusal_at : (d : Teller) (fs : List Frame) (cs : List Chunk) (c : Chunk) → TellerStands d fs
-    → chunk_refusal (octet_limit d.assembler) (chunk_limit d.assembler) (last_number d.assembler) cs c ≡ chunk_refusal most_message_octets most_chunks (last_sequence fs) cs c
+    → chunk_refusal (octet_limit d.assembler) (chunk_limit d.assembler) (last_number d.assembler) cs c ≡ chunk_refusal most_message_octets most_chunks
+    (last_sequence fs) cs c
 refusal_at d fs cs c s =
     ap (λ (n : ℕ). chunk_refusal n (chunk_limit d.assembler) (last_number d.assembler) cs c) s.octets
     ∙ ap (λ (n : ℕ). chunk_refusal most_message_octets n (last_number d.assembler) cs c) s.chunks
@@ -121,7 +122,8 @@ opening_taken : (last : Option ℕ) (f : Frame) (c : OpenChunk) → open_refusal
     → first_reason (opening_reasons last f) ≡ None
 opening_taken last f c none found follows =
     ap (λ (o : Option OpenFault).
-    first_reason ((0x8007_0000, is_open_unreadable o) ∷ (0x8055_0000, is_other_policy o) ∷ (0x8088_0000, breaks_number_order last (sequence_by Opn f)) ∷ [])) none
+    first_reason ((0x8007_0000, is_open_unreadable o) ∷ (0x8055_0000, is_other_policy o) ∷ (0x8088_0000, breaks_number_order last (sequence_by Opn f)) ∷ []))
+    none
     ∙ ap (λ (o : Option OpenChunk). first_reason ((0x8088_0000, breaks_number_order last (option_map (λ (x : OpenChunk). x.sequence) o)) ∷ [])) found
     ∙ ap (λ (b : Bool). first_reason ((0x8088_0000, not b) ∷ [])) follows
 
@@ -157,9 +159,11 @@ pub greeting_judged : {A : Type 0} (message : Flat A) (line : ℕ → A → List
     → JudgesFrameTelling (first_reason (greeting_reasons (whole_of message read))) (λ text. text ≡ line_if (line n) (whole_of message read)) result old new
     → JudgesFrameTelling (first_reason (greeting_reasons (whole_of message body))) (λ text. text ≡ line_if (line m) (whole_of message body)) result old new
 greeting_judged message line read body n m result old new e size h =
-    subst (λ (k : ℕ). JudgesFrameTelling (first_reason (greeting_reasons (whole_of message body))) (λ text. text ≡ line_if (line k) (whole_of message body)) result old new)
+    subst (λ (k : ℕ). JudgesFrameTelling (first_reason (greeting_reasons (whole_of message body))) (λ text. text ≡ line_if (line k) (whole_of message body))
+    result old new)
     size
-    (subst (λ (b : List ℕ). JudgesFrameTelling (first_reason (greeting_reasons (whole_of message b))) (λ text. text ≡ line_if (line n) (whole_of message b)) result old new)
+    (subst (λ (b : List ℕ). JudgesFrameTelling (first_reason (greeting_reasons (whole_of message b))) (λ text. text ≡ line_if (line n) (whole_of message b))
+    result old new)
     e h)
 
 -- a frame is judged by its kind

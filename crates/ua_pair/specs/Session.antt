@@ -11,7 +11,8 @@ use Rattle.ua_structures.specs.declared.signature.SignatureData.{SignatureData}
 use Rattle.ua_structures.specs.declared.signature.SignedSoftwareCertificate.{SignedSoftwareCertificate}
 use Rattle.ua_pair.specs.Discovery.{application_description_entries, endpoint_description_entries}
 use Rattle.ua_pair.specs.Header.{request_header_entries, response_header_entries}
-use Rattle.ua_pair.specs.Leaves.{boolean_tree, byte_string_tree, diagnostic_info, double, extension_object_tree, node_id_tree, number_tree, status_code_tree, string_tree}
+use Rattle.ua_pair.specs.Leaves.{boolean_tree, byte_string_tree, diagnostic_info, double, extension_object_tree}
+use Rattle.ua_pair.specs.Leaves.{node_id_tree, number_tree, status_code_tree, string_tree}
 use Rattle.ua_pair.specs.Tree.{Fields, array_of, named, structure}
 
 -- SignedSoftwareCertificate (OPC 10000-4, 7.38)

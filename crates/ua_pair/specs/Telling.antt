@@ -53,5 +53,6 @@ JudgesFrameTelling why Holds (Err OutOfMemory) old new = Unit {0}
 -- the outcome for a frame of this kind at this offset, after these frames
 abbrev pub JudgesKind : Kind → DissectOptions → List Frame → ℕ → Frame → Result (Unit {0}) DissectFault → List ℕ → List ℕ → Type 0
 JudgesKind k options before place f result old new =
-    JudgesFrameTelling (first_reason (reasons_by k options.side (last_sequence before) (message_chunks before) f)) (IsTextBy k options (message_chunks before) place f)
+    JudgesFrameTelling (first_reason (reasons_by k options.side (last_sequence before) (message_chunks before) f))
+    (IsTextBy k options (message_chunks before) place f)
     result old new

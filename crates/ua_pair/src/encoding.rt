@@ -66,7 +66,8 @@ pub fn push_encoding<S: Source>(
     src: &mut S,
     out: &mut String,
 ) -> Result<(), AllocError>
-    ensures { OnOk result (string_bytes out.new ≡ string_bytes out.old ++ encoding_text (id_of_body (S.octets src.old))) }
+    ensures { OnOk result
+        (string_bytes out.new ≡ string_bytes out.old ++ encoding_text (id_of_body (S.octets src.old))) }
 {
     match NodeId::read_value(alloc, src, MOST_LEVELS) {
         Ok(id) => push_id(alloc, out, &id),

@@ -28,7 +28,8 @@ fn push_lines(
 /// Appends the lines of the bytes that one side of a connection sent. On an error the text is
 /// unchanged.
 pub fn dissect(alloc: Global, octets: &[u8], side: Side, out: &mut String) -> Result<(), AllocError>
-    ensures lines { OnOk result (AddsLines (plain_of_side side) octets.now (string_bytes out.old) (string_bytes out.new)) }
+    ensures lines { OnOk result
+        (AddsLines (plain_of_side side) octets.now (string_bytes out.old) (string_bytes out.new)) }
     ensures err { OnErr result (string_bytes out.new ≡ string_bytes out.old) }
 {
     let len = out.len();

@@ -10,7 +10,7 @@ mod Standards
 mod Stops
 mod Talks
 mod Storing
-mod Turns
+mod ScriptTurns
 mod ScriptTold
 mod Opening
 mod Stopped

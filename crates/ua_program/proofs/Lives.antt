@@ -46,7 +46,8 @@ on_err (Ok value) P p = tt
 on_err (Err fault) P p = p
 
 -- the next one was not taken
-pub taken_some : (moment : DateTime) (all rest : List Node) (old mid new : State) → new ≡ mid → TakenSo moment all rest old mid → TakesSomeNodes moment all old new
+pub taken_some : (moment : DateTime) (all rest : List Node) (old mid new : State) → new ≡ mid → TakenSo moment all rest old mid
+    → TakesSomeNodes moment all old new
 taken_some moment all rest old mid new same so = record { first = so.done; rest = rest; parts = sym so.parts; taken = same ∙ so.taken }
 
 -- ---- a look at a file
@@ -71,7 +72,8 @@ by_nodes old new nodes is = is ∙ ap (λ (s : State). with_nodes old s.nodes) (
 reading_nodes : (last after : List ℕ) (old new : State) → TakesReading last after old new → new ≡ with_nodes old new.nodes
 reading_nodes last after old new r = by r.taken
   where
-    by : ((after ≡ r.text) × (new ≡ with_nodes old (with_all_changed r.moment r.changed old.nodes))) ⊎ ((after ≡ last) × TakesSomeNodes r.moment r.changed old new)
+    by : ((after ≡ r.text) × (new ≡ with_nodes old (with_all_changed r.moment r.changed old.nodes)))
+        ⊎ ((after ≡ last) × TakesSomeNodes r.moment r.changed old new)
         → new ≡ with_nodes old new.nodes
     by (inl all) = by_nodes old new _ all.1
     by (inr some) = by_nodes old new _ some.1.taken

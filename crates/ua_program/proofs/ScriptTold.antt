@@ -132,18 +132,21 @@ told_fault-front [] us f h = absurd cc
 told_fault-front (Ok told ∷ ts) us f h = told_fault-front ts us f h
 told_fault-front (Err g ∷ ts) us f h = h
 
-text_of-append : (names : Bool) (ts us : List (Result ToldOfScript LoopFault)) → told_fault ts ≡ None → text_of names (ts ++ us) ≡ text_of names ts ++ text_of names us
+text_of-append : (names : Bool) (ts us : List (Result ToldOfScript LoopFault)) → told_fault ts ≡ None
+    → text_of names (ts ++ us) ≡ text_of names ts ++ text_of names us
 text_of-append names [] us h = refl
 text_of-append names (Ok told ∷ ts) us h = ap (λ u. told_text names told ++ u) (text_of-append names ts us h)
     ∙ sym (append_assoc (told_text names told) (text_of names ts) (text_of names us))
 text_of-append names (Err f ∷ ts) us h = absurd cc
 
-text_of-front : (names : Bool) (ts us : List (Result ToldOfScript LoopFault)) (f : LoopFault) → told_fault ts ≡ Some f → text_of names (ts ++ us) ≡ text_of names ts
+text_of-front : (names : Bool) (ts us : List (Result ToldOfScript LoopFault)) (f : LoopFault) → told_fault ts ≡ Some f
+    → text_of names (ts ++ us) ≡ text_of names ts
 text_of-front names [] us f h = absurd cc
 text_of-front names (Ok told ∷ ts) us f h = ap (λ u. told_text names told ++ u) (text_of-front names ts us f h)
 text_of-front names (Err g ∷ ts) us f h = refl
 
-plain-append : (names : Bool) (ts us : List (Result ToldOfScript LoopFault)) (s t : List ℕ) → told_fault ts ≡ None → IsPlainTextOf names ts s → IsPlainTextOf names us t
+plain-append : (names : Bool) (ts us : List (Result ToldOfScript LoopFault)) (s t : List ℕ) → told_fault ts ≡ None → IsPlainTextOf names ts s
+    → IsPlainTextOf names us t
     → IsPlainTextOf names (ts ++ us) (s ++ t)
 plain-append names [] us s t none h k = subst (λ (x : List ℕ). IsPlainTextOf names us (x ++ t)) (sym h) k
 plain-append names (Ok told ∷ ts) us s t none h k =
@@ -168,7 +171,8 @@ shown-fault : (people names : Bool) (f : LoopFault) (ts : List (Result ToldOfScr
 shown-fault true names f ts = refl
 shown-fault false names f ts = refl
 
-shown-cons : (people names : Bool) (line : ToldOfScript) (ts : List (Result ToldOfScript LoopFault)) (s t : List ℕ) → IsToldText people names line s → IsTextOf people names ts t
+shown-cons : (people names : Bool) (line : ToldOfScript) (ts : List (Result ToldOfScript LoopFault)) (s t : List ℕ) → IsToldText people names line s
+    → IsTextOf people names ts t
     → IsTextOf people names (Ok line ∷ ts) (s ++ t)
 shown-cons true names line ts s t one all = (s, t, refl, one, all)
 shown-cons false names line ts s t one all = ap (λ (x : List ℕ). x ++ t) (told-exact names line s one) ∙ ap (λ (x : List ℕ). told_text names line ++ x) all
@@ -179,7 +183,8 @@ shown-append true names ts us s t none h k = plain-append names ts us s t none h
 shown-append false names ts us s t none h k = ap (λ (x : List ℕ). x ++ t) h ∙ ap (λ (x : List ℕ). text_of names ts ++ x) k
     ∙ sym (text_of-append names ts us none)
 
-shown-front : (people names : Bool) (ts us : List (Result ToldOfScript LoopFault)) (f : LoopFault) (s : List ℕ) → told_fault ts ≡ Some f → IsTextOf people names ts s
+shown-front : (people names : Bool) (ts us : List (Result ToldOfScript LoopFault)) (f : LoopFault) (s : List ℕ) → told_fault ts ≡ Some f
+    → IsTextOf people names ts s
     → IsTextOf people names (ts ++ us) s
 shown-front true names ts us f s fault h = plain-front names ts us f s fault h
 shown-front false names ts us f s fault h = h ∙ sym (text_of-front names ts us f fault)
@@ -197,12 +202,14 @@ module _ (people names : Bool) where
   all-cons t ts (Err f) a b c one (inl none) = inl none
   all-cons t ts (Err f) a b c one (inr all) = inr (ap (λ u. told_fault (u ∷ ts)) one.2 ∙ all.0, texts-cons t ts a b c one all.1)
 
-  pub all-fault : (t : Result ToldOfScript LoopFault) (ts : List (Result ToldOfScript LoopFault)) (f : LoopFault) (a b : List ℕ) → AddsTold people names t (Err f) a b
+  pub all-fault : (t : Result ToldOfScript LoopFault) (ts : List (Result ToldOfScript LoopFault)) (f : LoopFault) (a b : List ℕ)
+      → AddsTold people names t (Err f) a b
       → AddsAll people names (t ∷ ts) (Err f) a b
   all-fault t ts f a b (inl none) = inl none
   all-fault t ts f a b (inr one) = inr (
     ap (λ u. told_fault (u ∷ ts)) one.0,
-    subst (λ (u : Result ToldOfScript LoopFault). AddsTexts people names (u ∷ ts) a b) (sym one.0) ([], one.1 ∙ sym (append-nil a), shown-fault people names f ts),
+    subst (λ (u : Result ToldOfScript LoopFault). AddsTexts people names (u ∷ ts) a b) (sym one.0)
+        ([], one.1 ∙ sym (append-nil a), shown-fault people names f ts),
   )
 
   pub all-last : (t : Result ToldOfScript LoopFault) (r : Result (Unit {0}) LoopFault) (a b : List ℕ) → AddsTold people names t r a b
@@ -210,7 +217,8 @@ module _ (people names : Bool) where
   all-last t (Ok done) a b one = all-cons t [] (Ok done) a b b one (refl, ([], sym (append-nil b), shown-none people names))
   all-last t (Err f) a b one = all-fault t [] f a b one
 
-  texts-append : (ts us : List (Result ToldOfScript LoopFault)) (a b c : List ℕ) → told_fault ts ≡ None → AddsTexts people names ts a b → AddsTexts people names us b c
+  texts-append : (ts us : List (Result ToldOfScript LoopFault)) (a b c : List ℕ) → told_fault ts ≡ None → AddsTexts people names ts a b
+      → AddsTexts people names us b c
       → AddsTexts people names (ts ++ us) a c
   texts-append ts us a b c none all more = (
     all.0 ++ more.0,

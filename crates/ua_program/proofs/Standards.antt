@@ -39,7 +39,8 @@ of_nodes text fault (inl memory) = inl memory
 of_nodes text fault (inr bad) = inr (inr (inl bad))
 
 -- and for what stands behind them
-pub of_whole : (text whole passed : List ℕ) (keeps_time : Bool) (fault : Fault) → IsWithStandardNodes text keeps_time whole → passed ≡ whole → RefusesNodes passed fault
+pub of_whole : (text whole passed : List ℕ) (keeps_time : Bool) (fault : Fault) → IsWithStandardNodes text keeps_time whole → passed ≡ whole
+    → RefusesNodes passed fault
     → RefusesStandard text fault
 of_whole text whole passed keeps_time fault is same (inl memory) = inl memory
 of_whole text whole passed keeps_time fault is same (inr bad) =

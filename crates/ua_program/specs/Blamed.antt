@@ -32,5 +32,6 @@ form_text_of kind =
 abbrev pub value_told : Bool → List ℕ → List ℕ → Option (ℕ × Bool) → List ℕ
 value_told plain kind value None = kind ++ codes " (no such type)"
 value_told plain kind value (Some named) =
-    value ++ codes " (" ++ kind ++ codes " takes " ++ cond plain (plain_form named.0) [] ++ form_text_of named.0 ++ cond named.1 (codes ", with commas between)")
+    value ++ codes " (" ++ kind ++ codes " takes " ++ cond plain (plain_form named.0) [] ++ form_text_of named.0
+    ++ cond named.1 (codes ", with commas between)")
     (codes ")")

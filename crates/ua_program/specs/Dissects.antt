@@ -114,8 +114,8 @@ pub record PrintsPiece (hex : Bool) (options : DissectOptions) (half : Option �
 
 -- one more fragment was read, none at the end, and the lines of what is complete with it were
 -- printed, with the last line: nothing more has lines
-pub record PrintsLast (verdict : Verdict) (hex : Bool) (options : DissectOptions) (content told : List ℕ) (before after old new : Option (List ℕ)) : Type
-    0 where
+pub record PrintsLast (verdict : Verdict) (hex : Bool) (options : DissectOptions) (content told : List ℕ)
+    (before after old new : Option (List ℕ)) : Type 0 where
   pub piece : List ℕ
   pub consumed : Consumes before after piece
   pub line : List ℕ

@@ -187,7 +187,8 @@ pub record AreLoopLines (people names : Bool) (shown : List ℕ) : Type 0 where
 -- the text of what is told was appended; or nothing was, and the fault is the one that is told, or
 -- an allocation failed
 abbrev pub AddsTold : Bool → Bool → Result ToldOfScript LoopFault → Result (Unit {0}) LoopFault → List ℕ → List ℕ → Type 0
-AddsTold people names told (Ok done) had have = (line : ToldOfScript) × (shown : List ℕ) × (told ≡ Ok line) × (have ≡ had ++ shown) × IsToldText people names line shown
+AddsTold people names told (Ok done) had have = (line : ToldOfScript) × (shown : List ℕ) × (told ≡ Ok line) × (have ≡ had ++ shown)
+    × IsToldText people names line shown
 AddsTold people names told (Err fault) had have = (fault ≡ NoMemory) ⊎ ((told ≡ Err fault) × (have ≡ had))
 
 -- the texts before the first fault were appended

@@ -1,7 +1,8 @@
 //! The lines of `ua ask`.
 
 ghost use Rattle.std.specs.Prelude.{◌≡◌, IfOk, IfErr, IfSome};
-ghost use Rattle.ua_program.specs.LineTask.{GivesOwn, IsBare, IsPause, IsQuestionOf, IsTaskOf, RefusesTaskLine, Requests};
+ghost use Rattle.ua_program.specs.LineTask.{GivesOwn, IsBare, IsPause, IsQuestionOf};
+ghost use Rattle.ua_program.specs.LineTask.{IsTaskOf, RefusesTaskLine, Requests};
 ghost use Rattle.ua_texts.specs.declared.script.Step.TheVariants.{Read};
 
 use crate::number::parse_size;

@@ -437,7 +437,8 @@ fn next_stream<'a, R: Net + Clock, E: Write>(
 
 /// Prints that an allocation failed at a connection. The function allocates nothing.
 pub fn say_no_memory<'a, O: Write>(number: u32, out: &mut O) -> Result<(), Stop<'a>>
-    ensures said { OnOk result (Appends (O.contents out.old) (O.contents out.new) (connection_line number no_memory_text)) }
+    ensures said { OnOk result
+        (Appends (O.contents out.old) (O.contents out.new) (connection_line number no_memory_text)) }
     ensures failed { IfErr result (λ stop. StopsWriting stop) }
 {
     match write_no_memory(number, out) {

@@ -223,7 +223,8 @@ module _ {A : Type 0} (changes : A → State → A → State → Type 0) (x : Se
       (last-on l c first.0 read (take n piece) [] written hs (heard_at m (given_up q ++ more)) (quiet-silent m q more quiet) o.last)
 
   -- nothing is answered
-  on-silent : (n : ℕ) (out q : List ℕ) (more : List Told) → noted_in ts ≡ [] → false ≡ has_some more → StepStops ch read piece n out (told_in hs ++ given_up q) more
+  on-silent : (n : ℕ) (out q : List ℕ) (more : List Told) → noted_in ts ≡ [] → false ≡ has_some more
+      → StepStops ch read piece n out (told_in hs ++ given_up q) more
       → StandsOver ch (read ++ take n piece) (behind q more) first.0 now1 → output_over c s0 (behind q more) ≡ output_over c s0 hs ++ out
       → Owes changes y l c first (read ++ take n piece) out written (given ++ ts) (now1, app)
   on-silent n out q [] no_request none stops stands said = record {

@@ -67,7 +67,8 @@ signature_fits : IsTrue (signature_data.encodable null_signature)
 unfolding signature_data
 signature_fits = both_are (string.encodable None) _ no_text no_octets
 
-pub session_fits : (n most : ℕ) (timeout : DoubleBits) (e : Endpoint) (header : ResponseHeader) → n < 2 ^ 32 → most < 2 ^ 32 → timeout.bits < 2 ^ 64 → IsEndpointEncodable e
+pub session_fits : (n most : ℕ) (timeout : DoubleBits) (e : Endpoint) (header : ResponseHeader) → n < 2 ^ 32 → most < 2 ^ 32 → timeout.bits < 2 ^ 64
+    → IsEndpointEncodable e
     → IsTrue (response_header.encodable header)
     → IsTrue (response.encodable (CreateSessionMessage (session_of header (session_id n) (session_token n) timeout (Some (description_of e ∷ [])) most)))
 unfolding create_session_response

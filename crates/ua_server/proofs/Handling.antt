@@ -203,7 +203,8 @@ module _ {A : Type 0} (changes : A → State → A → State → Type 0) (limits
             (asked-by limits channel read (told_in k.history) (moments_of k.history) x.moment (moments-count k.history) k.kept_is);
       }
 
-  still-going : (x : Serving) (read written : List ℕ) (given : List Event) (now : State × A) (k : OwesNothing changes x limits channel first read written given now)
+  still-going : (x : Serving) (read written : List ℕ) (given : List Event) (now : State × A)
+      (k : OwesNothing changes x limits channel first read written given now)
       → AllAnswered limits channel first.0 read written (moments_in given) (noted_in given) k.history now.0 Going
   still-going x read written given now k = record { frames = k.stands.goes.frames; rest = k.stands.goes.rest; to = keeps-answered x read written given now k }
 
@@ -333,7 +334,8 @@ module _ {A : Type 0} (changes : A → State → A → State → Type 0) (limits
     abbrev pub Served : Option Traffic → ℕ → M × W → Option Traffic → Serving → State × A → Type 0
     Served la reads m lb x now = ReadsToEnd step m0 m la lb reads (λ read written ts. OwesNothing changes x limits channel first read written ts now)
 
-    pub served-nothing : (la : Option Traffic) (x : Serving) (now : State × A) → OwesNothing changes x limits channel first [] [] [] now → Served la 0 m0 la x now
+    pub served-nothing : (la : Option Traffic) (x : Serving) (now : State × A) → OwesNothing changes x limits channel first [] [] [] now
+        → Served la 0 m0 la x now
     served-nothing la x now k =
         record { read = []; enough = omega arith; exchanged = record { written = []; ticks = []; moved = told-nothing la; given = refl; holds = k } }
 
@@ -376,7 +378,8 @@ module _ {A : Type 0} (changes : A → State → A → State → Type 0) (limits
         → ServesApplication limits channel gives notes changes first m0 (Err fault.Read) now m la lc
     read-failed la lb lc reads m x now f buffer s h =
         served m s.read la lc (Err fault.Read) now (λ written ts. OwesNothing changes x limits channel first s.read written ts now)
-        (subst (λ (r : List ℕ). Exchanged step m0 m r la lc (λ written ts. OwesNothing changes x limits channel first s.read written ts now)) (append-nil s.read)
+        (subst (λ (r : List ℕ). Exchanged step m0 m r la lc (λ written ts. OwesNothing changes x limits channel first s.read written ts now))
+        (append-nil s.read)
         (read-on la lb lc reads m x now 0 [] s (not-handed f buffer lb lc h)))
         (λ w ts k. record { history = k.history; acted = k.acted; acts_first = k.acts_first; over = still-going x s.read w ts now k })
 

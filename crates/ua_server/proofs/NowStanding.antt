@@ -63,7 +63,8 @@ module _ (old new : ServerChannel) (moment : DateTime) (piece octets : List ℕ)
       → StepTells answered request (channel_of old) moment piece n out new octets told first ms now
   tells-by n out quiet [] answered request stops goes said state number a r =
       subst (λ (b : Bool). StepTells b request (channel_of old) moment piece n out new octets told first ms now) (sym a)
-      (subst (λ (q : Option AnsweredRequest). StepTells false q (channel_of old) moment piece n out new octets told first ms now) (sym (listed-is request None r))
+      (subst (λ (q : Option AnsweredRequest). StepTells false q (channel_of old) moment piece n out new octets told first ms now)
+      (sym (listed-is request None r))
       (subst (λ (o : List ℕ). StepTells false None (channel_of old) moment piece n o new octets told first ms now) (sym said)
       (subst (λ (t : State). StepTells false None (channel_of old) moment piece n [] new octets told first ms t) (sym state)
       (goes-silent old new moment piece n octets told first ms before quiet s same stops.0

@@ -25,7 +25,8 @@ requests_of-append channel c (t ∷ a) b =
     ap (λ (r : List AnsweredRequest). with_first (request_at channel c t) r) (requests_of-append channel (say channel c t).1 a b)
     ∙ first-append (request_at channel c t) (requests_of channel (say channel c t).1 a) (requests_of channel (course_after channel (say channel c t).1 a) b)
 
-pub requests-append : (channel : ℕ) (s : State) (a b : List Told) (moments : List DateTime) → requests_answered channel s (a ++ b) moments ≡ requests_answered channel s a moments
+pub requests-append : (channel : ℕ) (s : State) (a b : List Told) (moments : List DateTime)
+    → requests_answered channel s (a ++ b) moments ≡ requests_answered channel s a moments
     ++ requests_of channel (state_after channel s a moments) b
 unfolding requests_answered state_after
 requests-append channel s a b moments = requests_of-append channel (start s moments) a b
@@ -34,7 +35,8 @@ quiet-asked : (channel : ℕ) (c : Course) (ids : List ℕ) → requests_of chan
 quiet-asked channel c [] = refl
 quiet-asked channel c (id ∷ ids) = quiet-asked channel c ids
 
-pub requests-silent : (channel : ℕ) (s : State) (told : List Told) (ids : List ℕ) (moments : List DateTime) → requests_answered channel s (told ++ given_up ids) moments
+pub requests-silent : (channel : ℕ) (s : State) (told : List Told) (ids : List ℕ) (moments : List DateTime)
+    → requests_answered channel s (told ++ given_up ids) moments
     ≡ requests_answered channel s told moments
 requests-silent channel s told ids moments =
     requests-append channel s told (given_up ids) moments
@@ -82,7 +84,8 @@ first-only (Some x) = refl
 
 pub requests-one : (channel : ℕ) (first : State) (told : List Told) (t : Told) (ms extra : List DateTime) (c : Course) → state_after channel first told ms ≡ c
     → used_in told ≤ length ms
-    → requests_answered channel first (told ++ t ∷ []) (ms ++ extra) ≡ requests_answered channel first told ms ++ listed (request_at channel (with_more c extra) t)
+    → requests_answered channel first (told ++ t ∷ []) (ms ++ extra) ≡ requests_answered channel first told ms
+    ++ listed (request_at channel (with_more c extra) t)
 requests-one channel first told t ms extra c e h =
     requests-append channel first told (t ∷ []) (ms ++ extra)
     ∙ (ap (λ (r : List AnsweredRequest). r ++ requests_of channel (state_after channel first told (ms ++ extra)) (t ∷ []))

@@ -11,7 +11,8 @@ use Rattle.ua_nodes.specs.Table.{Nodes}
 use Rattle.ua_server.specs.History.{ConnectionEvent, Heard, Became, EndedAt, EndsOver, IsHandled, OverBy, ResultOver, StandsOver}
 use Rattle.ua_server.specs.History.{StepOver, course_over, event_answer, heard_at, output_over, told_in, with_changes}
 use Rattle.ua_server.specs.Sharing.{SharedEvent, At, Changed, Own, SharedState, AmongBy, EndsAmong, OthersStand, ResultAmong, StandsAmong, StepAmong}
-use Rattle.ua_server.specs.Sharing.{answer_at, at_moment, course_at, opened, seen_as, seen_by, sent_for_event, sent_to, shared_by, shared_over, told_by, with_course}
+use Rattle.ua_server.specs.Sharing.{answer_at, at_moment, course_at, opened, seen_as, seen_by}
+use Rattle.ua_server.specs.Sharing.{sent_for_event, sent_to, shared_by, shared_over, told_by, with_course}
 use Rattle.ua_server.specs.Said.{Course, first_time, last_words, say, start}
 use Rattle.ua_server.specs.State.{State, begun, with_nodes, with_session}
 use Rattle.ua_server.specs.Stepping.{times_of_answers}

@@ -26,7 +26,8 @@ use Rattle.ua_server.specs.Attributes.{items_of, read_reasons, statuses_given, v
 use Rattle.ua_server.specs.Reply.{answered, answered_by}
 use Rattle.ua_server.specs.State.{State}
 use Rattle.ua_server.specs.Stepping.{AnswersBehind, given_up}
-use Rattle.ua_server.specs.Stored.{begins_good, behind_code, good_items, is_good, items_written, results_of, stored_as, stored_items, stored_of, stored_unless_refused}
+use Rattle.ua_server.specs.Stored.{begins_good, behind_code, good_items, is_good, items_written}
+use Rattle.ua_server.specs.Stored.{results_of, stored_as, stored_items, stored_of, stored_unless_refused}
 use Rattle.ua_server.specs.Storing.{StoresBy, stored_at}
 use Rattle.ua_server.specs.declared.step.End.{End as Ending}
 use Rattle.ua_server.specs.declared.step.Step.{Step}

@@ -93,8 +93,10 @@ answered_alike s moment m false same is =
     let kept = items_of (option_map (map (thinned (λ (id : NodeId) (t : ValueType). false))) m.nodes_to_write) in
     ap (λ (active : Bool). answer_with s moment m.request_header active (length kept) (after_limited most kept moment s.nodes)
     (limited_answers most s.nodes kept)) is
-    ∙ refused_alike (is_own m.request_header.authentication_token s.session) (length kept) (length items) s moment m.request_header
-    (with_nodes s (after_limited most kept moment s.nodes), WriteAnswer (write_response_of (good_header moment m.request_header) (limited_answers most s.nodes kept))) (
+    ∙ refused_alike (is_own m.request_header.authentication_token s.session) (length kept) (length items) s moment m.request_header (
+      with_nodes s (after_limited most kept moment s.nodes),
+      WriteAnswer (write_response_of (good_header moment m.request_header) (limited_answers most s.nodes kept)),
+    ) (
       with_nodes s (after_limited most items moment s.nodes),
       WriteAnswer (write_response_of (good_header moment m.request_header) (limited_answers most s.nodes items)),
     )

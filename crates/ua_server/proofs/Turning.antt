@@ -33,7 +33,8 @@ counted-on n l k m e f = omega (arith, e, f)
 count-all : (n : ℕ) (written out : List ℕ) → n ≡ min (length written) greatest → sum_up_to_greatest n (length out) ≡ min (length (written ++ out)) greatest
 count-all n written out e = counted-on n (length written) (length out) (length (written ++ out)) e (length-append written out)
 
-count-some : (n k : ℕ) (written out : List ℕ) → n ≡ min (length written) greatest → k ≤ length out → sum_up_to_greatest n k ≡ min (length (written ++ take k out)) greatest
+count-some : (n k : ℕ) (written out : List ℕ) → n ≡ min (length written) greatest → k ≤ length out
+    → sum_up_to_greatest n k ≡ min (length (written ++ take k out)) greatest
 count-some n k written out e h = counted-on n (length written) k (length (written ++ take k out)) e (length-append written (take k out)
     ∙ ap (λ (i : ℕ). length written + i) (length-take-le k out h))
 

@@ -203,7 +203,8 @@ module _ {A : Type 0} (changes : A → State → A → State → Type 0) (none :
     plain-told : (frames : List Frame) (rest : List ℕ) (end : End ℕ) → FramesAnswered limits channel first read written moments requested hs now frames rest end
         → requested ≡ requests_answered channel first (events (server_rules limits channel) frames) moments
     plain-told frames rest end f = f.requests_are
-        ∙ (plain-requests first a b hs moments f.moments_are.0 f.moments_are.1 acts ∙ ap (λ (t : List Told). requests_answered channel first t moments) (sym f.told_is))
+        ∙ (plain-requests first a b hs moments f.moments_are.0 f.moments_are.1 acts
+        ∙ ap (λ (t : List Told). requests_answered channel first t moments) (sym f.told_is))
 
     plain-answered : (end : End ℕ) (w : AllAnswered limits channel first read written moments requested hs now end)
         → (v : AnsweredAllRead limits channel first read written moments now end)

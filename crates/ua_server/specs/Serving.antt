@@ -66,7 +66,8 @@ pub record AnsweredTo (limits : Limits) (channel : ℕ) (first : State) (read wr
   pub asked : AreAsked limits channel read (events (server_rules limits channel) frames) moments
 
 -- the same for some frames, after which the connection is in this state
-pub record AnsweredAllRead (limits : Limits) (channel : ℕ) (first : State) (read written : List ℕ) (moments : List DateTime) (now : State) (end : End ℕ) : Type 0 where
+pub record AnsweredAllRead (limits : Limits) (channel : ℕ) (first : State) (read written : List ℕ) (moments : List DateTime) (now : State)
+    (end : End ℕ) : Type 0 where
   pub frames : List Frame
   pub rest : List ℕ
   pub to : AnsweredTo limits channel first read written moments now frames rest end

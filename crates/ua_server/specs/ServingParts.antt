@@ -192,7 +192,8 @@ pub record OfEventsBetween {M : Type 0} (step : M → Event → M → Type 0) (b
   pub holds : P ticks
 
 -- a transport is read up to its end: this many reads returned this, and it is answered
-pub record ReadsToEnd {M : Type 0} (gives : M → Event → M → Type 0) (moments later : M) (before after : Option Traffic) (reads : ℕ) (P : List ℕ → List ℕ → List Event
+pub record ReadsToEnd {M : Type 0} (gives : M → Event → M → Type 0) (moments later : M) (before after : Option Traffic) (reads : ℕ) (P : List ℕ → List ℕ
+    → List Event
     → Type 0) : Type 0 where
   pub read : List ℕ
   pub enough : reads ≤ length read

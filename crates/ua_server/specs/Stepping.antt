@@ -102,8 +102,8 @@ pub record EndsWholeMessage (limits : Limits) (channel : ℕ) (piece : List ℕ)
   pub tells : (server_rules limits channel).tells frames frame ≡ Asked id token message ∷ []
 
 -- the state that the first whole message of the fragment leaves
-pub record LeftByMessage (limits : Limits) (channel : ℕ) (moment : DateTime) (piece : List ℕ) (octets : List ℕ) (told : List Told) (before now : State) : Type
-    0 where
+pub record LeftByMessage (limits : Limits) (channel : ℕ) (moment : DateTime) (piece : List ℕ) (octets : List ℕ) (told : List Told)
+    (before now : State) : Type 0 where
   pub message : List ℕ
   pub ends : EndsWholeMessage limits channel piece octets told message
   pub now_is : now ≡ (answered before moment message).0

@@ -101,7 +101,8 @@ impl Services {
     fn read_kept<S: Source>(&self, alloc: Global, src: &mut S) -> Result<Request, RequestFault>
         ensures answer { IfOk result (λ kept. (moment : DateTime)
             → answer self.now moment kept ≡ answered self.now moment (S.octets src.old)) }
-        ensures kind { IfOk result (λ kept. kind_asked (request_read (S.octets src.old)) ≡ Some (kind_of_request kept)) }
+        ensures kind { IfOk result (λ kept. kind_asked (request_read (S.octets src.old))
+            ≡ Some (kind_of_request kept)) }
         ensures items { IfOk result (λ kept. count_asked (request_read (S.octets src.old)) ≡ items_asked kept) }
         ensures refused { IfErr result (λ fault. (request_read (S.octets src.old) ≡ Err fault)
             ⊎ (fault ≡ RequestFault.OutOfMemory)) }

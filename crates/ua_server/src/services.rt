@@ -125,7 +125,8 @@ impl Services {
     pub fn set_at(&mut self, index: usize, reading: Reading) -> Result<(), SetFault>
         ensures state { self.new ≡ with_nodes self.old
             (after_set_at (node_id_at self.old.nodes index) reading self.old.nodes) }
-        ensures answer { MatchResult result (λ _. set_refusal_at (node_id_at self.old.nodes index) reading self.old.nodes
+        ensures answer { MatchResult result
+            (λ _. set_refusal_at (node_id_at self.old.nodes index) reading self.old.nodes
             ≡ None) (λ fault. set_refusal_at (node_id_at self.old.nodes index) reading self.old.nodes ≡ Some fault) }
         ensures kept { OnErr result (self.new ≡ self.old) }
     {

@@ -9,7 +9,8 @@ use Rattle.ua_builtin.specs.declared.node_id.NodeId.{NodeId}
 use Rattle.ua_wire.specs.declared.fault.ReadFault.{ReadFault}
 use Rattle.ua_wire.specs.declared.fault.ReadFault.TheVariants.{NoValue, OutOfMemory as NoMemory}
 use Rattle.ua_opening.specs.Message.{IsBody, IsNoBody, kind_at, if_last, body_of, found_or, id_handle, handle_of, handle_behind, id_of_body}
-use Rattle.ua_services.specs.Request.{request, requests, request_kind, read_as_request, request_read, unread_with, misread_request_id, misread_request_kind, AnnouncesNoRequest, MisreadRequest}
+use Rattle.ua_services.specs.Request.{request, requests, request_kind, read_as_request, request_read, unread_with}
+use Rattle.ua_services.specs.Request.{misread_request_id, misread_request_kind, AnnouncesNoRequest, MisreadRequest}
 use Rattle.ua_services.specs.declared.request.Request.{Request}
 use Rattle.ua_services.specs.declared.request.RequestKind.{RequestKind}
 use Rattle.ua_services.specs.declared.fault.RequestFault.{RequestFault}
@@ -131,7 +132,8 @@ misread_by : (octets : List ℕ) (id : NodeId) (o : Option RequestKind) → id_o
 misread_by octets id None e is none = ((id, e, is), none, refl)
 misread_by octets id (Some k) e is none = (λ (a : AnnouncesNoRequest octets). no_such_kind octets id k e is a, none, refl)
 
-misread_is : (octets : List ℕ) (o : Option NodeId) → id_of_body octets ≡ o → IsNoBody request octets → MisreadRequest octets (misread_request_id (handle_of octets) o)
+misread_is : (octets : List ℕ) (o : Option NodeId) → id_of_body octets ≡ o → IsNoBody request octets
+    → MisreadRequest octets (misread_request_id (handle_of octets) o)
 misread_is octets None e none = (λ (a : AnnouncesNoRequest octets). no_such_id octets e a, none, refl)
 misread_is octets (Some id) e none = misread_by octets id (request_kind id) e refl none
 
@@ -172,4 +174,5 @@ id_memory handle (Some id) e = kind_memory handle (request_kind id) e
 pub request_read-memory : (octets : List ℕ) → request_read octets ≡ Err OutOfMemory → ⊥
 unfolding request_read
 request_read-memory octets e =
-    id_memory (handle_of octets) (id_of_body octets) (sym (found_err (body_of request octets) (misread_request_id (handle_of octets) (id_of_body octets)) OutOfMemory (sym e)).1)
+    id_memory (handle_of octets) (id_of_body octets)
+    (sym (found_err (body_of request octets) (misread_request_id (handle_of octets) (id_of_body octets)) OutOfMemory (sym e)).1)

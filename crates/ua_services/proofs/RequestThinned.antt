@@ -94,4 +94,5 @@ whole_is takes k octets rest r is other h = read_behind r (thin_read takes (requ
 pub thin_is : (takes : Takes) (octets rest : List ℕ) (r : Result Request RequestFault) → request_read octets ≡ read_as_request Write rest
     → Reads r (thin_read takes (read_as_request Write rest))
     → Reads r (thin_read takes (request_read octets))
-thin_is takes octets rest r is h = read_behind r (thin_read takes (request_read octets)) (thin_read takes (read_as_request Write rest)) (ap (thin_read takes) is) h
+thin_is takes octets rest r is h = read_behind r (thin_read takes (request_read octets)) (thin_read takes (read_as_request Write rest))
+    (ap (thin_read takes) is) h

@@ -88,7 +88,8 @@ no_such_id octets e a =
 pub response_found : (octets : List ℕ) (r : Result Response ResponseFault) → (r ≡ response_read octets) ⊎ (r ≡ Err OutOfMemory)
     → IfOk r (λ m. IsBody response m octets)
 unfolding response_read
-response_found octets (Ok m) (inl h) = body_is response lawful_response octets m (found_ok (body_of response octets) (misread_response_id (id_of_body octets)) m h)
+response_found octets (Ok m) (inl h) =
+    body_is response lawful_response octets m (found_ok (body_of response octets) (misread_response_id (id_of_body octets)) m h)
 response_found octets (Ok m) (inr h) = absurd cc
 response_found octets (Err e) h = tt
 
@@ -137,4 +138,5 @@ id_memory (Some id) e = kind_memory (response_kind id) e
 
 pub response_read-memory : (octets : List ℕ) → response_read octets ≡ Err OutOfMemory → ⊥
 unfolding response_read
-response_read-memory octets e = id_memory (id_of_body octets) (sym (found_err (body_of response octets) (misread_response_id (id_of_body octets)) OutOfMemory (sym e)).1)
+response_read-memory octets e =
+    id_memory (id_of_body octets) (sym (found_err (body_of response octets) (misread_response_id (id_of_body octets)) OutOfMemory (sym e)).1)

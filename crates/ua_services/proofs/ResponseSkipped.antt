@@ -7,7 +7,8 @@ use Rattle.ua_builtin.specs.NodeId.{node_id}
 use Rattle.ua_builtin.specs.declared.node_id.NodeId.{NodeId}
 use Rattle.ua_wire.specs.declared.fault.ReadFault.{ReadFault}
 use Rattle.ua_opening.specs.Message.{kind_at}
-use Rattle.ua_services.specs.Response.{responses, response_kind, response_read, response_kind_alone, kind_of_response, read_as_response, unread_by, ResponseStructure}
+use Rattle.ua_services.specs.Response.{responses, response_kind, response_read, response_kind_alone}
+use Rattle.ua_services.specs.Response.{kind_of_response, read_as_response, unread_by, ResponseStructure}
 use Rattle.ua_services.specs.declared.response.Response.{Response}
 use Rattle.ua_services.specs.declared.response.ResponseKind.{ResponseKind}
 use Rattle.ua_services.specs.declared.fault.ResponseFault.{ResponseFault}
@@ -34,7 +35,8 @@ kind_made k old new m e =
 pub skip_fails : (k : ResponseKind) (old new : List ℕ) (e : ReadFault) → Gives (skipped (kind_at responses most_levels (Some k))) old new (Err e)
     → Skips (Err (unread_by e)) (read_as_response k old)
 skip_fails k old new e h =
-    skips (Err (unread_by e)) (read_as_response k old) (kind_fails k old new e (image_err (λ (m : Response). tt) (kind_at responses most_levels (Some k)) old new e h))
+    skips (Err (unread_by e)) (read_as_response k old)
+    (kind_fails k old new e (image_err (λ (m : Response). tt) (kind_at responses most_levels (Some k)) old new e h))
 
 pub skip_left : (k : ResponseKind) (old new : List ℕ) → skipped (kind_at responses most_levels (Some k)) old ≡ Some (tt, new) → 0 < length new
     → Skips (Err Unreadable) (read_as_response k old)

@@ -385,7 +385,8 @@ fn skip_last<S: Source>(
     src: &mut S,
     kind: RequestKind,
 ) -> Result<RequestKind, RequestFault>
-    ensures { (result ≡ kind_alone (read_as_request kind (S.octets src.old))) ⊎ (result ≡ Err RequestFault.OutOfMemory) }
+    ensures { (result ≡ kind_alone (read_as_request kind (S.octets src.old)))
+        ⊎ (result ≡ Err RequestFault.OutOfMemory) }
 {
     let mut head = src.fork();
     if let Err(fault) = skip_kind(alloc, src, MOST_LEVELS, kind) {

@@ -7,7 +7,8 @@ ghost use Rattle.ua_builtin.specs.Format.{most_levels, Gives, StaysBehind};
 ghost use Rattle.ua_wire.specs.declared.fault.WriteFault.TheVariants.{NotWritable};
 ghost use Rattle.ua_opening.specs.Message.{IsBody, kind_at};
 ghost use Rattle.ua_services.specs.Response.{response, responses, response_kind, response_of_kind, unread_by};
-ghost use Rattle.ua_services.specs.Response.{read_as_response, response_kind_alone, own_answer, response_read, MisreadResponse};
+ghost use Rattle.ua_services.specs.Response.{read_as_response, response_kind_alone};
+ghost use Rattle.ua_services.specs.Response.{own_answer, response_read, MisreadResponse};
 
 use crate::fault::ResponseFault;
 use crate::kinds::{kind_of, message_of_kind, name_of, numbered};
@@ -235,7 +236,8 @@ fn unreadable(fault: ReadFault) -> ResponseFault
 // once.
 #[inline(never)]
 fn read_last<S: Source>(alloc: Global, src: &mut S) -> Result<Response, ResponseFault>
-    ensures { (result ≡ read_as_response ResponseKind.Read (S.octets src.old)) ⊎ (result ≡ Err ResponseFault.OutOfMemory) }
+    ensures { (result ≡ read_as_response ResponseKind.Read (S.octets src.old))
+        ⊎ (result ≡ Err ResponseFault.OutOfMemory) }
 {
     let mut message = ReadResponse::empty();
     if let Err(fault) = message.read_into(alloc, src, MOST_LEVELS) {

@@ -197,7 +197,8 @@ call_stage {A} {Does} {old} {new} {before} {after} result call = record {
       );
 }
 
-asks_stage : {request : Request} {old new : Client} {before after : LineState} (result : Result Reply QuestionFault) → AsksRequest request old new before after result
+asks_stage : {request : Request} {old new : Client} {before after : LineState} (result : Result Reply QuestionFault)
+    → AsksRequest request old new before after result
     → Stage old.is_done new.is_done before.failures after.failures result
 asks_stage result (inl nothing) = idle result (ap (λ (x : Client). x.is_done) nothing.1) (ap (λ (s : LineState). s.failures) nothing.2)
     (ap tells_line nothing.0)
@@ -264,7 +265,8 @@ under_stage : {M O : Type 0} {gives : M → ℤ → M → Type 0} {contents : O 
 under_stage {contents = contents} {style = style} {question = question} {old = old} {new = new} {before = before} {after = after} {had = had} {have = have}
     result under =
     subst (λ (r : Result Verdict QuestionFault). Stage old.is_done new.is_done before.failures after.failures r) (sym under.result_is)
-    (joined old.is_done under.asked.is_done new.is_done under.printed under.ended (first_fault_of under.printed under.ended) (first_joins under.printed under.ended)
+    (joined old.is_done under.asked.is_done new.is_done under.printed under.ended (first_fault_of under.printed under.ended)
+    (first_joins under.printed under.ended)
     (handed under.called under.printed (answers_hands contents style question had have under.called under.printed under.prints)
     (asks_stage under.called under.asks))
     (handed under.ends.called under.ended (expects_hands under.ends.called under.ended under.ends.expects) (call_stage under.ends.called under.ends.calls)))

@@ -39,8 +39,8 @@ first_fault_of (Err fault) other = Err fault
 -- ---- opening
 
 -- an opening of a client to a server, by this URL, and its outcome
-pub record OpensAt (limits : Limits) (url : Option (List ℕ)) (moment : DateTime) (before after : LineState) (result : Result Client QuestionFault) : Type
-    0 where
+pub record OpensAt (limits : Limits) (url : Option (List ℕ)) (moment : DateTime) (before after : LineState)
+    (result : Result Client QuestionFault) : Type 0 where
   pub answer : Result Client ClientFault
   pub opens : OpensNothing before.traffic after.traffic answer ⊎ OpensClient limits url moment before.traffic after.traffic answer
   pub fails : FailsAsTold answer before after
@@ -81,8 +81,8 @@ AsksRequest request old new before after result = ((result ≡ Err NoMemory) × 
 -- a session is begun by the token policy with this PolicyId, or not: a client that may be called
 -- does this, and may be called again except after a fault after which it is done; one that is done
 -- returns `Closed` and changes nothing
-pub record BeginsSessionBy (policy_id : Option (List ℕ)) (moment : DateTime) (old new : Client) (before after : LineState) (result : Result NodeId NotBegun) : Type
-    0 where
+pub record BeginsSessionBy (policy_id : Option (List ℕ)) (moment : DateTime) (old new : Client) (before after : LineState)
+    (result : Result NodeId NotBegun) : Type 0 where
   pub answer : Result NodeId SessionFault
   pub does : IsReady old → TriesSession policy_id moment (connection_of old) (connection_of new) before.traffic after.traffic answer
       × IsLeft (session_alone answer) new

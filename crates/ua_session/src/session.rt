@@ -6,7 +6,8 @@ ghost use Rattle.ua_session.specs.Line.{LineFailedConversing};
 ghost use Rattle.ua_session.specs.Printed.{AreAnswerLines, HasAdded, LeavesLines};
 ghost use Rattle.ua_session.specs.Question.{request_of_question};
 ghost use Rattle.ua_session.specs.Session.{AsksByPolicy, AsksInSession, AsksUnder, EndsSession, EndsUnbegun};
-ghost use Rattle.ua_session.specs.Session.{FindsPolicy, RunsQuestion, first_call, handle_behind_question, handle_unbegun};
+ghost use Rattle.ua_session.specs.Session.{FindsPolicy, RunsQuestion, first_call};
+ghost use Rattle.ua_session.specs.Session.{handle_behind_question, handle_unbegun};
 ghost use Rattle.ua_session.specs.Steps.{AsksRequest};
 
 use crate::answer::expect_done;

@@ -3,7 +3,8 @@
 ghost use Rattle.std.specs.Prelude.{◌≡◌, IfOk, IsTrue};
 ghost use Rattle.ua_wire.specs.Counted.{text};
 ghost use Rattle.ua_client.specs.Client.{IsReady};
-ghost use Rattle.ua_session.specs.Steps.{BeginsSessionBy, CallsRequest, ClosesClient, OpensServer, first_fault_of, told};
+ghost use Rattle.ua_session.specs.Steps.{BeginsSessionBy, CallsRequest, ClosesClient};
+ghost use Rattle.ua_session.specs.Steps.{OpensServer, first_fault_of, told};
 
 use crate::fault::{NotBegun, QuestionFault};
 use std::alloc::Global;

@@ -59,7 +59,12 @@ announces null b e = record { tag = 0; rest = []; begins = e.1; announced = refl
 announces (one s) b e =
     let j = e.1 in
     let k = kind_within s j.1 j.4 in
-    record { tag = kind_of_scalar s; rest = j.1; begins = behind_octet (kind_of_scalar s) b j.0 j.1 j.2 j.3; announced = scalar_announced (kind_of_scalar s) k.0 k.1 }
+    record {
+      tag = kind_of_scalar s;
+      rest = j.1;
+      begins = behind_octet (kind_of_scalar s) b j.0 j.1 j.2 j.3;
+      announced = scalar_announced (kind_of_scalar s) k.0 k.1;
+    }
 announces (absent k ds) b e =
     let f = e.2 in
     let j = e.3 in

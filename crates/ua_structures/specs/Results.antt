@@ -17,8 +17,8 @@ AddsArray results old new = new ≡ old ++ (array data_value_format).canonical r
 
 -- a header, results and diagnostics follow what was there, in the order of a ReadResponse's fields
 -- (OPC 10000-4, 5.11.2)
-pub record AddsResponse (adds : List ℕ → List ℕ → Type 0) (header : ResponseHeader) (diagnostics : Option (List DiagnosticInfo)) (old new : List ℕ) : Type
-    0 where
+pub record AddsResponse (adds : List ℕ → List ℕ → Type 0) (header : ResponseHeader) (diagnostics : Option (List DiagnosticInfo))
+    (old new : List ℕ) : Type 0 where
   -- what follows the results
   pub behind : List ℕ
   pub results : adds (old ++ response_header.canonical header) behind

@@ -13,7 +13,8 @@ use Rattle.ua_nodes.specs.NodeFile.{has_short_fields, NamesId}
 use Rattle.ua_nodes.proofs.Pieces.{pieces, at_least_one}
 use Rattle.ua_variant.specs.Data.{VariantData}
 use Rattle.ua_variant.specs.View.{variant_of}
-use Rattle.ua_texts.specs.Script.{AsksNothing, GivesIdOfScriptField, GivesStep, GivesValue, AsksRead, AsksWrite, IsCutBehindFirst, range_denoted, range_of, typed_denoted}
+use Rattle.ua_texts.specs.Script.{AsksNothing, GivesIdOfScriptField, GivesStep, GivesValue, AsksRead}
+use Rattle.ua_texts.specs.Script.{AsksWrite, IsCutBehindFirst, range_denoted, range_of, typed_denoted}
 use Rattle.ua_texts.specs.ScriptLineFault.{script_id_fault}
 use Rattle.ua_texts.specs.declared.fault.ScriptLineFault.{ScriptLineFault}
 use Rattle.ua_texts.specs.declared.fault.ScriptLineFault.TheVariants.{Bad, NoMemory}

@@ -66,7 +66,8 @@ abbrev mutual
   IsPlainTyped names within null text = text ≡ codes "Null"
   IsPlainTyped names within (one s) text = (value : List ℕ) × (text ≡ type_name (kind_of_scalar s) ++ (codes " " ++ value)) × IsPlainScalar names within s value
   IsPlainTyped names within (absent k ds) text = text ≡ array_type_text k ds ++ codes " null"
-  IsPlainTyped names within (many k ss ds) text = (texts : List (List ℕ)) × (text ≡ array_type_text k ds ++ (codes " " ++ parted texts)) × ArePlain names ss texts
+  IsPlainTyped names within (many k ss ds) text = (texts : List (List ℕ)) × (text ≡ array_type_text k ds ++ (codes " " ++ parted texts))
+      × ArePlain names ss texts
 
   -- a scalar: a Variant with its type in round brackets, a DataValue and a DiagnosticInfo by their
   -- fields in curly ones

@@ -139,7 +139,8 @@ fn put_string(line: &mut Writer, text: &UaString) -> Result<(), AllocError>
 
 /// Puts a ByteString in base64, or null.
 fn put_base64(alloc: Global, line: &mut Writer, octets: &UaBytes) -> Result<(), AllocError>
-    ensures { PutsTokens result line.old line.new (json_tokens (text_or_null (option_map (encode_of standard) octets.now))) }
+    ensures { PutsTokens result line.old line.new
+        (json_tokens (text_or_null (option_map (encode_of standard) octets.now))) }
 {
     match octets.as_octets() {
         Some(octets) => line.string(&STANDARD.encode(alloc, octets)?),
@@ -280,7 +281,8 @@ fn put_items(alloc: Global, line: &mut Writer, items: &Option<Scalars>) -> Resul
 
 /// Puts the elements of an array.
 fn put_list(alloc: Global, line: &mut Writer, elements: &Elements) -> Result<(), AllocError>
-    ensures { PutsTokens result line.old line.new (json_tokens (json_array (map scalar_json (elements_of elements.now)))) }
+    ensures { PutsTokens result line.old line.new
+        (json_tokens (json_array (map scalar_json (elements_of elements.now)))) }
 {
     line.begin_array()?;
     put_elements(alloc, line, elements)?;

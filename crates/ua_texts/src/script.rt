@@ -2,7 +2,8 @@
 
 ghost use Rattle.std.specs.Prelude.{◌≡◌, ◌∷◌, [], codes, IfOk, IfErr};
 ghost use Rattle.ua_nodes.specs.NodeFile.{fields};
-ghost use Rattle.ua_texts.specs.Script.{AsksFor, GivesIdOfScriptField, GivesStep, GivesValue, IsCutBehindFirst, RefusesScriptLines, range_of};
+ghost use Rattle.ua_texts.specs.Script.{AsksFor, GivesIdOfScriptField, GivesStep, GivesValue};
+ghost use Rattle.ua_texts.specs.Script.{IsCutBehindFirst, RefusesScriptLines, range_of};
 
 use crate::fault::{ScriptFault, ScriptLineFault};
 use std::alloc::{AllocError, Global};

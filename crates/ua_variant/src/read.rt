@@ -469,7 +469,8 @@ fn read_boxed_array<S: Source>(
     requires levels { depth ≤ most_levels }
     requires low { 23 ≤ kind }
     requires high { kind ≤ 24 }
-    ensures exact { Gives (variant_array_at (scalars_at depth) kind flagged) (S.octets src.old) (S.octets src.new) result }
+    ensures exact { Gives (variant_array_at (scalars_at depth) kind flagged) (S.octets src.old)
+        (S.octets src.new) result }
     ensures behind { StaysBehind (S.octets src.old) (S.octets src.new) }
 {
     let count = u32::read_value(alloc, src, 0)?;

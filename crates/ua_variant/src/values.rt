@@ -3,7 +3,8 @@
 ghost use Rattle.std.specs.Prelude.{◌≡◌, ◌↔◌, None, length, map, option_map, IfOk, IfSome};
 ghost use Rattle.ua_variant.specs.Data.{bare, leaf, null};
 ghost use Rattle.ua_variant.specs.Packed.{packed_leaves};
-ghost use Rattle.ua_variant.specs.View.{data_value_of, elements_of, no_data_fields, or_bare, or_null, scalar_of, variant_of};
+ghost use Rattle.ua_variant.specs.View.{data_value_of, elements_of, no_data_fields};
+ghost use Rattle.ua_variant.specs.View.{or_bare, or_null, scalar_of, variant_of};
 
 use crate::boxed::Boxed;
 use crate::packed::{Pack, Packed};

@@ -34,7 +34,8 @@ pub fn accept_by_reason(
     chunk: Chunk,
 ) -> Result<Option<Delivered>, AssembleFault>
     ensures faults { (cs : List Chunk) → Stands assembler.old cs →
-        let reason = chunk_refusal (octet_limit assembler.old) (chunk_limit assembler.old) (last_number assembler.old) cs
+        let reason = chunk_refusal (octet_limit assembler.old) (chunk_limit assembler.old) (last_number assembler.old)
+        cs
         chunk in
         MatchResult result (λ _. reason ≡ None) (IsFor reason) }
 {

@@ -229,7 +229,8 @@ impl ClientChannel {
             → AnswersFor (first_reason (renewing_reasons (received frames) (asked_in asks))) result }
         ensures renews { (asks : List Placed) (octets : List ℕ) (frames : List Frame) (rest : List ℕ)
             → ClientStands self.old asks octets frames rest
-            → IfOk result (λ r. IsRenewalWith (received frames) (asked_in asks) (client_next self.old) moment r.0 r.1.items
+            → IfOk result (λ r. IsRenewalWith (received frames) (asked_in asks) (client_next self.old) moment r.0
+            r.1.items
             (client_next self.new)) }
         ensures stands { (asks : List Placed) (octets : List ℕ) (frames : List Frame) (rest : List ℕ)
             → ClientStands self.old asks octets frames rest
@@ -254,7 +255,8 @@ impl ClientChannel {
             → AnswersFor (first_reason (closing_reasons (received frames))) result }
         ensures closes { (asks : List Placed) (octets : List ℕ) (frames : List Frame) (rest : List ℕ)
             → ClientStands self.old asks octets frames rest
-            → IfOk result (λ out. IsCloseWith (received frames) (asked_in asks) (client_next self.old) moment out.items) }
+            → IfOk result
+            (λ out. IsCloseWith (received frames) (asked_in asks) (client_next self.old) moment out.items) }
         ensures done { OnOk result (IsClientDone self.new) }
         ensures unchanged { OnErr result (self.new ≡ self.old) }
         ensures same { SameClient self.old self.new }
@@ -273,7 +275,8 @@ impl ClientChannel {
             → AnswersFor (first_reason (closing_reasons (received frames))) result }
         ensures closes { (asks : List Placed) (octets : List ℕ) (frames : List Frame) (rest : List ℕ)
             → ClientStands self.now asks octets frames rest
-            → IfOk result (λ out. IsCloseWith (received frames) (asked_in asks) (client_next self.now) moment out.items) }
+            → IfOk result
+            (λ out. IsCloseWith (received frames) (asked_in asks) (client_next self.now) moment out.items) }
     {
         match &self.end.phase {
             Phase::Open(talking) => {

@@ -26,8 +26,8 @@ beginning_by limits first moment = record { limits = limits; channel = channel; 
 
 -- what an exchange needs of the clauses of `converse` for the transcript of these operations, of
 -- both ends with these limits, for this address, over services in this state
-pub record ConversesBy (limits : Limits) (address : Option (List ℕ)) (first : State) (moment : DateTime) (turns : List Turn) (t : ConversationLog) : Type
-    0 where
+pub record ConversesBy (limits : Limits) (address : Option (List ℕ)) (first : State) (moment : DateTime) (turns : List Turn)
+    (t : ConversationLog) : Type 0 where
   pub down : t.down.items ≡ server_output (beginning_by limits first moment) t.up.items
   pub closed : OnOk t.outcome (t.stage ≡ Ended Closed)
   pub sent : OnOk t.outcome (t.up.items ≡ conversation_octets limits limits address channel moment (served_turns turns))

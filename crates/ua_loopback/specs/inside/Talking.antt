@@ -96,7 +96,8 @@ pub record StaysTalking (b : Beginning) (limits : Limits) (url : Option (List �
       now
 
 -- a client opened its channel over a transport to such a server
-pub record HasOpenedTo (b : Beginning) (limits : Limits) (url : Option (List ℕ)) (moment : DateTime) (x : Connection) (first now : Option Traffic) : Type 0 where
+pub record HasOpenedTo (b : Beginning) (limits : Limits) (url : Option (List ℕ)) (moment : DateTime) (x : Connection)
+    (first now : Option Traffic) : Type 0 where
   pub channel : ClientChannel
   pub opened : ClientPlace
   pub opens : IsOpened channel opened.octets

@@ -10,7 +10,8 @@ returns-in_err-print_last-clause-stopped g c = λ content told s.
     let asked = c.args.asked.now in
     let known = g.I.Read.remaining c.args.source.now in
     let after = g.I.Read.remaining c.read_piece.new.source in
-    let read : ReadsIntoFragment (Some c.in-Some.n) known after c.read_piece.new.piece = subst (λ (n : Option ℕ). ReadsIntoFragment n known after c.read_piece.new.piece) c.in-Some.is
+    let read : ReadsIntoFragment (Some c.in-Some.n) known after c.read_piece.new.piece =
+    subst (λ (n : Option ℕ). ReadsIntoFragment n known after c.read_piece.new.piece) c.in-Some.is
     c.in_ok-n.ensures.read in
     let none = nothing_read c.in-Some.n known after c.read_piece.new.piece read c.if-n-eq0.true
     (let was = c.requires.room in let same = c.read_piece.auto.piece in omega (arith, was, same)) in
@@ -24,7 +25,8 @@ returns-then-n-eq0-clause-prints g c = λ content told s.
     let asked = c.args.asked.now in
     let known = g.I.Read.remaining c.args.source.now in
     let after = g.I.Read.remaining c.read_piece.new.source in
-    let read : ReadsIntoFragment (Some c.in-Some.n) known after c.read_piece.new.piece = subst (λ (n : Option ℕ). ReadsIntoFragment n known after c.read_piece.new.piece) c.in-Some.is
+    let read : ReadsIntoFragment (Some c.in-Some.n) known after c.read_piece.new.piece =
+    subst (λ (n : Option ℕ). ReadsIntoFragment n known after c.read_piece.new.piece) c.in-Some.is
     c.in_ok-n.ensures.read in
     let none = nothing_read c.in-Some.n known after c.read_piece.new.piece read c.if-n-eq0.true
     (let was = c.requires.room in let same = c.read_piece.auto.piece in omega (arith, was, same)) in
@@ -38,7 +40,8 @@ returns-in_err-push_piece-clause-stopped g c = λ content told s.
     let asked = c.args.asked.now in
     let known = g.I.Read.remaining c.args.source.now in
     let after = g.I.Read.remaining c.read_piece.new.source in
-    let read : ReadsIntoFragment (Some c.in-Some.n) known after c.read_piece.new.piece = subst (λ (n : Option ℕ). ReadsIntoFragment n known after c.read_piece.new.piece) c.in-Some.is
+    let read : ReadsIntoFragment (Some c.in-Some.n) known after c.read_piece.new.piece =
+    subst (λ (n : Option ℕ). ReadsIntoFragment n known after c.read_piece.new.piece) c.in-Some.is
     c.in_ok-n.ensures.read in
     let p = err_from_is_err_and c.from_residual-in_err-push_piece.result c.from_residual-in_err-push_piece.ensures.1 in
     rw p.1 (stops_next asked.hex asked.file content known c.in_err-push_piece.field-0.0 p.0 p.2
@@ -51,7 +54,8 @@ returns-then-done-clause-prints g c = λ content told s.
     let known = g.I.Read.remaining c.args.source.now in
     let after = g.I.Read.remaining c.read_piece.new.source in
     let piece = take c.in-Some.n c.read_piece.new.piece in
-    let read : ReadsIntoFragment (Some c.in-Some.n) known after c.read_piece.new.piece = subst (λ (n : Option ℕ). ReadsIntoFragment n known after c.read_piece.new.piece) c.in-Some.is
+    let read : ReadsIntoFragment (Some c.in-Some.n) known after c.read_piece.new.piece =
+    subst (λ (n : Option ℕ). ReadsIntoFragment n known after c.read_piece.new.piece) c.in-Some.is
     c.in_ok-n.ensures.read in
     prints_refused _ asked.hex asked.options c.push_piece.new.digits.half c.push_piece.new.dissector content piece told (string_bytes c.clear.new.self)
     (string_bytes c.push_piece.new.text)

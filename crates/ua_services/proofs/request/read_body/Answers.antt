@@ -18,5 +18,6 @@ returns-in-Read g c =
 
 pub returns-in_default : goal.returns-in_default
 returns-in_default g c =
-    read_behind c.read_other.result (request_read (g.S.Source.octets c.args.src.now)) (read_as_request c.in_ok-kind.kind (g.S.Source.octets c.body_kind.new.src))
+    read_behind c.read_other.result (request_read (g.S.Source.octets c.args.src.now))
+    (read_as_request c.in_ok-kind.kind (g.S.Source.octets c.body_kind.new.src))
     c.in_ok-kind.ensures.found c.read_other.ensures

@@ -14,7 +14,7 @@ returns-in-Err c =
     let h = took-as c.args.self.now c.args.moment c.take-found.new.self c.untaken.result.now (Err c.in-Err.fault) c.untaken.ensures.value
     c.in-Err.ensures.answers in
     record {
-      listens = subst (λ (f : ClientFault). Listens c.args.self.now new c.args.moment (Err f)) (sym c.from_take.ensures)
+      listens = subst (λ (f : ClientFault). Listens c.args.self.now new c.args.moment (Err f)) (sym c.of_take.ensures)
           (listens-fault c.args.self.now new c.args.moment c.in-Err.fault (record { same = c.take-found.ensures.same; next = c.take-found.ensures.next }) refl
           h);
     }

@@ -1,5 +1,5 @@
 use Rattle.std.proofs.Common.{sym, ◌∙◌}
-use Rattle.ua_program.proofs.Turns.{turns-added, turns_to-nil}
+use Rattle.ua_program.proofs.ScriptTurns.{turns-added, turns_to-nil}
 use Rattle.ua_program.proofs.script.lines.script_turns.Goals as goal
 
 pub loop-index-init : goal.loop-index-init

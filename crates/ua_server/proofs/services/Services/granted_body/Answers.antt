@@ -30,7 +30,8 @@ returns-clause-body c =
     header d c.append_front.new.out.items c.append_read_response.new.out.items)
     c.null.ensures c.in_ok-append_read_response.ensures.ok in
     let parts = written_parts c.args.most header nodes items stamps c.args.moment c.append_front.new.out.items c.append_read_response.new.out.items id adds in
-    let given : values_given c.args.self.now c.args.moment c.args.request.now ≡ ReadMessage (read_response_of header (read_answers nodes items stamps c.args.moment)) =
+    let given : values_given c.args.self.now c.args.moment c.args.request.now
+    ≡ ReadMessage (read_response_of header (read_answers nodes items stamps c.args.moment)) =
     search rules in
     subst (λ (r : Response). IsBodyWithin c.args.most (response.canonical r) c.append_read_response.new.out.items) (sym given)
     (written_within c.args.most header nodes items stamps c.args.moment parts.0 c.append_read_response.new.out.items parts.1 parts.2)

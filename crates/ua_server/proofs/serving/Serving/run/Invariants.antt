@@ -9,7 +9,8 @@ use Rattle.ua_server.proofs.serving.Serving.run.Given as goal
 abbrev pub invariant-loop-reads : goal.invariant-loop-reads
 invariant-loop-reads g l = record {
   room : 0 < length l.buffer;
-  so_far : (limits : Limits) (channel : ℕ) (first : _) → OwesNothing g.A.Application.changes l.fn.self limits channel first [] [] [] (l.fn.services, l.fn.application)
+  so_far : (limits : Limits) (channel : ℕ) (first : _) → OwesNothing g.A.Application.changes l.fn.self limits channel first [] [] []
+      (l.fn.services, l.fn.application)
       → Served g.A.Application.changes limits channel first g.M.Moments.gives g.W.Watch.notes (l.fn.moments, l.fn.watch) (g.L.Line.traffic l.fn.line) l._reads
       (l.moments, l.watch) (g.L.Line.traffic l.line) l.self (l.services, l.application);
   same : g.L.Line.failures l.line ≡ g.L.Line.failures l.fn.line;

@@ -39,7 +39,8 @@ returns-clause-turns g c = λ limits channel first read written given k.
     (c.step.new.moments, c.step.new.watch) (g.L.Line.traffic c.args.line.now) (g.L.Line.traffic c.say.new.line) c.args.piece.now read written given
     (c.step.new.services, c.step.new.application) c.in-Ok.step c.step.new.self c.say.new.self c.in-Err-say.fault
     (c.in-Ok.ensures.steps limits channel first read written given k)
-    (subst (λ (o : List ℕ). WritesCounted o (Err c.in-Err-say.fault) c.step.new.self c.say.new.self (g.L.Line.traffic c.args.line.now) (g.L.Line.traffic c.say.new.line))
+    (subst (λ (o : List ℕ). WritesCounted o (Err c.in-Err-say.fault) c.step.new.self c.say.new.self (g.L.Line.traffic c.args.line.now)
+    (g.L.Line.traffic c.say.new.line))
     c.deref.ensures.value c.in-Err-say.ensures.says)
 
 pub returns-clause-failed : goal.returns-clause-failed

@@ -14,6 +14,7 @@ pub returns : goal.returns
 unfolding leaf_at least_octets double_bits
 returns c =
     record {
-      read = made_first 8 double_from_bits double c.args.octets.now (double_from_bits c.read_u64.result) c.requires.whole (λ i. omega (arith, c.type_inv.octets i))
+      read = made_first 8 double_from_bits double c.args.octets.now (double_from_bits c.read_u64.result) c.requires.whole
+          (λ i. omega (arith, c.type_inv.octets i))
           (ap double_from_bits c.read_u64.ensures);
     }

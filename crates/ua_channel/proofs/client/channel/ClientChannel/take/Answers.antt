@@ -10,7 +10,8 @@ use Rattle.ua_channel.proofs.client.channel.ClientChannel.take.Goals as goal
 
 pub returns-in-Ok-clause-answers : goal.returns-in-Ok-clause-answers
 returns-in-Ok-clause-answers c = λ asks octets told g.
-    subst (λ (a : Result ClientEvent ClientTakeFault). ClientAnswers c.args.moment c.args.piece.now (outcome_counted c.go_on-size.result.size a) c.go_on-size.new.self
+    subst (λ (a : Result ClientEvent ClientTakeFault). ClientAnswers c.args.moment c.args.piece.now (outcome_counted c.go_on-size.result.size a)
+    c.go_on-size.new.self
     asks octets told) c.in-Ok.is (c.go_on-size.ensures.answers asks octets told g)
 
 pub returns-in-Ok-clause-parts : goal.returns-in-Ok-clause-parts
@@ -22,7 +23,8 @@ returns-in-Ok-clause-parts c = λ asks octets told g.
 pub returns-in-Err-clause-answers : goal.returns-in-Err-clause-answers
 returns-in-Err-clause-answers c = λ asks octets told g.
     answers_bound c.args.moment c.args.piece.now c.go_on-size.new.self _ c.args.self.now.end.bound asks octets told c.in-Err.fault refl
-    (subst (λ (a : Result ClientEvent ClientTakeFault). ClientAnswers c.args.moment c.args.piece.now (outcome_counted c.go_on-size.result.size a) c.go_on-size.new.self
+    (subst (λ (a : Result ClientEvent ClientTakeFault). ClientAnswers c.args.moment c.args.piece.now (outcome_counted c.go_on-size.result.size a)
+    c.go_on-size.new.self
     asks octets told) c.in-Err.is (c.go_on-size.ensures.answers asks octets told g))
 
 pub returns-in-Err-clause-starves : goal.returns-in-Err-clause-starves
