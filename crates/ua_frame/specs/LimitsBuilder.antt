@@ -1,5 +1,5 @@
 -- Limits that are named field by field.
-use Rattle.std.specs.Prelude.{◌≡◌, ◌<◌}
+use Rattle.std.specs.Prelude.{◌≡◌, ◌<◌, ◌≤◌, ⊤}
 use Rattle.ua_frame.specs.declared.limits.Limits.{Limits}
 use Rattle.ua_frame.specs.declared.limits_builder.LimitsBuilder.{LimitsBuilder}
 use Rattle.ua_frame.specs.declared.limits_builder.LimitsFault.{LimitsFault}
@@ -29,3 +29,10 @@ IsBelow fields ReceiveBufferSize = fields.receive_buffer_size < 8192
 IsBelow fields SendBufferSize = fields.send_buffer_size < 8192
 IsBelow fields MaxMessageSize = fields.max_message_size < 1
 IsBelow fields MaxChunkCount = fields.max_chunk_count < 1
+
+-- no field that stands before the one that the fault names is below its minimum
+abbrev pub AreAllowedBefore : LimitsBuilder → LimitsFault → Type 0
+AreAllowedBefore fields ReceiveBufferSize = ⊤
+AreAllowedBefore fields SendBufferSize = 8192 ≤ fields.receive_buffer_size
+AreAllowedBefore fields MaxMessageSize = (8192 ≤ fields.receive_buffer_size) × (8192 ≤ fields.send_buffer_size)
+AreAllowedBefore fields MaxChunkCount = (8192 ≤ fields.receive_buffer_size) × (8192 ≤ fields.send_buffer_size) × (1 ≤ fields.max_message_size)

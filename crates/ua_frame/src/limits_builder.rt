@@ -1,7 +1,7 @@
 //! Limits, field by field.
 
 ghost use Rattle.std.specs.Prelude.{◌≡◌, IfErr, IfOk};
-ghost use Rattle.ua_frame.specs.LimitsBuilder.{IsBelow, IsBuiltFrom};
+ghost use Rattle.ua_frame.specs.LimitsBuilder.{AreAllowedBefore, IsBelow, IsBuiltFrom};
 
 use crate::limits::{LEAST_BUFFER_SIZE, Limits};
 use thiserror::Error;
@@ -65,6 +65,7 @@ impl LimitsBuilder {
     pub fn build(self) -> Result<Limits, LimitsFault>
         ensures built { IfOk result (IsBuiltFrom self) }
         ensures below { IfErr result (IsBelow self) }
+        ensures first { IfErr result (AreAllowedBefore self) }
     {
         if self.receive_buffer_size < LEAST_BUFFER_SIZE {
             return Err(LimitsFault::ReceiveBufferSize);
