@@ -5,71 +5,19 @@ ghost use Rattle.std.specs.Prelude.{◌≡◌, not, IfOk};
 ghost use Rattle.ua_channel.specs.ClientTold.ClientTold.{Answered};
 ghost use Rattle.ua_judge.specs.Kinds.{encoding_of, is_fit_answer, is_misfit};
 ghost use Rattle.ua_judge.specs.Kinds.{is_reply_to, kind_asked_under, request_kind_of};
-ghost use Rattle.ua_services.specs.Request.{request_kind_numbered as kind_numbered};
-ghost use Rattle.ua_services.specs.Response.{own_answer, responses};
 
 use crate::named::Named;
 use std::alloc::{AllocError, Global};
 use ua_builtin::{MOST_LEVELS, NodeId, Octets, ReadFault, Source, Wire};
 use ua_chunk::Message;
 use ua_opening::standard_number;
-use ua_services::{RequestKind, ResponseKind, requests, responses};
-
-/// The kind whose encoding has a number, if there is one.
-macro_rules! numbered {
-    ($all:ident $kinds:ident [$($kind:ident($held:ident) = $of:literal,)+] $number:expr) => {
-        match $number {
-            $($of => Some($kinds::$kind),)+
-            _ => None,
-        }
-    };
-}
-
-/// The number of the encoding of a kind.
-macro_rules! number_of {
-    ($all:ident $kinds:ident [$($kind:ident($held:ident) = $of:literal,)+] $of_kind:expr) => {
-        match $of_kind {
-            $($kinds::$kind => $of,)+
-        }
-    };
-}
-
-/// The kind of response of the same name.
-macro_rules! named_alike {
-    ($all:ident $kinds:ident [$($kind:ident($held:ident) = $of:literal,)+] $request:expr) => {
-        match $request {
-            $($kinds::$kind => ResponseKind::$kind,)+
-        }
-    };
-}
-
-/// The kind of request whose encoding has a number.
-fn kind_numbered(number: u32) -> Option<RequestKind>
-    ensures { result ≡ kind_numbered number }
-{
-    requests!(numbered, number)
-}
-
-/// The kind of response that a request asks for.
-fn own_answer(kind: RequestKind) -> ResponseKind
-    ensures { result ≡ own_answer kind }
-{
-    requests!(named_alike, kind)
-}
-
-/// The number of the encoding of a response.
-fn response_number(kind: ResponseKind) -> u32
-    ensures { result ≡ responses.number kind }
-{
-    responses!(number_of, kind)
-}
+use ua_services::{RequestKind, ResponseKind};
 
 /// Whether an encoding is that of the response to a request of this kind, or of a ServiceFault.
 fn is_reply_to(kind: RequestKind, number: u32) -> bool
     ensures { result ≡ is_reply_to kind number }
 {
-    number == response_number(own_answer(kind))
-        || number == response_number(ResponseKind::ServiceFault)
+    number == kind.own_answer().encoding() || number == ResponseKind::ServiceFault.encoding()
 }
 
 /// The number of the encoding that a body begins with.
@@ -88,7 +36,7 @@ pub fn request_kind_of(alloc: Global, body: &[u8]) -> Result<Option<RequestKind>
     ensures { IfOk result (λ kind. kind ≡ request_kind_of body.now) }
 {
     match encoding_of(alloc, &mut Octets::new(body))? {
-        Some(number) => Ok(kind_numbered(number)),
+        Some(number) => Ok(RequestKind::from_encoding(number)),
         None => Ok(None),
     }
 }

@@ -44,6 +44,15 @@ macro_rules! numbered {
     };
 }
 
+/// The number of the encoding of a kind.
+macro_rules! number_of {
+    ($all:ident $kinds:ident [$($kind:ident($held:ident) = $of:literal,)+] $of_kind:expr) => {
+        match $of_kind {
+            $($kinds::$kind => $of,)+
+        }
+    };
+}
+
 /// The message of a kind, of the structure that is read, after what is known of that kind.
 macro_rules! message_of_kind {
     ($all:ident $kinds:ident [$($kind:ident($held:ident) = $of:literal,)+] $of_kind:expr, $known:ident, $read:expr) => {
@@ -60,4 +69,5 @@ macro_rules! message_of_kind {
 pub(crate) use kind_of;
 pub(crate) use message_of_kind;
 pub(crate) use name_of;
+pub(crate) use number_of;
 pub(crate) use numbered;

@@ -49,13 +49,21 @@ pub enum RequestKind {
 
 impl RequestKind {
     ghost use Rattle.std.specs.Prelude.{◌≡◌};
-    ghost use Rattle.ua_services.specs.Request.{request_kind_name};
+    ghost use Rattle.ua_services.specs.Request.{request_kind_name, request_kind_numbered};
 
     /// The name of the structure of a request of this kind, such as `ReadRequest`.
     pub fn name(self) -> &'static str
         ensures { result.now ≡ request_kind_name self }
     {
         requests!(name_of, self)
+    }
+
+    /// The kind of request whose encoding has this number in namespace 0, if there is one
+    /// (OPC 10000-6, A.3).
+    pub fn from_encoding(number: u32) -> Option<RequestKind>
+        ensures { result ≡ request_kind_numbered number }
+    {
+        requests!(numbered, number)
     }
 }
 
@@ -127,7 +135,7 @@ impl Request {
 fn announced_kind(id: &NodeId) -> Option<RequestKind>
     ensures { result ≡ request_kind id.now }
 {
-    requests!(numbered, standard_number(id)?)
+    RequestKind::from_encoding(standard_number(id)?)
 }
 
 // Shows that a request of a kind is read as its structure is.

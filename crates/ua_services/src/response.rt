@@ -8,10 +8,10 @@ ghost use Rattle.ua_wire.specs.declared.fault.WriteFault.TheVariants.{NotWritabl
 ghost use Rattle.ua_opening.specs.Message.{IsBody, kind_at};
 ghost use Rattle.ua_services.specs.Response.{response, responses, response_kind, response_of_kind, unread_by};
 ghost use Rattle.ua_services.specs.Response.{read_as_response, response_kind_alone};
-ghost use Rattle.ua_services.specs.Response.{own_answer, response_read, MisreadResponse};
+ghost use Rattle.ua_services.specs.Response.{response_read, MisreadResponse};
 
 use crate::fault::ResponseFault;
-use crate::kinds::{kind_of, message_of_kind, name_of, numbered};
+use crate::kinds::{kind_of, message_of_kind, name_of, number_of, numbered};
 use crate::request::RequestKind;
 use crate::{by_kind, requests, responses};
 use std::alloc::{AllocError, Global};
@@ -52,13 +52,20 @@ pub enum ResponseKind {
 
 impl ResponseKind {
     ghost use Rattle.std.specs.Prelude.{◌≡◌};
-    ghost use Rattle.ua_services.specs.Response.{response_kind_name};
+    ghost use Rattle.ua_services.specs.Response.{response_kind_name, responses};
 
     /// The name of the structure of a response of this kind, such as `ReadResponse`.
     pub fn name(self) -> &'static str
         ensures { result.now ≡ response_kind_name self }
     {
         responses!(name_of, self)
+    }
+
+    /// The number of the encoding of this kind in namespace 0 (OPC 10000-6, A.3).
+    pub fn encoding(self) -> u32
+        ensures { result ≡ responses.number self }
+    {
+        responses!(number_of, self)
     }
 }
 
@@ -135,7 +142,7 @@ impl Response {
         ensures { IsTrue result ↔ Answers (kind_of_response self.now) request }
     {
         let kind = self.kind();
-        kind == ResponseKind::ServiceFault || kind == own_answer(request)
+        kind == ResponseKind::ServiceFault || kind == request.own_answer()
     }
 }
 
@@ -148,11 +155,16 @@ macro_rules! named_alike {
     };
 }
 
-// The kind of response that a request asks for.
-fn own_answer(request: RequestKind) -> ResponseKind
-    ensures { result ≡ own_answer request }
-{
-    requests!(named_alike, request)
+impl RequestKind {
+    ghost use Rattle.std.specs.Prelude.{◌≡◌};
+    ghost use Rattle.ua_services.specs.Response.{own_answer};
+
+    /// The kind of response that a request of this kind asks for: the one of its name.
+    pub fn own_answer(self) -> ResponseKind
+        ensures { result ≡ own_answer self }
+    {
+        requests!(named_alike, self)
+    }
 }
 
 // The response that a NodeId announces.
