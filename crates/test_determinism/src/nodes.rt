@@ -94,7 +94,6 @@ pub fn write_items_twice(
 /// Adds the answers to the same items of two tables of the same nodes after the same bytes: where
 /// both add them, the bytes are one.
 pub fn append_items_twice(
-    alloc: Global,
     one: &NodeTable,
     two: &NodeTable,
     items: &[ReadValueId],
@@ -109,7 +108,7 @@ pub fn append_items_twice(
     requires octets { out.old.items ≡ also.old.items }
     ensures octets { OnOk result.0 (OnOk result.1 (out.new.items ≡ also.new.items)) }
 {
-    let first = one.append_items(alloc, items, stamps, moment, most, out);
-    let second = two.append_items(alloc, items, stamps, moment, most, also);
+    let first = one.append_items(items, stamps, moment, most, out);
+    let second = two.append_items(items, stamps, moment, most, also);
     (first, second)
 }

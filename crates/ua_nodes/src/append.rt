@@ -15,7 +15,7 @@ use crate::node::Variable;
 use crate::read::refused;
 use crate::stamps::Stamps;
 use crate::table::NodeTable;
-use std::alloc::{AllocError, Global};
+use std::alloc::AllocError;
 use ua_builtin::laws::moment_is_encodable;
 use ua_builtin::{DateTime, StatusCode, Wire};
 use ua_structures::ReadValueId;
@@ -29,7 +29,6 @@ impl NodeTable {
     /// error the earlier contents stay, perhaps followed by more bytes.
     pub fn append_items(
         &self,
-        alloc: Global,
         items: &[ReadValueId],
         stamps: Stamps,
         moment: DateTime,
@@ -45,7 +44,7 @@ impl NodeTable {
             if passes(most, out.len()) {
                 return Ok(());
             }
-            self.append_item(alloc, item, stamps, moment, out)?;
+            self.append_item(item, stamps, moment, out)?;
         }
         Ok(())
     }
@@ -54,7 +53,6 @@ impl NodeTable {
     #[tactic(auto, unfolding(ua_variant::specs::Formats::data_value_format))]
     fn append_item(
         &self,
-        alloc: Global,
         item: &ReadValueId,
         stamps: Stamps,
         moment: DateTime,
@@ -68,7 +66,7 @@ impl NodeTable {
         let Some(variable) = self.get(&item.node_id) else {
             return refused(StatusCode::BAD_NODE_ID_UNKNOWN).append(out);
         };
-        match variable.answer_beside(alloc, item, stamps, moment)? {
+        match variable.answer_beside(*out.allocator(), item, stamps, moment)? {
             Some(answer) => answer.append(out),
             None => variable.append_value(stamps, moment, out),
         }

@@ -6,7 +6,7 @@
 //! let node = NodeId::parse_text(alloc, "ns=1;s=Pump")?;
 //! let item = ReadValueId::new(node);
 //! let answer = table.read_item(alloc, &item, Stamps::Both, moment)?; // a value, or a bad status
-//! table.append_items(alloc, &items, Stamps::Both, moment, None, &mut out)?; // encoded
+//! table.append_items(&items, Stamps::Both, moment, None, &mut out)?; // encoded
 //! let mut statuses = Vec::with_capacity(alloc, items.len())?; // the caller allocates
 //! table.write_items(items, moment, &mut statuses); // allocates nothing, cannot fail
 //! ```

@@ -80,7 +80,6 @@ fn append_front(out: &mut Vec<u8>) -> Result<(), AllocError>
 /// node read from where it stands. Once there are more than `most` bytes, no further one is made.
 #[derive(Clone, Copy)]
 struct ReadAnswers<'a> {
-    alloc: Global,
     nodes: &'a NodeTable,
     items: &'a [ReadValueId],
     stamps: Stamps,
@@ -103,14 +102,8 @@ impl ReadResults for ReadAnswers<'_> {
 
     fn append_results(&self, out: &mut Vec<u8>) -> Result<(), AllocError> {
         (self.items.len() as u32).append(out)?;
-        self.nodes.append_items(
-            self.alloc,
-            self.items,
-            self.stamps,
-            self.moment,
-            self.most,
-            out,
-        )
+        self.nodes
+            .append_items(self.items, self.stamps, self.moment, self.most, out)
     }
 }
 
@@ -218,7 +211,6 @@ impl Services {
         let items = request.nodes_to_read.as_items().unwrap_or(&[]);
         let header = good_header(moment, request.request_header.request_handle);
         let answers = ReadAnswers {
-            alloc,
             nodes: &self.nodes,
             items,
             stamps,

@@ -31,7 +31,6 @@ pub fn read_one_item(
 /// Adds the answers to items of a Read at the end, up to the first after which there are more bytes
 /// than the most.
 pub fn append_answers(
-    alloc: Global,
     nodes: &NodeTable,
     items: &[ReadValueId],
     stamps: Stamps,
@@ -43,7 +42,7 @@ pub fn append_answers(
     ensures ok { OnOk result
         (IsWithin most (result_octets nodes.now stamps moment) items.now out.old.items out.new.items) }
 {
-    nodes.append_items(alloc, items, stamps, moment, most, out)
+    nodes.append_items(items, stamps, moment, most, out)
 }
 
 /// Whether a node could take a value of a type: one of its own type, and an array just where it
