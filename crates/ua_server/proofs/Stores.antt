@@ -21,7 +21,13 @@ use Rattle.ua_services.specs.declared.request.Request.TheVariants.{GetEndpoints,
 use Rattle.ua_structures.specs.declared.attribute.ReadRequest.{ReadRequest}
 use Rattle.ua_structures.specs.declared.attribute.WriteRequest.{WriteRequest}
 use Rattle.ua_structures.specs.declared.attribute.WriteValue.{WriteValue}
-use Rattle.ua_server.specs.Answer.{read_items, unless}
+use Rattle.ua_opening.specs.declared.header.RequestHeader.{RequestHeader}
+use Rattle.ua_services.specs.Request.{kind_of_request}
+use Rattle.ua_services.specs.declared.request.RequestKind.TheVariants.{Write as WriteKind}
+use Rattle.ua_services.specs.declared.response.Response.{Response}
+use Rattle.ua_server.specs.Sessions.{activate_reasons, activation_given, close_given, close_reasons, create_reasons, session_given, with_activated}
+use Rattle.ua_server.specs.State.{begun, with_next_session}
+use Rattle.ua_server.specs.Answer.{answer, read_items, unless}
 use Rattle.ua_server.specs.Attributes.{items_of, read_reasons, statuses_given, values_given, with_written, write_reasons}
 use Rattle.ua_server.specs.Reply.{answered, answered_by}
 use Rattle.ua_server.specs.State.{State}
@@ -86,6 +92,23 @@ read-unless (Some code) s moment m = refl
 -- a Read has no results of a Write
 pub read_results : (s : State) (moment : DateTime) (m : ReadRequest) → results_of (read_items s moment m).1 ≡ None
 read_results s moment m = read-unless (first_reason (read_reasons s m)) s moment m
+
+unless_none : (o : Option ℕ) (s : State) (moment : DateTime) (asking : RequestHeader) (given : State × Response) → results_of given.1 ≡ None
+    → results_of (unless o s moment asking given).1 ≡ None
+unless_none None s moment asking given e = e
+unless_none (Some code) s moment asking given e = refl
+
+-- nor has another request that is no Write
+pub other_results : (s : State) (moment : DateTime) (m : Request) → (kind_of_request m ≡ WriteKind → ⊥) → results_of (answer s moment m).1 ≡ None
+other_results s moment (GetEndpoints m) other = refl
+other_results s moment (CreateSession m) other =
+    unless_none (first_reason (create_reasons s)) s moment m.request_header (with_next_session s, session_given s moment m) refl
+other_results s moment (ActivateSession m) other =
+    unless_none (first_reason (activate_reasons s m)) s moment m.request_header (with_activated s, activation_given moment m) refl
+other_results s moment (CloseSession m) other =
+    unless_none (first_reason (close_reasons s m)) s moment m.request_header (begun s, close_given moment m) refl
+other_results s moment (Read m) other = read_results s moment m
+other_results s moment (Write m) other = absurd (other refl)
 
 -- what is kept of a message, and of the results of its answer
 pub kept-stored : (s : State) (moment : DateTime) (octets : List ℕ) (kept : List WriteValue) (results : Option (List StatusCode))

@@ -1,6 +1,6 @@
 //! The services Read and Write.
 
-ghost use Rattle.std.specs.Prelude.{◌≡◌, ◌+◌, ◌<◌, ◌≤◌, ◌++◌, IsTrue, IfOk, OnOk, OnErr};
+ghost use Rattle.std.specs.Prelude.{◌≡◌, ◌+◌, ◌<◌, ◌≤◌, ◌++◌, ◌⊎◌, IsTrue, IfErr, IfOk, OnOk, OnErr};
 ghost use Rattle.std.specs.Prelude.{None, option_map, length, vec_len, vec_capacity};
 ghost use Rattle.std.specs.List.{list_all};
 ghost use Rattle.ua_builtin.specs.Format.{Extends};
@@ -15,18 +15,22 @@ ghost use Rattle.ua_nodes.specs.Table.{node_at};
 ghost use Rattle.ua_nodes.specs.Limit.{limited_answers, after_limited};
 ghost use Rattle.ua_variant.specs.Formats.{data_value_format};
 ghost use Rattle.ua_server.specs.State.{with_nodes};
-ghost use Rattle.ua_server.specs.Answer.{read_items, write_items};
+ghost use Rattle.ua_server.specs.Answer.{fault_of, read_items, write_items};
+ghost use Rattle.ua_services.specs.declared.response.Response.TheVariants.{Write as WriteMessage};
+ghost use Rattle.ua_structures.specs.Attribute.{write_response};
 ghost use Rattle.ua_server.specs.Reply.{IsBodyWithin};
+ghost use Rattle.ua_server.specs.Stored.{results_of};
 ghost use Rattle.ua_server.specs.Attributes.{items_of, most_items, value_from, count_reasons};
 ghost use Rattle.ua_server.specs.Attributes.{items_reasons, read_reasons, read_answers, values_given};
 
-use crate::reply::body_of;
+use crate::reply::{AnswerBody, body_of};
 use crate::services::Services;
 use crate::sessions::good_header;
 use std::alloc::{AllocError, Global};
 use std::mem;
 use ua_builtin::{DateTime, Identifier, NodeId, StatusCode, Wire};
 use ua_nodes::{NodeTable, Stamps};
+use ua_opening::append_message;
 use ua_services::{
     ReadRequest, ReadResponse, ReadValueId, RequestHeader, Response, ResponseHeader, TakesTypes,
     UaArray, ValueType, WriteRequest, WriteResponse, WriteValue, empty_body,
@@ -39,6 +43,9 @@ const MOST_ITEMS: usize = 1000;
 
 /// The number of the encoding of a Read response (OPC 10000-6, A.3).
 const READ_RESPONSE: u32 = 634;
+
+/// The number of the encoding of a Write response (OPC 10000-6, A.3).
+const WRITE_RESPONSE: u32 = 676;
 
 /// The greatest MaxAge, as the pattern of a Double: that of -0.
 const MOST_AGE: u64 = 0x8000_0000_0000_0000;
@@ -231,20 +238,22 @@ impl Services {
         request: &ReadRequest,
         moment: DateTime,
         most: Option<usize>,
-    ) -> Result<(Vec<u8>, StatusCode), AllocError>
+    ) -> Result<AnswerBody, AllocError>
         ensures body { IfOk result
-            (λ told. IsBodyWithin most (response.canonical (read_items self.now moment request.now).1) told.0.items) }
-        ensures some { IfOk result (λ told. 0 < length told.0.items) }
+            (λ told. IsBodyWithin most (response.canonical (read_items self.now moment request.now).1)
+            told.body.items) }
+        ensures some { IfOk result (λ told. 0 < length told.body.items) }
         ensures code { IfOk result
-            (λ told. told.1 ≡ (header_of_response (read_items self.now moment request.now).1).service_result) }
+            (λ told. told.code ≡ (header_of_response (read_items self.now moment request.now).1).service_result) }
+        ensures results { IfOk result (λ told. told.results ≡ None) }
     {
         if let Some(code) = self.read_refusal(request) {
             let handle = request.request_header.request_handle;
             let body = body_of(alloc, self.fault(handle, code, moment))?;
-            return Ok((body, code));
+            return Ok(AnswerBody::new(body, code));
         }
         let body = self.granted_body(alloc, request, moment, most)?;
-        Ok((body, StatusCode::GOOD))
+        Ok(AnswerBody::new(body, StatusCode::GOOD))
     }
 
     /// Why a request with this many items is refused before they are looked at: for its session, or
@@ -305,7 +314,34 @@ impl Services {
         Ok(statuses)
     }
 
-    /// Write (OPC 10000-4, 5.11.4). Takes the items out of the request.
+    /// The response to a Write, or why it is refused (OPC 10000-4, 5.11.4). Takes the items out of
+    /// the request.
+    fn granted_write(
+        &mut self,
+        alloc: Global,
+        request: &mut WriteRequest,
+        moment: DateTime,
+    ) -> Result<Result<WriteResponse, StatusCode>, AllocError>
+        ensures granted { IfOk result
+            (λ r. IfOk r (λ m. (write_items self.old moment request.old).1 ≡ WriteMessage m)) }
+        ensures refused { IfOk result (λ r. IfErr r (λ s. (write_items self.old moment request.old).1
+            ≡ fault_of request.old.request_header.request_handle s.code moment)) }
+        ensures state { IfOk result (λ r. self.new ≡ (write_items self.old moment request.old).0) }
+        ensures kept { OnErr result (self.new ≡ self.old) }
+        ensures encodable { IfOk result (λ r. IfOk r (λ m. IsTrue (write_response.encodable m))) }
+    {
+        let handle = request.request_header.request_handle;
+        let count = item_count(&request.nodes_to_write);
+        if let Some(code) = self.items_refusal(&request.request_header, count) {
+            return Ok(Err(code));
+        }
+        let items = mem::replace(&mut request.nodes_to_write, UaArray::null());
+        let statuses = self.write_items(alloc, items, moment)?;
+        let header = good_header(moment, handle);
+        Ok(Ok(WriteResponse::with_results(header, statuses)))
+    }
+
+    /// Write. Takes the items out of the request.
     #[tactic(auto, using(crate::proofs::Answered::statuses_fit))]
     pub(crate) fn write(
         &mut self,
@@ -319,13 +355,48 @@ impl Services {
         ensures encodable { IfOk result (λ r. IsTrue (response.encodable r)) }
     {
         let handle = request.request_header.request_handle;
-        let count = item_count(&request.nodes_to_write);
-        if let Some(code) = self.items_refusal(&request.request_header, count) {
-            return Ok(self.fault(handle, code, moment));
+        match self.granted_write(alloc, request, moment)? {
+            Ok(message) => Ok(Response::Write(message)),
+            Err(code) => Ok(self.fault(handle, code, moment)),
         }
-        let items = mem::replace(&mut request.nodes_to_write, UaArray::null());
-        let statuses = self.write_items(alloc, items, moment)?;
-        let header = good_header(moment, handle);
-        Ok(Response::Write(WriteResponse::with_results(header, statuses)))
+    }
+
+    /// The body of the response to a Write, its ServiceResult and its results. Takes the items out
+    /// of the request.
+    #[tactic(auto, using(crate::proofs::Replies::write_whole, crate::proofs::Replies::response_takes_some, crate::proofs::Answered::statuses_fit), unfolding(ua_builtin::specs::NodeId::node_id))]
+    pub(crate) fn write_body(
+        &mut self,
+        alloc: Global,
+        request: &mut WriteRequest,
+        moment: DateTime,
+    ) -> Result<AnswerBody, AllocError>
+        ensures body { IfOk result
+            (λ told. told.body.items ≡ response.canonical (write_items self.old moment request.old).1) }
+        ensures some { IfOk result (λ told. 0 < length told.body.items) }
+        ensures code { IfOk result
+            (λ told. told.code ≡ (header_of_response (write_items self.old moment request.old).1).service_result) }
+        ensures results { IfOk result
+            (λ told. told.results ≡ results_of (write_items self.old moment request.old).1) }
+        ensures state { IfOk result (λ told. self.new ≡ (write_items self.old moment request.old).0) }
+        ensures refused { OnErr result
+            ((self.new ≡ self.old) ⊎ (self.new ≡ (write_items self.old moment request.old).0)) }
+    {
+        let handle = request.request_header.request_handle;
+        match self.granted_write(alloc, request, moment)? {
+            Ok(message) => {
+                let mut body = empty_body(alloc);
+                append_message(WRITE_RESPONSE, &message, &mut body)?;
+                let code = message.response_header.service_result;
+                Ok(AnswerBody {
+                    body,
+                    code,
+                    results: message.results,
+                })
+            }
+            Err(code) => {
+                let body = body_of(alloc, self.fault(handle, code, moment))?;
+                Ok(AnswerBody::new(body, code))
+            }
+        }
     }
 }

@@ -1,6 +1,7 @@
 //! The reply to a message.
 
 ghost use Rattle.std.specs.Prelude.{◌≡◌, ◌<◌, ◌⊎◌, IsTrue, IfErr, IfOk, OnErr, None, Some, Err, length};
+ghost use Rattle.std.specs.List.{concat};
 ghost use Rattle.ua_builtin.specs.declared.date_time.DateTime.{DateTime};
 ghost use Rattle.ua_services.specs.Request.{kind_of_request, request_read};
 ghost use Rattle.ua_services.specs.Response.{header_of_response, response};
@@ -12,8 +13,10 @@ ghost use Rattle.ua_server.specs.Stored.{results_of};
 use crate::services::Services;
 use crate::watch::{AnsweredRequest, items_asked};
 use std::alloc::{AllocError, Global};
-use std::mem;
-use ua_builtin::{DateTime, MOST_LEVELS, NodeId, ReadFault, Source, StatusCode, Wire, WriteFault};
+use ua_builtin::{
+    DateTime, MOST_LEVELS, NodeId, Octets, ReadFault, Source, StatusCode, Wire, WriteFault,
+};
+use ua_chunk::Message;
 use ua_nodes::values_that_their_nodes_cannot_take_change_no_write;
 use ua_opening::standard_number;
 use ua_services::{
@@ -29,6 +32,34 @@ pub(crate) struct Replied {
     pub request: AnsweredRequest,
     /// The results of a Write; null of another request.
     pub results: UaArray<StatusCode>,
+}
+
+/// The body of the response to a request, its ServiceResult, and the results of a Write.
+#[derive(Debug, Drop)]
+pub(crate) struct AnswerBody {
+    /// The body.
+    pub body: Vec<u8>,
+    /// The ServiceResult.
+    pub code: StatusCode,
+    /// The results of a Write; null of another request.
+    pub results: UaArray<StatusCode>,
+}
+
+impl AnswerBody {
+    ghost use Rattle.std.specs.Prelude.{◌≡◌, None};
+
+    /// The body of a response that is not that of a Write.
+    pub(crate) fn new(body: Vec<u8>, code: StatusCode) -> AnswerBody
+        ensures body { result.body ≡ body }
+        ensures code { result.code ≡ code }
+        ensures results { result.results ≡ None }
+    {
+        AnswerBody {
+            body,
+            code,
+            results: UaArray::null(),
+        }
+    }
 }
 
 impl Services {
@@ -83,7 +114,12 @@ impl Services {
     {
         let mut head = src.fork();
         match self.read_kept(alloc, src) {
-            Ok(request) => self.body_for(alloc, request, moment, most),
+            Ok(request) => {
+                let mut request = request;
+                let told = self.body_for(alloc, &mut request, moment, most);
+                drop(request);
+                told
+            }
             Err(RequestFault::Unsupported(handle)) => {
                 let code = StatusCode::BAD_SERVICE_UNSUPPORTED;
                 self.misread(alloc, &mut head, handle, code, moment)
@@ -93,6 +129,33 @@ impl Services {
                 self.misread(alloc, &mut head, handle, code, moment)
             }
             Err(RequestFault::OutOfMemory) => Err(AllocError),
+        }
+    }
+
+    /// What [`reply_telling`](Services::reply_telling) gives for a message. Nearly each has one
+    /// part, whose bytes are read faster than those of several.
+    pub(crate) fn reply_to_message(
+        &mut self,
+        alloc: Global,
+        message: &Message,
+        moment: DateTime,
+        most: Option<usize>,
+    ) -> Result<Replied, AllocError>
+        ensures body { IfOk result
+            (λ told. IsBodyWithin most (response.canonical (answered self.old moment (concat message.now)).1)
+            told.body.items) }
+        ensures some { IfOk result (λ told. 0 < length told.body.items) }
+        ensures request { IfOk result
+            (λ told. told.request ≡ request_answered None self.old moment (concat message.now)) }
+        ensures results { IfOk result
+            (λ told. told.results ≡ results_of (answered self.old moment (concat message.now)).1) }
+        ensures state { IfOk result (λ told. self.new ≡ (answered self.old moment (concat message.now)).0) }
+        ensures refused { OnErr result
+            ((self.new ≡ self.old) ⊎ (self.new ≡ (answered self.old moment (concat message.now)).0)) }
+    {
+        match message.parts() {
+            [part] => self.reply_telling(alloc, &mut Octets::new(part.as_slice()), moment, most),
+            _ => self.reply_telling(alloc, &mut message.source(), moment, most),
         }
     }
 
@@ -112,42 +175,43 @@ impl Services {
     }
 
     /// The body of the response to a request, the answered request, and the results of a Write.
-    #[tactic(auto, using(crate::proofs::Answered::kept_by, crate::proofs::Stores::read_results))]
+    /// What the response or the nodes are to hold is taken out of the request.
+    #[tactic(auto, using(crate::proofs::Answered::kept_by, crate::proofs::Stores::read_results, crate::proofs::Stores::other_results))]
     fn body_for(
         &mut self,
         alloc: Global,
-        request: Request,
+        request: &mut Request,
         moment: DateTime,
         most: Option<usize>,
     ) -> Result<Replied, AllocError>
         ensures body { IfOk result
-            (λ told. IsBodyWithin most (response.canonical (answer self.old moment request).1) told.body.items) }
+            (λ told. IsBodyWithin most (response.canonical (answer self.old moment request.old).1) told.body.items) }
         ensures some { IfOk result (λ told. 0 < length told.body.items) }
         ensures request { IfOk result
             (λ told. told.request ≡ record {
-              kind = Some (kind_of_request request);
+              kind = Some (kind_of_request request.old);
               encoding = None;
-              items = items_asked request;
-              code = (header_of_response (answer self.old moment request).1).service_result;
+              items = items_asked request.old;
+              code = (header_of_response (answer self.old moment request.old).1).service_result;
             }) }
-        ensures results { IfOk result (λ told. told.results ≡ results_of (answer self.old moment request).1) }
-        ensures state { IfOk result (λ told. self.new ≡ (answer self.old moment request).0) }
-        ensures refused { OnErr result ((self.new ≡ self.old) ⊎ (self.new ≡ (answer self.old moment request).0)) }
+        ensures results { IfOk result (λ told. told.results ≡ results_of (answer self.old moment request.old).1) }
+        ensures state { IfOk result (λ told. self.new ≡ (answer self.old moment request.old).0) }
+        ensures refused { OnErr result
+            ((self.new ≡ self.old) ⊎ (self.new ≡ (answer self.old moment request.old).0)) }
     {
         let kind = Some(request.kind());
-        let items = items_asked(&request);
-        let (body, code, results) = match request.into_read() {
-            Ok(message) => {
-                let read = self.read_body(alloc, &message, moment, most);
-                drop(message);
-                let (body, code) = read?;
-                (body, code, UaArray::null())
-            }
-            Err(other) => {
-                let response = self.answer(alloc, other, moment)?;
+        let items = items_asked(request);
+        let AnswerBody {
+            body,
+            code,
+            results,
+        } = match request {
+            Request::Read(message) => self.read_body(alloc, message, moment, most)?,
+            Request::Write(message) => self.write_body(alloc, message, moment)?,
+            other => {
+                let response = self.respond(alloc, other, moment)?;
                 let code = response.header().service_result;
-                let (body, results) = body_with_results(alloc, response)?;
-                (body, code, results)
+                AnswerBody::new(body_of(alloc, response)?, code)
             }
         };
         let request = AnsweredRequest {
@@ -212,51 +276,18 @@ fn encoding_ahead<S: Source>(alloc: Global, src: &mut S) -> Result<Option<u32>, 
 }
 
 /// The body of a response that can be written, which is let go of.
+#[tactic(auto, using(crate::proofs::Replies::response_takes_some))]
 pub(crate) fn body_of(alloc: Global, message: Response) -> Result<Vec<u8>, AllocError>
     requires { IsTrue (response.encodable message) }
     ensures body { IfOk result (λ body. body.items ≡ response.canonical message) }
     ensures some { IfOk result (λ body. 0 < length body.items) }
 {
-    match body_with_results(alloc, message) {
-        Ok((body, results)) => {
-            drop(results);
-            Ok(body)
-        }
-        Err(refused) => Err(refused),
-    }
-}
-
-/// The body of a response that can be written, and the results of a Write, where it is the response
-/// to one.
-#[tactic(auto, using(crate::proofs::Replies::response_takes_some))]
-fn body_with_results(
-    alloc: Global,
-    message: Response,
-) -> Result<(Vec<u8>, UaArray<StatusCode>), AllocError>
-    requires { IsTrue (response.encodable message) }
-    ensures body { IfOk result (λ given. given.0.items ≡ response.canonical message) }
-    ensures some { IfOk result (λ given. 0 < length given.0.items) }
-    ensures results { IfOk result (λ given. given.1 ≡ results_of message) }
-{
     let mut body = empty_body(alloc);
     let written = write_response(&message, &mut body);
-    let results = into_results(message);
+    drop(message);
     match written {
-        Ok(()) => Ok((body, results)),
+        Ok(()) => Ok(body),
         Err(WriteFault::OutOfMemory) => Err(AllocError),
         Err(WriteFault::NotWritable) => unreachable!(),
     }
-}
-
-/// The results of a Write, null of another response.
-fn into_results(message: Response) -> UaArray<StatusCode>
-    ensures { result ≡ results_of message }
-{
-    let mut message = message;
-    let results = match &mut message {
-        Response::Write(answer) => mem::replace(&mut answer.results, UaArray::null()),
-        _ => UaArray::null(),
-    };
-    drop(message);
-    results
 }

@@ -117,7 +117,7 @@ fn reply_to(
     ensures channel { channel_of channel.new ≡ channel_of channel.old }
 {
     let most = channel.most_octets();
-    let told = services.reply_telling(alloc, &mut message.source(), moment, most);
+    let told = services.reply_to_message(alloc, &message, moment, most);
     let Replied {
         body,
         request,

@@ -187,7 +187,7 @@ impl Services {
     /// The response to a request, from which it takes out what the response or the nodes are to
     /// hold.
     #[tactic(auto, using(crate::proofs::Answered::kept_by))]
-    fn respond(
+    pub(crate) fn respond(
         &mut self,
         alloc: Global,
         request: &mut Request,
