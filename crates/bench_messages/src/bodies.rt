@@ -1,76 +1,16 @@
-//! Work on the bodies of messages, which are read from the parts of a message, as the program reads
-//! them.
+//! Work on the bodies of messages of one part, as the program reads them.
 
 use crate::fault::Fault;
-use bytes::Bytes;
 use std::alloc::Global;
-use std::marker::Model;
-use ua_builtin::{Octets, Parts};
+use ua_builtin::Octets;
 use ua_chunk::{Lane, cut};
 use ua_services::{read_request, read_response, write_request, write_response};
 
-/// A body, as the one part of a message.
-#[derive(Drop)]
-struct Body {
-    parts: Vec<Bytes>,
-    /// How many bytes it has.
-    len: usize,
-}
-
-impl Model for Body {
-    ghost use Rattle.std.specs.List.{concat};
-    ghost use Rattle.std.specs.Prelude.{◌≡◌, List, ℕ, length};
-
-    ghost Value = { List (List ℕ) };
-
-    ghost view = { λ b. b.parts.items };
-
-    ghost invariant = { λ b. b.len ≡ length (concat b.parts.items) };
-}
-
-impl Body {
-    /// A body of no bytes.
-    fn new(alloc: Global) -> Body {
-        Body {
-            parts: Vec::new(alloc),
-            len: 0,
-        }
-    }
-
-    /// Adds a part.
-    fn add(&mut self, part: Bytes) -> Result<(), Fault> {
-        let Some(len) = self.len.checked_add(part.len()) else {
-            return Err(Fault::Value);
-        };
-        match self.parts.push(part) {
-            Ok(()) => {
-                self.len = len;
-                Ok(())
-            }
-            Err(_) => Err(Fault::Memory),
-        }
-    }
-
-    /// A source of the bytes.
-    fn source(&self) -> Parts<'_> {
-        let _len = self.len;
-        Parts::new(self.parts.as_slice())
-    }
-}
-
-/// The body of these bytes.
-fn body_of(alloc: Global, octets: &[u8]) -> Result<Body, Fault> {
-    let mut body = Body::new(alloc);
-    body.add(Bytes::copy_from_slice(alloc, octets)?)?;
-    Ok(body)
-}
-
 /// Reads a response this many times, and lets it go; how many were read.
 pub fn read_responses(alloc: Global, octets: &[u8], times: u32) -> Result<u64, Fault> {
-    let body = body_of(alloc, octets)?;
     let mut sum = 0u64;
     for _ in 0..times {
-        match read_response(alloc, &mut body.source()) {
+        match read_response(alloc, &mut Octets::new(octets)) {
             Ok(response) => drop(response),
             Err(_) => return Err(Fault::Value),
         }
@@ -81,10 +21,9 @@ pub fn read_responses(alloc: Global, octets: &[u8], times: u32) -> Result<u64, F
 
 /// Reads a request this many times, and lets it go; how many were read.
 pub fn read_requests(alloc: Global, octets: &[u8], times: u32) -> Result<u64, Fault> {
-    let body = body_of(alloc, octets)?;
     let mut sum = 0u64;
     for _ in 0..times {
-        match read_request(alloc, &mut body.source()) {
+        match read_request(alloc, &mut Octets::new(octets)) {
             Ok(request) => drop(request),
             Err(_) => return Err(Fault::Value),
         }

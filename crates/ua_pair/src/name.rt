@@ -50,6 +50,21 @@ fn response_name<S: Source>(alloc: Global, src: &mut S) -> Result<(&'static str,
     }
 }
 
+/// The name of a message with this body that this side sent, and whether it is of no known kind.
+fn body_name<S: Source>(
+    alloc: Global,
+    side: Side,
+    src: &mut S,
+) -> Result<(&'static str, bool), AllocError>
+    ensures name { IfOk result (λ named. named.0.now ≡ name_of_message side (S.octets src.old)) }
+    ensures unsupported { IfOk result (λ named. named.1 ≡ is_unsupported side (S.octets src.old)) }
+{
+    match side {
+        Side::Client => request_name(alloc, src),
+        Side::Server => response_name(alloc, src),
+    }
+}
+
 /// The name of a message that this side sent, and whether it is of no known kind.
 fn message_name(
     alloc: Global,
@@ -59,10 +74,9 @@ fn message_name(
     ensures name { IfOk result (λ named. named.0.now ≡ name_of_message side (concat message.now)) }
     ensures unsupported { IfOk result (λ named. named.1 ≡ is_unsupported side (concat message.now)) }
 {
-    let mut src = message.source();
-    match side {
-        Side::Client => request_name(alloc, &mut src),
-        Side::Server => response_name(alloc, &mut src),
+    match message.parts() {
+        [part] => body_name(alloc, side, &mut Octets::new(part.as_slice())),
+        _ => body_name(alloc, side, &mut message.source()),
     }
 }
 
