@@ -21,14 +21,16 @@ CONTRIBUTING.md, of 6 what is code, and of 7 the rows that are by rule; of 5 it 
 that calls the handler, and what counts the items, the array of the request that is marked as those above. Then it lays
 out each crate by `rt fmt`, and prints the files, and what is left to write: reasons, answer and handler, octets of
 rows, makers.
-Lines by kind are copies of those of the kind in front, with other names and numbers. Refused are a type without a row in
-add_service_parts/words.py, a name and a number that stand already or stand twice in the description, and a
-name that is a word of the languages or a file of another subject; then nothing is written.
+Lines by kind are the texts of schema/kinds.lines with the kind's names and numbers, each behind that of the kind in
+front, which has to stand there once. Refused are a type without a row in add_service_parts/words.py, a name and a
+number that stand already or stand twice in the description, a name that is a word of the languages or a file of another
+subject, and a kind in front that has a text of its own in that table; then nothing is written.
 
 tools/add_service.py --check compares with what stands: the files written from schema/, octet for octet; the declaration
-of each structure, and its row of docs/ENCODINGS.md; and the lines of each kind as copies of those of CloseSession, but
-for what OTHERWISE names. It sees that each description of REFUSED is refused; and it writes a service without saving
-it, so that each place is looked for. The status is 0 where nothing differs.
+of each structure, and its row of docs/ENCODINGS.md; and the lines by kind: each text of schema/kinds.lines stands once
+for each kind, nothing else stands between the lines that it has around them, and whatever names CloseSession in the
+crates with lines by kind is one of its texts. It sees that each description of REFUSED is refused; and it writes a
+service without saving it, and compares its lines, too. The status is 0 where nothing differs.
 """
 from __future__ import annotations
 

@@ -4,15 +4,17 @@ from __future__ import annotations
 from add_service_parts.descriptions import described, refuse_what_stands
 from add_service_parts.forms import cells_of, declaration_of, row_of
 from add_service_parts.generated import generated, has_layout, head, laid_out
-from add_service_parts.kinds import Kind, files_by_kind, kinds_of, places, renamed
+from add_service_parts.kinds import TABLE, Kind, kinds_of, places
 from add_service_parts.schema import Schema
 from add_service_parts.steps import write_service
-from add_service_parts.texts import DEFINITIONS, OPENING, PAIR, ROWS, SERVICES, STRUCTURES, Refused, plain, read, under
+from add_service_parts.texts import DEFINITIONS, OPENING, PAIR, ROWS, SERVICES, STRUCTURES, Refused, code, named, plain, read, under, uses
 
 # The crates that have files written from schema/.
 WRITTEN = (OPENING, STRUCTURES, PAIR, ROWS)
-# Lines of a kind that are no copies of those of another one.
-OTHERWISE = (f"{SERVICES}/proofs/ResponseLawful.antt: Read", f"{SERVICES}/proofs/RequestLawful.antt: Write")
+# A kind, and the crates in which schema/kinds.lines has all that names it, but for what makes requests, each in a form of its own.
+PLAIN, BY_KIND = "CloseSession", (SERVICES, PAIR, ROWS)
+MAKERS = tuple(f"{SERVICES}/{path}" for path in ("src/session_requests.rt", "specs/SessionRequests.antt", "proofs/Asked.antt", "proofs/Words.antt", "proofs/session_requests/"))
+MAKERS += (f"{ROWS}/src/session_requests.rt",)
 
 # A service that is written for the check, and not saved: so each place that a new one needs is looked for.
 SAMPLE = """# A service (OPC 10000-4, 5).
@@ -91,16 +93,29 @@ def check_rows(k: Schema) -> list[str]:
     return wrong
 
 
-def check_kind(old: Kind, new: Kind) -> list[str]:
-    """The lines of a kind that are no copies of those of another one."""
-    wrong: list[str] = []
-    for path in files_by_kind(old):
-        lines = read(path).split("\n")
-        stands = {plain("\n".join(lines[at:end])) for at, end in places(read(path), new)}
-        copies = [renamed("\n".join(lines[at:end]), old, new) for at, end in places(read(path), old)]
-        lacking = [it.strip() for it in copies if plain(it) not in stands]
-        wrong += [f"{path}: {new.name}: {it}" for it in lacking] if f"{path}: {new.name}" not in OTHERWISE else []
-    return wrong
+def check_kinds(kinds: list[Kind]) -> list[str]:
+    """What does not stand as schema/kinds.lines has it: of each kind, of each one with items, and of each file of structures."""
+    of = {"kind": kinds, "items": [it for it in kinds if it.items], "file": list({it.module: it for it in kinds}.values())}
+    wrong = [f"{TABLE}: {place.path}: no kind {name}" for place in places() for name in place.owners() if name not in {it.name for it in kinds}]
+    return wrong + [it for place in places() if place.of in ("kind", "items") or place.of == "file" and not place.one("behind") for it in place.faults(of[place.of])]
+
+
+def left_over(path: str, kind: Kind) -> list[str]:
+    """The lines of a file, and its imports, that name a kind and that no place of schema/kinds.lines has."""
+    text, found = read(path), [place for place in places() if place.path == path and place.of == "kind"]
+    taken, words = {kind.fill(place.standing(kind)[2]) for place in found}, (kind.name, f"{kind.word}_request", f"{kind.word}_response")
+    wrong = [it for use in uses(text) for it in (named(use.path, name) for name in use.names) if it not in taken and any(word in it for word in words)]
+    spans = [place.standing(kind)[:2] for place in found if not place.is_use()] + [(use.start, use.end) for use in uses(text)]
+    for at, end in sorted(spans, reverse=True):
+        text = text[:at] + text[end:]
+    return wrong + [line.strip() for line in code(text).split("\n") if any(word in line for word in words)]
+
+
+def check_left_over(kind: Kind) -> list[str]:
+    """What names a kind in the crates with lines by kind, and is not in schema/kinds.lines."""
+    mark = head(None, "", "").split("`")[1]
+    paths = [path for crate in BY_KIND for path in under(crate) if f"`{mark}`" not in read(path).split("\n")[0]]
+    return [f"{path}: not in {TABLE}: {it}" for path in paths if not path.startswith(MAKERS) for it in left_over(path, kind)]
 
 
 def check() -> int:
@@ -108,12 +123,12 @@ def check() -> int:
     k = Schema()
     wrong = check_generated(k) + check_declared(k) + check_rows(k)
     kinds = kinds_of(k)
-    old = next(it for it in kinds if it.name == "CloseSession")
-    wrong += [it for new in kinds for it in check_kind(old, new)]
-    count = f"{len(k.structures)} structures of schema/ in {len(generated(k))} files, {len(kinds)} kinds of message, {len(REFUSED)} descriptions that are refused"
+    wrong += check_kinds(kinds) or check_left_over(next(it for it in kinds if it.name == PLAIN))
+    count = f"{len(k.structures)} structures of schema/ in {len(generated(k))} files, {len(kinds)} kinds of message in {len(places())} places, {len(REFUSED)} descriptions that are refused"
     wrong += check_refused()
     try:
         write_service(SAMPLE, k)
+        wrong += [it for it in check_kinds(kinds_of(Schema())) if it not in wrong]
     except Refused as fault:
         wrong.append(str(fault))
     if wrong:

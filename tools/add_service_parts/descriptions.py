@@ -5,9 +5,9 @@ import functools
 import os
 import re
 
-from add_service_parts.kinds import Kind, plain_kinds
-from add_service_parts.schema import FOLDER, LINE, File, Schema, Structure, title_case
-from add_service_parts.texts import OPENING, PAIR, SERVER, STRUCTURES, TOP, USE, Refused, code, names_in, read, under
+from add_service_parts.kinds import TABLE, Kind, plain_kinds
+from add_service_parts.schema import FOLDER, LINE, File, Schema, Structure
+from add_service_parts.texts import OPENING, PAIR, SERVER, STRUCTURES, TOP, Refused, code, read, under, uses
 from add_service_parts.words import LACKS
 
 # Words of Rust, of Rattle and of antt, which no field and no file has as its name.
@@ -19,7 +19,6 @@ RESERVED = frozenset("""as break const continue crate dyn else enum extern false
 FAULT = "397"
 # Files that are no subject's: the root of each crate, and in specs/ the list of its files.
 ROOTS = ("lib", "main")
-TYPES = re.compile(r"\b(?:struct|enum|trait|type)\s+(\w+)")
 
 
 def described(text: str, k: Schema) -> tuple[Kind, Kind, File]:
@@ -33,8 +32,8 @@ def described(text: str, k: Schema) -> tuple[Kind, Kind, File]:
         refuse_fields(s)
     fit = plain_kinds(k)
     if place["behind"] not in [it.name for it in fit]:
-        raise Refused(f"behind {place['behind']}: none of {', '.join(it.name for it in fit)}, of which no more is said than of most")
-    new = Kind(service.name, service.numbers["request"], service.numbers["response"], file.module, title_case(file.module), service.items)
+        raise Refused(f"behind {place['behind']}: none of {', '.join(it.name for it in fit)}, of which {TABLE} has no text of their own")
+    new = Kind(service.name, service.numbers["request"], service.numbers["response"], file.module, service.items)
     file.structures.sort(key=lambda s: bool(s.role))
     return new, next(it for it in fit if it.name == place["behind"]), file
 
@@ -80,14 +79,24 @@ def refuse_file(new: Kind, k: Schema) -> None:
             raise Refused(f"a file {new.module}: {folder} stands already")
 
 
+def types_in(text: str) -> set[str]:
+    """The types that a file declares or imports.
+
+    >>> sorted(types_in("use a::{B, c as D};\\npub(crate) struct E<T>(F);\\n// struct G\\nenum H {"))
+    ['B', 'D', 'E', 'H']
+    """
+    words = code(text).split()
+    names = [name for word, name in zip(words, words[1:]) if word in ("struct", "enum", "trait", "type")]
+    names = ["".join(c if c.isalnum() or c == "_" else " " for c in name).partition(" ")[0] for name in names]
+    return {name for name in names + [it.split(" as ")[-1] for use in uses(text) for it in use.names] if name[:1].isupper()}
+
+
 @functools.cache
 def types_that_stand() -> dict[str, str]:
     """The types that the crates of messages declare or import, by their names in small letters."""
     crates = ("ua_wire", "ua_builtin", "ua_diagnostic", "ua_variant", "ua_opening", "ua_structures", "ua_services", "ua_pair", "ua_server", "test_values")
-    texts = [code(read(path)) for crate in crates for path in under(f"crates/{crate}/src")]
-    names = {name for text in texts for name in TYPES.findall(text)}
-    names |= {name.split(" as ")[-1] for text in texts for use in USE.finditer(text) for name in names_in(use)}
-    return {name.lower(): name for name in sorted(names) if name[:1].isupper()}
+    names = {name for crate in crates for path in under(f"crates/{crate}/src") for name in types_in(read(path))}
+    return {name.lower(): name for name in sorted(names)}
 
 
 def refuse_what_stands(new: Kind, file: File, k: Schema) -> None:

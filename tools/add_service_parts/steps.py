@@ -3,17 +3,15 @@ from __future__ import annotations
 
 import difflib
 import os
-import re
 import shutil
 import subprocess
 
 from add_service_parts.descriptions import described, kept, refuse_what_stands
 from add_service_parts.forms import declaration_of, row_of
 from add_service_parts.generated import elements, generated, has_arrays, laid_out
-from add_service_parts.kinds import Kind, copied, files_by_kind, kinds_of, renamed
+from add_service_parts.kinds import Kind, add, kinds_of, places
 from add_service_parts.schema import FOLDER, Schema, Structure
-from add_service_parts.texts import DEFINITIONS, HEADER, MEMORY, NEW, OLD, PAIR, ROWS, SERVER, SERVICES, STRUCTURES, TOP, USE
-from add_service_parts.texts import behind, line_of, names_in, put, read, text_of, write
+from add_service_parts.texts import DEFINITIONS, NEW, OLD, PAIR, ROWS, SERVER, STRUCTURES, TOP, behind, line_with_end, put, read, text_of, uses, write
 
 LEFT = """left to write:
   ua_server: in specs/ the reasons against it and its response, in specs/Answer.antt the service and its line of `answer`,
@@ -31,27 +29,29 @@ def write_generated(k: Schema) -> None:
         write(path, text)
 
 
+def add_of(of: str, new: Kind, old: Kind, crate: str = "") -> None:
+    """The texts of schema/kinds.lines with this word in front of them, of a crate or of all."""
+    add([place for place in places() if place.of == of and place.path.startswith(crate)], new, old)
+
+
 def write_structures(new: Kind, old: Kind, structures: list[Structure], k: Schema) -> None:
     """Step 1, but for what is written from schema/ alone: the declarations, and the names of the files."""
-    src, specs, proofs = f"{STRUCTURES}/src", f"{STRUCTURES}/specs", f"{STRUCTURES}/proofs"
-    use = next((m for m in USE.finditer(read(f"{src}/lib.rt")) if m.group(2) == new.module), None)
-    if not use:
-        behind(f"{src}/lib.rt", f"mod {old.module}_wire;\n", f"mod {new.module};\nmod {new.module}_wire;\n")
-        behind(f"{specs}/Lib.antt", f"pub mod {old.spec}\n", f"pub mod {new.spec}\n")
-        behind(f"{proofs}/Lib.antt", f"pub mod {old.spec}Sound\n", f"pub mod {new.spec}Sound\n")
-    names = ", ".join((names_in(use) if use else []) + [s.name for s in structures])
-    write(f"{src}/lib.rt", read(f"{src}/lib.rt").replace(use.group() if use else "\0", "") + f"pub use {new.module}::{{{names}}};\n")
+    lib, path = f"{STRUCTURES}/src/lib.rt", f"{STRUCTURES}/src/{new.module}.rt"
+    if not read(path):
+        add_of("file", new, old, STRUCTURES)
+    use = next((it for it in uses(read(lib)) if it.path == new.module), None)
+    names = (use.names if use else []) + [s.name for s in structures]
+    write(lib, (read(lib)[:use.start] + read(lib)[use.end:] if use else read(lib)) + f"pub use {new.module}::{{{', '.join(names)}}};\n")
     origins = {k.of(kind).rust: k.of(kind).library for kind in elements(structures) if k.of(kind).library}
     origins |= {s.name: f"crate::{s.declared_in}" for s in k.structures.values() if s.name in origins and s.crate == STRUCTURES}
     origins |= {"UaArray": "ua_opening"} if has_arrays(structures) else {}
-    put(f"{src}/{new.module}.rt", f"//! The service {new.name}.", origins, [declaration_of(s, k) for s in structures], "crate::")
+    put(path, f"//! The service {new.name}.", origins, [declaration_of(s, k) for s in structures])
 
 
 def write_pair(new: Kind, old: Kind) -> None:
     """Step 4, but for what is written from schema/ alone: the names of the files."""
     if not read(f"{PAIR}/src/fields/{new.module}.rt"):
-        behind(f"{PAIR}/src/fields.rt", f"mod {old.module};\n", f"mod {new.module};\n")
-        behind(f"{PAIR}/specs/Lib.antt", f"pub mod {old.spec}\n", f"pub mod {new.spec}\n")
+        add_of("file", new, old, PAIR)
 
 
 def answering(row: str, kinds: set[str], old: Kind, new: Kind) -> str:
@@ -71,40 +71,25 @@ def answering(row: str, kinds: set[str], old: Kind, new: Kind) -> str:
 
 
 def write_messages(new: Kind, old: Kind, structures: list[Structure], k: Schema) -> None:
-    """Steps 2, 3, 6 and 7, and the rows of 8."""
-    for path in files_by_kind(old):
-        write(path, copied(read(path), old, new))
+    """Steps 2, 3, 6 and 7, and what stands of each kind in 4 and 5."""
+    add_of("kind", new, old)
+    if new.items:
+        add_of("items", new, old)
     kinds = {it.name for it in kinds_of(k)} - {new.name}
     write(f"{ROWS}/stdout", "\n".join(answering(line, kinds, old, new) for line in read(f"{ROWS}/stdout").split("\n")))
-    number = f"    UA_{old.word.upper()}_RESPONSE = {old.response},\n"
-    behind(HEADER, number, number.replace(old.word.upper(), new.word.upper()).replace(old.response, new.response))
-    numbers = f"| {old.name} | {old.request} | {old.response} |\n"
-    behind(DEFINITIONS, numbers, renamed(numbers, old, new))
-    behind(DEFINITIONS, line_of(DEFINITIONS, rf".*`{old.word}_response` \|"), "".join(row_of(s) for s in structures))
+    behind(DEFINITIONS, line_with_end(DEFINITIONS, f"`{old.word}_response` |"), "".join(row_of(s) for s in structures))
     for s in structures:
-        word = s.name.removeprefix(new.name)
-        if word in ("Request", "Response"):
-            behind(MEMORY, f"`Wire for {old.name}{word}`", f" `Wire for {s.name}`")
-            continue
-        behind(f"{SERVICES}/src/lib.rt", f"{new.name}Request,", f" {s.name},")
-        write(f"{ROWS}/src/lists.rt", copied(read(f"{ROWS}/src/lists.rt"), Kind("UserTokenPolicy"), Kind(s.name)))
-        behind(MEMORY, "`Wire for WriteValue`", f" `Wire for {s.name}`")
+        if not s.role:
+            add_of("part", Kind(s.name), old)
 
 
 def write_server(new: Kind, old: Kind, structures: list[Structure]) -> None:
-    """Of step 5 the names of its files, the arm that calls the handler, and how many items it asks for."""
-    src, specs = f"{SERVER}/src", f"{SERVER}/specs"
-    if not read(f"{src}/{new.module}.rt"):
-        write(f"{src}/{new.module}.rt", f"//! The service {new.name}.\n")
-        write(f"{specs}/{new.spec}.antt", f"-- The answer of {new.name} ({structures[-1].clause}).\n")
-        behind(f"{src}/lib.rt", "mod watch;\n", f"mod {new.module};\n")
-        behind(f"{specs}/Lib.antt", "pub mod Attributes\n", f"pub mod {new.spec}\n")
-    arm = line_of(f"{src}/services.rt", rf" *Request::{old.name}\(.*")
-    behind(f"{src}/services.rt", arm, renamed(arm, old, new).replace(f".{old.word}(", f".{new.word}("))
-    for path in (f"{src}/watch.rt", f"{specs}/Requests.antt") if new.items else ():
-        line = line_of(path, r".*\bWrite\b.*nodes_to_write.*")
-        behind(path, line, line.replace("Write", new.name).replace("nodes_to_write", new.items))
-        write(path, re.sub(r"(Request\.TheVariants\.\{[^}]*)\}", rf"\1, {new.name}}}", read(path)))
+    """Of step 5 the files, and their names."""
+    src, specs = f"{SERVER}/src/{new.module}.rt", f"{SERVER}/specs/{new.spec}.antt"
+    if not read(src):
+        write(src, f"//! The service {new.name}.\n")
+        write(specs, f"-- The answer of {new.name} ({structures[-1].clause}).\n")
+        add_of("file", new, old, SERVER)
 
 
 def write_service(text: str, k: Schema) -> None:

@@ -4,13 +4,12 @@ from __future__ import annotations
 import functools
 import os
 import re
+from typing import NamedTuple
 
 TOP = os.path.dirname(os.path.dirname(os.path.dirname(os.path.abspath(__file__))))
 OPENING, STRUCTURES, PAIR, ROWS = "crates/ua_opening", "crates/ua_structures", "crates/ua_pair", "crates/test_values"
 SERVICES, SERVER = "crates/ua_services", "crates/ua_server"
-HEADER = "crates/ua_c/include/ua.h"
-DEFINITIONS, MEMORY = "docs/ENCODINGS.md", "crates/test_values/AMPLE-MEMORY.md"
-USE = re.compile(r"^((?:pub |ghost )*use )([\w.:]+?)(\.|::)(?:\{([^}]*)\}|(\w+))(;?)$", re.M)
+DEFINITIONS = "docs/ENCODINGS.md"
 OLD: dict[str, str] = {}
 NEW: dict[str, str] = {}
 
@@ -68,31 +67,24 @@ def snake(name: str) -> str:
 
 
 def code(text: str) -> str:
-    """A text without its comments.
+    """A text without the lines that are comments.
 
     >>> code("-- of it\\na = b\\n  // c\\nd")
     'a = b\\nd'
     """
-    return re.sub(r"^\s*(?://|--).*\n?", "", text, flags=re.M)
+    return "\n".join(line for line in text.split("\n") if not line.lstrip().startswith(("//", "--")))
 
 
 def plain(text: str) -> str:
-    """A text in which neither comments nor layout count, nor which letter a variable has.
+    """A text in which neither comments nor layout count.
 
-    >>> plain("f (λ s. s.name,\\n)") == plain("-- a comment\\nf (λ v. v.name)")
+    >>> plain("f (s. s.name,\\n)") == plain("-- a comment\\nf (s. s.name)")
     True
     """
-    text = re.sub(r"(?<![\w'.])[a-z](?![\w'])", "x", code(text))
-    return re.sub(r",(?=[)\]}])|;(?=\})|^∷", "", re.sub(r"\s+", "", text))
-
-
-def depth(text: str) -> int:
-    """How many brackets it opens and does not close.
-
-    >>> depth("f(a, {b"), depth("})")
-    (2, -2)
-    """
-    return sum((c in "({[") - (c in ")}]") for c in text)
+    text = "".join(code(text).split())
+    for mark, end in (",)", ")"), (",]", "]"), (",}", "}"), (";}", "}"):
+        text = text.replace(mark, end)
+    return text
 
 
 def nested(parts: list[str], head: str = "") -> str:
@@ -129,50 +121,120 @@ def braced(words: str) -> str:
     return f"({words})" if " " in words and not words.startswith("(") else words
 
 
-def names_in(use: re.Match[str]) -> list[str]:
-    """The names that a `use` brings.
+class Use(NamedTuple):
+    """An import: from where to where it stands, the words in front of its path, the names that it brings, and its last mark."""
 
-    >>> [names_in(it) for it in USE.finditer("use a::{b, c};\\nuse Rattle.d.{e}\\nuse f::g;")]
-    [['b', 'c'], ['e'], ['g']]
+    start: int
+    end: int
+    words: str
+    path: str
+    names: list[str]
+    mark: str
+
+    def line(self, path: str, names: list[str]) -> str:
+        """An import of the same form."""
+        return f"{self.words}{path}{'.' if path.startswith('Rattle.') else '::'}{{{', '.join(names)}}}{self.mark}"
+
+
+def uses(text: str) -> list[Use]:
+    """The imports of a text.
+
+    >>> [it[2:] for it in uses("pub use a::{b,\\n    c};\\nuse Rattle.d.{e}\\n  use h::i;\\nuse f::g;")]
+    [('pub use ', 'a', ['b', 'c'], ';'), ('use ', 'Rattle.d', ['e'], ''), ('use ', 'f', ['g'], ';')]
     """
-    return [it.strip() for it in (use.group(4) or use.group(5) or "").split(",") if it.strip()]
+    found, at = [], 0
+    for line in text.split("\n"):
+        words = next((it for it in ("use ", "pub use ", "ghost use ", "pub ghost use ") if line.startswith(it)), "")
+        end = at + len(line) if "{" not in line else text.find("\n", text.find("}", at))
+        end = end if end >= 0 else len(text)
+        whole = text[at + len(words):end]
+        mark = ";" * whole.endswith(";")
+        path, brace, names = whole.removesuffix(";").partition("{")
+        if not brace:
+            path, _, names = path.replace("::", ".").rpartition(".")
+            path = path if whole.startswith("Rattle.") else path.replace(".", "::")
+        if words and path and " " not in path:
+            listed = [it.strip() for it in names.removesuffix("}").split(",")]
+            found.append(Use(at, end, words, path.removesuffix(".").removesuffix("::"), [it for it in listed if it], mark))
+        at += len(line) + 1
+    return found
 
 
-def with_imports(text: str, words: str, origins: dict[str, str], own: str) -> str:
-    """The text with imports of what these words need from elsewhere; those of its own crate stand last.
+def named(path: str, name: str) -> str:
+    """One name of an import, as schema/kinds.lines has it.
 
-    >>> with_imports("use std::Vec;\\n", "let a: NodeId = b(c);", {"NodeId": "ua_builtin", "b": "crate::d", "z": "e"}, "crate::")
-    'use std::Vec;\\nuse ua_builtin::{NodeId};\\nuse crate::d::{b};\\n'
+    >>> named("ua_wire::fault", "A"), named("Rattle.ua_wire.specs.A", "b as c")
+    ('use ua_wire::fault::A', 'use Rattle.ua_wire.specs.A.b as c')
     """
-    need = [(path, name) for name, path in origins.items() if re.search(rf"(?<![\w'.:]){re.escape(name.strip('◌'))}(?![\w'])", words)]
-    dot, end = ("::", ";") if own == "crate::" else (".", "")
-    for path, name in sorted(need, key=lambda it: (own in it[0], not it[0].startswith(("Rattle.std", "std")), it)):
-        uses = [m for m in USE.finditer(text) if "ghost" not in m.group(1)]
-        same = next((m for m in uses if m.group(2) == path and m.group(1) == "use "), None)
-        line = f"use {path}{dot}{{{', '.join(dict.fromkeys((names_in(same) if same else []) + [name]))}}}{end}"
-        if same:
-            text = text[:same.start()] + line + text[same.end():]
-        elif uses:
-            text = text[:uses[-1].end()] + "\n" + line + text[uses[-1].end():]
-        else:
-            text += ("\n" if end else "") + line + "\n"
+    return f"use {path}{'.' if path.startswith('Rattle.') else '::'}{name}"
+
+
+def with_names(text: str, pairs: list[tuple[str, str]]) -> str:
+    """The text with the second import of each pair behind the first one, in an import of its own where it is of another file.
+
+    >>> with_names("use a::{B, C};\\n", [("use a::B", "use a::D")]), with_names("use a::{B, C};\\n", [("use a::B", "use d::E")])
+    ('use a::{B, D, C};\\n', 'use a::{B, C};\\nuse d::{E};\\n')
+    """
+    for use in reversed(uses(text)):
+        names, others = list(use.names), {}
+        for before, more in pairs:
+            for name in use.names:
+                path, _, last = more.removeprefix("use ").rpartition("." if "Rattle." in more else "::")
+                if named(use.path, name) == before and path == use.path:
+                    names.insert(names.index(name) + 1, last)
+                elif named(use.path, name) == before:
+                    others[path] = others.get(path, []) + [last]
+        lines = [use.line(use.path, names) if names != use.names else text[use.start:use.end]]
+        lines += [use.line(path, found) for path, found in others.items()]
+        text = text[:use.start] + "\n".join(lines) + text[use.end:]
     return text
 
 
-def put(path: str, title: str, origins: dict[str, str], blocks: list[str], own: str, more: str = "") -> None:
-    """Adds items at the end of a file, which may be new, and what they and the macros in them import."""
-    words = re.sub(r'"[^"]*"', "", code("".join(blocks))) + more
-    rust = own == "crate::"
-    origins = {name: it for name, it in origins.items() if rust != ("." in it) and re.split(r"\.|::", it)[-1] != stem(path)}
-    write(path, with_imports(read(path) or title + "\n", words, origins, own).rstrip("\n") + "\n\n" + "\n".join(blocks))
+def with_imports(text: str, origins: dict[str, str]) -> str:
+    """The text with imports of these names; those of its own crate stand last.
+
+    >>> with_imports("use std::Vec;\\n", {"NodeId": "ua_builtin", "b": "crate::d"})
+    'use std::Vec;\\nuse ua_builtin::{NodeId};\\nuse crate::d::{b};\\n'
+    """
+    need = [(path, name) for name, path in origins.items()]
+    for path, name in sorted(need, key=lambda it: ("crate::" in it[0], not it[0].startswith("std"), it)):
+        stand = [it for it in uses(text) if "ghost" not in it.words]
+        same = next((it for it in stand if it.path == path and it.words == "use "), None)
+        line = f"use {path}::{{{', '.join(dict.fromkeys((same.names if same else []) + [name]))}}};"
+        if same:
+            text = text[:same.start] + line + text[same.end:]
+        elif stand:
+            text = text[:stand[-1].end] + "\n" + line + text[stand[-1].end:]
+        else:
+            text += "\n" + line + "\n"
+    return text
 
 
-def line_of(path: str, pattern: str) -> str:
-    """The first line of a file that is so."""
-    m = re.search(rf"^{pattern}\n", read(path), re.M)
-    if not m:
-        raise Refused(f"{path} has no line as {pattern}")
-    return m.group()
+def put(path: str, title: str, origins: dict[str, str], blocks: list[str]) -> None:
+    """Adds items at the end of a file of Rust, which may be new, and what they import."""
+    origins = {name: it for name, it in origins.items() if it != f"crate::{stem(path)}"}
+    write(path, with_imports(read(path) or title + "\n", origins).rstrip("\n") + "\n\n" + "\n".join(blocks))
+
+
+def spots(text: str, piece: str, in_lines: bool) -> list[tuple[int, int]]:
+    """From where to where a text has a piece, which is whole lines or not.
+
+    >>> spots("ab\\nb\\n", "b\\n", True), spots("ab\\nb\\n", "b", False)
+    ([(3, 5)], [(1, 2), (3, 4)])
+    """
+    found, at = [], text.find(piece)
+    while at >= 0:
+        found += [(at, at + len(piece))] if not in_lines or ("\n" + text)[at] == "\n" else []
+        at = text.find(piece, at + 1)
+    return found
+
+
+def line_with_end(path: str, end: str) -> str:
+    """The line of a file that ends so."""
+    found = [line + "\n" for line in read(path).split("\n") if line.endswith(end)]
+    if len(found) != 1:
+        raise Refused(f"{path}: {len(found)} lines, and not one, end with {end}")
+    return found[0]
 
 
 def behind(path: str, line: str, more: str) -> None:
