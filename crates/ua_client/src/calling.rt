@@ -10,11 +10,10 @@ ghost use Rattle.ua_client.specs.Sent.{bodies_of, group_refusal};
 use crate::collecting::{append_front, empty_slots, make_room};
 use crate::connection::Connection;
 use crate::fault::{CallsFault, ClientFault};
-use crate::group::{AskedGroup, Body, ask_group, judge_group};
+use crate::group::{JudgedGroup, ask_group, judge_group};
 use crate::laws::{calls_are_told_behind, clients_are_settled};
 use crate::reply::Reply;
 use crate::sending::write_calls;
-use std::alloc::Global;
 use ua_builtin::DateTime;
 use ua_channel::Line;
 use ua_services::Request;
@@ -37,39 +36,38 @@ fn group_end(start: usize, count: usize) -> usize
 }
 
 impl Connection {
-    /// Sends a group of calls with these bodies, none of which is refused, writes its frames, and
-    /// waits for its replies. Appends those that arrived, up to the first that is missing.
-    fn call_bodies<L: Line>(
+    /// Sends a group of calls, none of which is refused, writes its frames, and waits for its
+    /// replies. Appends those that arrived, up to the first that is missing.
+    fn call_judged<L: Line>(
         &mut self,
-        alloc: Global,
         line: &mut L,
         reads: &mut u64,
-        requests: &[Request],
-        bodies: &[Body],
+        group: &JudgedGroup<'_>,
         moment: DateTime,
         replies: &mut Vec<Reply>,
     ) -> Result<(), ClientFault>
-        requires some { 0 < length requests.now }
-        requires few { length requests.now ≤ 64 }
-        requires bodies { bodies.now ≡ bodies_of requests.now }
-        requires judged { group_refusal (phase_of (channel_of_connection self.old)) 0 requests.now ≡ None }
-        ensures calls { CallsGroup requests.now self.old self.new (L.traffic line.old) (L.traffic line.new) reads.old
-            reads.new (naming_request (length replies.new.items - length replies.old.items) result) replies.old.items
-            replies.new.items }
+        requires some { 0 < length group.now.requests.now }
+        requires few { length group.now.requests.now ≤ 64 }
+        requires bodies { group.now.bodies.items ≡ bodies_of group.now.requests.now }
+        requires judged { group_refusal (phase_of (channel_of_connection self.old)) 0 group.now.requests.now ≡ None }
+        ensures calls { CallsGroup group.now.requests.now self.old self.new (L.traffic line.old) (L.traffic line.new)
+            reads.old reads.new (naming_request (length replies.new.items - length replies.old.items) result)
+            replies.old.items replies.new.items }
         ensures more { length replies.old.items ≤ length replies.new.items }
-        ensures count { OnOk result (length replies.new.items ≡ length replies.old.items + length requests.now) }
-        ensures missing { OnErr result (length replies.new.items < length replies.old.items + length requests.now) }
+        ensures count { OnOk result
+            (length replies.new.items ≡ length replies.old.items + length group.now.requests.now) }
+        ensures missing { OnErr result
+            (length replies.new.items < length replies.old.items + length group.now.requests.now) }
         ensures failed { L.failures line.new ≡ failures_behind (L.failures line.old) result }
     {
         calls_are_told_behind();
-        make_room(replies, requests.len())?;
-        let asked = ask_group(alloc, &mut self.channel, bodies)?;
-        let AskedGroup { first, calls } = asked;
-        let Ok(()) = write_calls(line, &calls) else {
+        make_room(replies, group.requests.len())?;
+        let asked = ask_group(self.alloc, &mut self.channel, group)?;
+        let Ok(()) = write_calls(line, &asked.calls) else {
             return Err(ClientFault::Write);
         };
-        let mut slots = empty_slots(alloc, requests)?;
-        let waited = self.collect(alloc, line, reads, requests, first, moment, &mut slots);
+        let mut slots = empty_slots(self.alloc, asked.requests)?;
+        let waited = self.collect(line, reads, &asked, moment, &mut slots);
         append_front(slots, replies);
         waited
     }
@@ -78,7 +76,6 @@ impl Connection {
     /// them.
     pub fn call_group<L: Line>(
         &mut self,
-        alloc: Global,
         line: &mut L,
         reads: &mut u64,
         requests: &[Request],
@@ -94,11 +91,11 @@ impl Connection {
         ensures failed { L.failures line.new ≡ failures_behind (L.failures line.old) (fault_alone result) }
     {
         let had = replies.len();
-        let bodies = match judge_group(alloc, &self.channel, requests) {
-            Ok(bodies) => bodies,
+        let group = match judge_group(self.alloc, &self.channel, requests) {
+            Ok(group) => group,
             Err(calls) => return Err(calls),
         };
-        match self.call_bodies(alloc, line, reads, requests, &bodies, moment, replies) {
+        match self.call_judged(line, reads, &group, moment, replies) {
             Ok(()) => Ok(()),
             Err(fault) => Err(CallsFault {
                 request: replies.len() - had,
@@ -110,7 +107,6 @@ impl Connection {
     /// Calls in groups of 64, the last of which may have fewer, each written and then answered.
     pub fn call_groups<L: Line>(
         &mut self,
-        alloc: Global,
         line: &mut L,
         requests: &[Request],
         moment: DateTime,
@@ -129,7 +125,7 @@ impl Connection {
         while start < requests.len() {
             let end = group_end(start, requests.len());
             let group = &requests[start..end];
-            match self.call_group(alloc, line, &mut reads, group, moment, replies) {
+            match self.call_group(line, &mut reads, group, moment, replies) {
                 Ok(()) => start = end,
                 Err(calls) => return Err(calls.behind(start)),
             }

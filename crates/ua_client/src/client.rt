@@ -24,7 +24,6 @@ const NO_ID: u32 = u32::MAX;
 /// A client whose channel is open, until the client fails or is closed.
 #[derive(Debug, Drop)]
 pub struct Client {
-    alloc: Global,
     connection: Connection,
     /// Whether the client failed or was closed.
     is_done: bool,
@@ -73,7 +72,6 @@ impl Client {
         };
         match connection.open(line, moment) {
             Ok(()) => Ok(Client {
-                alloc,
                 connection,
                 is_done: false,
             }),
@@ -97,7 +95,7 @@ impl Client {
         if self.is_done {
             return Err(ClientFault::Closed);
         }
-        match UaString::from_str(self.alloc, ANONYMOUS) {
+        match UaString::from_str(self.connection.alloc, ANONYMOUS) {
             Ok(policy_id) => self.begin_session_as(line, policy_id, moment),
             Err(_) => {
                 self.is_done = true;
@@ -162,10 +160,7 @@ impl Client {
                 fault: ClientFault::Closed,
             });
         }
-        match self
-            .connection
-            .begin_session(self.alloc, line, policy_id, moment)
-        {
+        match self.connection.begin_session(line, policy_id, moment) {
             Ok(token) => Ok(token),
             Err(failed) => {
                 self.is_done = failed.fault.ends();
@@ -216,7 +211,7 @@ impl Client {
             × (line.new ≡ line.old) }
         ensures failed { L.failures line.new ≡ failures_behind (L.failures line.old) result }
     {
-        let mut replies = no_replies(self.alloc, requests.len());
+        let mut replies = no_replies(self.connection.alloc, requests.len());
         match self.call_into(line, requests, moment, &mut replies) {
             Ok(()) => Ok(replies),
             Err(calls) => {
@@ -259,10 +254,7 @@ impl Client {
                 fault: ClientFault::Closed,
             });
         }
-        match self
-            .connection
-            .call_groups(self.alloc, line, requests, moment, replies)
-        {
+        match self.connection.call_groups(line, requests, moment, replies) {
             Ok(()) => Ok(()),
             Err(calls) => {
                 self.is_done = calls.fault.ends();

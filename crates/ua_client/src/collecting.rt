@@ -11,6 +11,7 @@ ghost use Rattle.ua_client.specs.declared.fault.ClientFault.TheVariants.{OutOfMe
 
 use crate::connection::Connection;
 use crate::fault::ClientFault;
+use crate::group::AskedGroup;
 use crate::laws::calls_are_told_once;
 use crate::reply::{Reply, place_reply};
 use std::alloc::Global;
@@ -121,23 +122,21 @@ pub fn append_front(slots: Vec<Option<Reply>>, replies: &mut Vec<Reply>)
 }
 
 impl Connection {
-    /// Waits until each of these requests is answered, whose calls have RequestIds counted from the
+    /// Waits until each request of a group is answered, whose calls have RequestIds counted from the
     /// first.
     pub fn collect<L: Line>(
         &mut self,
-        alloc: Global,
         line: &mut L,
         reads: &mut u64,
-        requests: &[Request],
-        first: u32,
+        asked: &AskedGroup<'_>,
         moment: DateTime,
         slots: &mut Vec<Option<Reply>>,
     ) -> Result<(), ClientFault>
-        requires some { 0 < length requests.now }
-        requires none { slots.old.items ≡ none_for requests.now }
-        ensures collects { Collects slots.new.items requests.now first self.old self.new (L.traffic line.old)
-            (L.traffic line.new) reads.old reads.new result }
-        ensures count { length slots.new.items ≡ length requests.now }
+        requires some { 0 < length asked.now.requests.now }
+        requires none { slots.old.items ≡ none_for asked.now.requests.now }
+        ensures collects { Collects slots.new.items asked.now.requests.now asked.now.first self.old self.new
+            (L.traffic line.old) (L.traffic line.new) reads.old reads.new result }
+        ensures count { length slots.new.items ≡ length asked.now.requests.now }
         ensures whole { OnOk result (list_any is_none slots.new.items ≡ false) }
         ensures missing { OnErr result (list_any is_none slots.new.items ≡ true) }
         ensures failed { L.failures line.new ≡ failures_behind (L.failures line.old) result }
@@ -146,7 +145,7 @@ impl Connection {
         calls_are_told_once();
         while is_waiting(slots) {
             let event = self.hear(line, reads, moment)?;
-            place_reply(alloc, requests, first, event, slots)?;
+            place_reply(self.alloc, asked.requests, asked.first, event, slots)?;
         }
         Ok(())
     }

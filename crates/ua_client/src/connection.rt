@@ -5,12 +5,15 @@ ghost use Rattle.ua_client.specs.Hearing.{Listens, Fills, Hears, failures_behind
 
 use crate::fault::ClientFault;
 use crate::piece::Piece;
+use std::alloc::Global;
 use ua_builtin::{DateTime, StatusCode};
 use ua_channel::{ClientChannel, ClientEvent, ClientTakeFault, Line};
 
 /// A channel, and the bytes that were read from its transport and are not yet taken.
 #[derive(Debug, Drop)]
 pub struct Connection {
+    /// The allocator of what the calls return.
+    pub alloc: Global,
     pub channel: ClientChannel,
     pub piece: Piece,
 }

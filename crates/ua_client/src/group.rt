@@ -121,17 +121,27 @@ fn fault_at(place: usize, fault: ClientFault) -> CallsFault
     }
 }
 
-/// The bodies of a group of requests, where a channel would send all of them; else the first of
+/// A group of requests that a channel would send.
+#[derive(Debug, Drop)]
+pub struct JudgedGroup<'a> {
+    /// The requests, in order.
+    pub requests: &'a [Request],
+    /// The body of each.
+    pub bodies: Vec<Body>,
+}
+
+/// A group of requests with their bodies, where a channel would send all of them; else the first of
 /// them that it would not send.
-pub fn judge_group(
+pub fn judge_group<'a>(
     alloc: Global,
     channel: &ClientChannel,
-    requests: &[Request],
-) -> Result<Vec<Body>, CallsFault>
+    requests: &'a [Request],
+) -> Result<JudgedGroup<'a>, CallsFault>
     ensures judged { AnswersBy (group_refusal (phase_of channel.now) 0 requests.now) (fault_alone result) }
     ensures place { IfErr result (λ calls. RefusesBy (phase_of channel.now) requests.now calls.request calls.fault) }
     ensures within { IfErr result (λ calls. calls.request < length requests.now) }
-    ensures bodies { IfOk result (λ bodies. bodies.items ≡ bodies_of requests.now) }
+    ensures requests { IfOk result (λ group. group.requests.now ≡ requests.now) }
+    ensures bodies { IfOk result (λ group. group.bodies.items ≡ bodies_of requests.now) }
 {
     let mut bodies = Vec::new(alloc);
     for message in requests {
@@ -144,34 +154,37 @@ pub fn judge_group(
             return Err(fault_at(place, ClientFault::OutOfMemory));
         };
     }
-    Ok(bodies)
+    Ok(JudgedGroup { requests, bodies })
 }
 
-/// A call of each body of a group.
+/// A group of requests with the call of each.
 #[derive(Debug, Drop)]
-pub struct AskedGroup {
+pub struct AskedGroup<'a> {
+    /// The requests, in order.
+    pub requests: &'a [Request],
     /// The RequestId of the first call; 0 where there is none.
     pub first: u32,
     /// The calls, in order.
     pub calls: Vec<AskedCall>,
 }
 
-/// Sends a call of each body, in order.
-pub fn ask_group(
+/// Sends a call of each request of a group, in order.
+pub fn ask_group<'a>(
     alloc: Global,
     channel: &mut ClientChannel,
-    bodies: &[Body],
-) -> Result<AskedGroup, ClientFault>
+    group: &JudgedGroup<'a>,
+) -> Result<AskedGroup<'a>, ClientFault>
     ensures asks { (asks : List Placed) (octets : List ℕ) (frames : List Frame) (rest : List ℕ)
         → ClientStands channel.old asks octets frames rest
-        → AsksOr (λ found. AsksFrom bodies.now channel.old channel.new asks octets frames rest
+        → AsksOr (λ found. AsksFrom group.now.bodies.items channel.old channel.new asks octets frames rest
         (found.first, asked_octets found.calls.items)) result }
+    ensures requests { IfOk result (λ found. found.requests.now ≡ group.now.requests.now) }
     ensures same { SameClient channel.old channel.new }
     ensures memory { IfErr result (λ fault. fault ≡ OutOfMemory) }
 {
     let mut calls = Vec::new(alloc);
     let mut first = None;
-    for body in bodies {
+    for body in &group.bodies {
         let Ok(call) = channel.call(body.octets()) else {
             return Err(ClientFault::OutOfMemory);
         };
@@ -181,6 +194,7 @@ pub fn ask_group(
         };
     }
     Ok(AskedGroup {
+        requests: group.requests,
         first: first.unwrap_or(0),
         calls,
     })

@@ -1,5 +1,5 @@
-//! A client of OPC UA Binary over a transport, under the SecurityPolicy None (OPC 10000-4, 5.5 and
-//! 5.6; OPC 10000-6, 6.7 and 7.1).
+//! A client of OPC UA Binary over a transport, under the SecurityPolicy None (OPC 10000-4, 5.6 and
+//! 5.7; OPC 10000-6, 6.7 and 7.1).
 //!
 //! The main contracts are those of [`Client::open`], [`Client::begin_session_as`],
 //! [`Client::call_all`], [`Client::call_into`], [`Client::renew`] and [`Client::close`]: the bytes

@@ -31,6 +31,7 @@ impl Connection {
     {
         match Piece::new(alloc) {
             Ok(piece) => Ok(Connection {
+                alloc,
                 channel: ClientChannel::new(alloc, limits, url),
                 piece,
             }),

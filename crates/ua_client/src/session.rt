@@ -13,7 +13,7 @@ use crate::connection::Connection;
 use crate::fault::{ClientFault, SessionFault};
 use crate::laws::clients_are_settled;
 use crate::reply::{Reply, only_reply};
-use std::alloc::{AllocError, Global};
+use std::alloc::AllocError;
 use std::slice;
 use ua_builtin::{DateTime, NodeId, StatusCode, UaString, WriteFault};
 use ua_channel::Line;
@@ -71,7 +71,6 @@ impl Connection {
     /// The reply to a request that is called by itself.
     fn call_one<L: Line>(
         &mut self,
-        alloc: Global,
         line: &mut L,
         reads: &mut u64,
         request: &Request,
@@ -81,9 +80,9 @@ impl Connection {
             (L.traffic line.old) (L.traffic line.new) reads.old reads.new result }
         ensures failed { L.failures line.new ≡ failures_behind (L.failures line.old) result }
     {
-        let mut replies = Vec::new(alloc);
+        let mut replies = Vec::new(self.alloc);
         let group = slice::from_ref(request);
-        match self.call_group(alloc, line, reads, group, moment, &mut replies) {
+        match self.call_group(line, reads, group, moment, &mut replies) {
             Ok(()) => Ok(only_reply(replies)),
             Err(calls) => {
                 drop(replies);
@@ -95,7 +94,6 @@ impl Connection {
     /// The reply to a request that is called by itself, unless the service failed.
     fn serve<L: Line>(
         &mut self,
-        alloc: Global,
         line: &mut L,
         reads: &mut u64,
         request: Request,
@@ -105,7 +103,7 @@ impl Connection {
             self.new (L.traffic line.old) (L.traffic line.new) reads.old reads.new result }
         ensures failed { L.failures line.new ≡ failures_behind (L.failures line.old) result }
     {
-        let replied = self.call_one(alloc, line, reads, &request, moment);
+        let replied = self.call_one(line, reads, &request, moment);
         drop(request);
         match replied {
             Ok(reply) => judge_reply(reply),
@@ -114,18 +112,17 @@ impl Connection {
     }
 
     /// The CreateSession that would be sent next.
-    fn creating(&self, alloc: Global, moment: DateTime) -> Result<Request, AllocError>
+    fn creating(&self, moment: DateTime) -> Result<Request, AllocError>
         ensures { (s : ClientPlace) → StandsAt (channel_of_connection self.now) s
             → IfOk result (λ r. r ≡ creating_at (url_of (channel_of_connection self.now)) moment s) }
     {
         let url = self.channel.url().try_clone()?;
-        create_session_request(alloc, url, moment, self.channel.next_id())
+        create_session_request(self.alloc, url, moment, self.channel.next_id())
     }
 
     /// The ActivateSession under a token, by the token policy with an id, that would be sent next.
     fn activating(
         &self,
-        alloc: Global,
         token: &NodeId,
         policy_id: UaString,
         moment: DateTime,
@@ -136,7 +133,7 @@ impl Connection {
             return Err(ClientFault::OutOfMemory);
         };
         let handle = self.channel.next_id();
-        match activate_session_request_as(alloc, token, policy_id, moment, handle) {
+        match activate_session_request_as(self.alloc, token, policy_id, moment, handle) {
             Ok(request) => Ok(request),
             Err(WriteFault::OutOfMemory) => Err(ClientFault::OutOfMemory),
             Err(WriteFault::NotWritable) => Err(ClientFault::NotWritable),
@@ -146,7 +143,6 @@ impl Connection {
     /// Calls CreateSession, and returns the token of the session.
     fn create_session<L: Line>(
         &mut self,
-        alloc: Global,
         line: &mut L,
         reads: &mut u64,
         moment: DateTime,
@@ -157,10 +153,10 @@ impl Connection {
             taken result) self.old self.new (L.traffic line.old) (L.traffic line.new) reads.old reads.new result }
         ensures failed { L.failures line.new ≡ failures_behind (L.failures line.old) result }
     {
-        let Ok(request) = self.creating(alloc, moment) else {
+        let Ok(request) = self.creating(moment) else {
             return Err(ClientFault::OutOfMemory);
         };
-        match self.serve(alloc, line, reads, request, moment) {
+        match self.serve(line, reads, request, moment) {
             Ok(reply) => token_of(reply),
             Err(fault) => Err(fault),
         }
@@ -169,7 +165,6 @@ impl Connection {
     /// Calls ActivateSession under the token of a session, by the token policy with an id.
     fn activate_session<L: Line>(
         &mut self,
-        alloc: Global,
         line: &mut L,
         reads: &mut u64,
         token: &NodeId,
@@ -181,11 +176,11 @@ impl Connection {
             result) self.old self.new (L.traffic line.old) (L.traffic line.new) reads.old reads.new result }
         ensures failed { L.failures line.new ≡ failures_behind (L.failures line.old) result }
     {
-        let request = match self.activating(alloc, token, policy_id, moment) {
+        let request = match self.activating(token, policy_id, moment) {
             Ok(request) => request,
             Err(fault) => return Err(fault),
         };
-        match self.serve(alloc, line, reads, request, moment) {
+        match self.serve(line, reads, request, moment) {
             Ok(reply) => {
                 drop(reply);
                 Ok(())
@@ -198,7 +193,6 @@ impl Connection {
     /// by the token policy with an id.
     pub fn begin_session<L: Line>(
         &mut self,
-        alloc: Global,
         line: &mut L,
         policy_id: UaString,
         moment: DateTime,
@@ -210,11 +204,11 @@ impl Connection {
     {
         clients_are_settled();
         let mut reads = u64::MAX;
-        let token = match self.create_session(alloc, line, &mut reads, moment) {
+        let token = match self.create_session(line, &mut reads, moment) {
             Ok(token) => token,
             Err(fault) => return Err(SessionFault { token: None, fault }),
         };
-        match self.activate_session(alloc, line, &mut reads, &token, policy_id, moment) {
+        match self.activate_session(line, &mut reads, &token, policy_id, moment) {
             Ok(()) => Ok(token),
             Err(fault) => Err(SessionFault {
                 token: Some(token),

@@ -4,4 +4,4 @@ use Rattle.ua_client.proofs.Askings.{Asked}
 use Rattle.ua_client.proofs.group.ask_group.Given as goal
 
 abbrev pub invariant-loop-body : goal.invariant-loop-body
-invariant-loop-body l = Asked (take l.body-index l.bodies) l.fn.channel l.channel (asked_octets l.calls.items) l.first
+invariant-loop-body l = Asked (take l.body-index l.body-items) l.fn.channel l.channel (asked_octets l.calls.items) l.first

@@ -8,9 +8,10 @@ use Rattle.ua_client.specs.declared.reply.Reply.{Reply}
 use Rattle.ua_client.proofs.Incoming.{waits-first, waits-more, collects-heard, collects-misread, collects-all, reading-failures}
 use Rattle.ua_client.proofs.connection.Connection.collect.Goals as goal
 
-pub loop-alloc-init : goal.loop-alloc-init
-loop-alloc-init g c = record {
-  waits = waits-first c.args.requests.now c.args.first c.args.self.now (g.L.Line.traffic c.args.line.now) c.args.reads.now c.args.slots.now.items
+pub loop-moment-init : goal.loop-moment-init
+loop-moment-init g c = record {
+  waits = waits-first c.args.asked.now.requests.now c.args.asked.now.first c.args.self.now (g.L.Line.traffic c.args.line.now) c.args.reads.now
+      c.args.slots.now.items
       c.requires.none;
   same = refl;
 }
@@ -18,54 +19,56 @@ loop-alloc-init g c = record {
 pub returns-in_err-event-clause-collects : goal.returns-in_err-event-clause-collects
 returns-in_err-event-clause-collects g c =
     let p = err_from_is_err_and c.from_residual.result c.from_residual.ensures.1 in
-    rw (p.1, p.2) (collects-heard c.args.requests.now c.args.first c.args.self.now c.loop-alloc.self c.hear.new.self (g.L.Line.traffic c.args.line.now)
-    (g.L.Line.traffic c.loop-alloc.line) (g.L.Line.traffic c.hear.new.line)
-    c.args.reads.now c.loop-alloc.reads c.hear.new.reads c.loop-alloc.slots.items c.args.moment c.loop-alloc.invariant.waits c.in_err-event.field-0.0
+    rw (p.1, p.2) (collects-heard c.args.asked.now.requests.now c.args.asked.now.first c.args.self.now c.loop-moment.self c.hear.new.self
+    (g.L.Line.traffic c.args.line.now)
+    (g.L.Line.traffic c.loop-moment.line) (g.L.Line.traffic c.hear.new.line)
+    c.args.reads.now c.loop-moment.reads c.hear.new.reads c.loop-moment.slots.items c.args.moment c.loop-moment.invariant.waits c.in_err-event.field-0.0
     c.in_err-event.ensures.hears (subst (λ (ss : List (Option Reply)). list_any is_none ss ≡ true) c.deref.ensures.value (sym c.is_waiting.ensures
-    ∙ c.loop-alloc-test.true)))
+    ∙ c.loop-moment-test.true)))
 
 pub returns-in_err-event-clause-failed : goal.returns-in_err-event-clause-failed
 returns-in_err-event-clause-failed g c =
     let p = err_from_is_err_and c.from_residual.result c.from_residual.ensures.1 in
     rw (p.1, p.2) (subst (λ (n : ℕ). g.L.Line.failures c.hear.new.line ≡ failures_behind {A = ClientEvent} n (Err c.in_err-event.field-0.0))
-    c.loop-alloc.invariant.same c.in_err-event.ensures.failed)
+    c.loop-moment.invariant.same c.in_err-event.ensures.failed)
 
 pub returns-in_err-place_reply-clause-collects : goal.returns-in_err-place_reply-clause-collects
 returns-in_err-place_reply-clause-collects g c =
     let p = err_from_is_err_and c.from_residual-in_err-place_reply.result c.from_residual-in_err-place_reply.ensures.1 in
-    rw (p.1, p.2) (collects-misread c.args.requests.now c.args.first c.args.self.now c.loop-alloc.self c.hear.new.self (g.L.Line.traffic c.args.line.now)
-    (g.L.Line.traffic c.loop-alloc.line) (g.L.Line.traffic c.hear.new.line)
-    c.args.reads.now c.loop-alloc.reads c.hear.new.reads c.loop-alloc.slots.items c.args.moment c.loop-alloc.invariant.waits c.in_ok-event.event
+    rw (p.1, p.2) (collects-misread c.args.asked.now.requests.now c.args.asked.now.first c.args.self.now c.loop-moment.self c.hear.new.self
+    (g.L.Line.traffic c.args.line.now)
+    (g.L.Line.traffic c.loop-moment.line) (g.L.Line.traffic c.hear.new.line)
+    c.args.reads.now c.loop-moment.reads c.hear.new.reads c.loop-moment.slots.items c.args.moment c.loop-moment.invariant.waits c.in_ok-event.event
     c.in_err-place_reply.field-0.0 c.place_reply.new.slots.items c.in_err-place_reply.ensures.err
-    (subst (λ (ss : List (Option Reply)). list_any is_none ss ≡ true) c.deref.ensures.value (sym c.is_waiting.ensures ∙ c.loop-alloc-test.true))
+    (subst (λ (ss : List (Option Reply)). list_any is_none ss ≡ true) c.deref.ensures.value (sym c.is_waiting.ensures ∙ c.loop-moment-test.true))
     c.in_ok-event.ensures.hears c.client_goes_on.ensures c.calls_are_told_once.ensures c.in_err-place_reply.ensures.fills c.in_err-place_reply.ensures.faults)
 
 pub returns-in_err-place_reply-clause-failed : goal.returns-in_err-place_reply-clause-failed
 returns-in_err-place_reply-clause-failed g c =
     let p = err_from_is_err_and c.from_residual-in_err-place_reply.result c.from_residual-in_err-place_reply.ensures.1 in
     rw (p.1, p.2)
-    (◌∙◌ {b = g.L.Line.failures c.loop-alloc.line} c.in_ok-event.ensures.failed (◌∙◌ {b = g.L.Line.failures c.args.line.now} c.loop-alloc.invariant.same
+    (◌∙◌ {b = g.L.Line.failures c.loop-moment.line} c.in_ok-event.ensures.failed (◌∙◌ {b = g.L.Line.failures c.args.line.now} c.loop-moment.invariant.same
     (sym (reading-failures c.in_err-place_reply.field-0.0 c.in_err-place_reply.ensures.faults (g.L.Line.failures c.args.line.now)))))
 
-pub loop-alloc-preserved : goal.loop-alloc-preserved
-loop-alloc-preserved g c = record {
-  waits = waits-more c.args.requests.now c.args.first c.args.self.now c.loop-alloc.self c.hear.new.self (g.L.Line.traffic c.args.line.now)
-      (g.L.Line.traffic c.loop-alloc.line) (g.L.Line.traffic c.hear.new.line)
-      c.args.reads.now c.loop-alloc.reads c.hear.new.reads c.loop-alloc.slots.items c.args.moment c.loop-alloc.invariant.waits c.in_ok-event.event
+pub loop-moment-preserved : goal.loop-moment-preserved
+loop-moment-preserved g c = record {
+  waits = waits-more c.args.asked.now.requests.now c.args.asked.now.first c.args.self.now c.loop-moment.self c.hear.new.self (g.L.Line.traffic c.args.line.now)
+      (g.L.Line.traffic c.loop-moment.line) (g.L.Line.traffic c.hear.new.line)
+      c.args.reads.now c.loop-moment.reads c.hear.new.reads c.loop-moment.slots.items c.args.moment c.loop-moment.invariant.waits c.in_ok-event.event
       c.in_ok-event.ensures.hears c.client_goes_on.ensures c.calls_are_told_once.ensures
       c.place_reply.new.slots.items c.in_ok-place_reply.ensures.count
-      (subst (λ (ss : List (Option Reply)). list_any is_none ss ≡ true) c.deref.ensures.value (sym c.is_waiting.ensures ∙ c.loop-alloc-test.true))
+      (subst (λ (ss : List (Option Reply)). list_any is_none ss ≡ true) c.deref.ensures.value (sym c.is_waiting.ensures ∙ c.loop-moment-test.true))
       c.in_ok-place_reply.ensures.fills;
-  same = ◌∙◌ {b = g.L.Line.failures c.loop-alloc.line} c.in_ok-event.ensures.failed c.loop-alloc.invariant.same;
+  same = ◌∙◌ {b = g.L.Line.failures c.loop-moment.line} c.in_ok-event.ensures.failed c.loop-moment.invariant.same;
 }
 
-pub loop-alloc-smaller : goal.loop-alloc-smaller
-loop-alloc-smaller g c = c.in_ok-event.ensures.hears.less
+pub loop-moment-smaller : goal.loop-moment-smaller
+loop-moment-smaller g c = c.in_ok-event.ensures.hears.less
 
 pub returns-clause-collects : goal.returns-clause-collects
 returns-clause-collects g c =
-    collects-all c.args.requests.now c.args.first c.args.self.now c.loop-alloc.self c.loop-alloc.self (g.L.Line.traffic c.args.line.now)
-    (g.L.Line.traffic c.loop-alloc.line) (g.L.Line.traffic c.loop-alloc.line)
-    c.args.reads.now c.loop-alloc.reads c.loop-alloc.reads c.loop-alloc.slots.items c.args.moment c.loop-alloc.invariant.waits tt
-    (subst (λ (ss : List (Option Reply)). list_any is_none ss ≡ false) c.deref.ensures.value (sym c.is_waiting.ensures ∙ c.loop-alloc-test.false))
+    collects-all c.args.asked.now.requests.now c.args.asked.now.first c.args.self.now c.loop-moment.self c.loop-moment.self (g.L.Line.traffic c.args.line.now)
+    (g.L.Line.traffic c.loop-moment.line) (g.L.Line.traffic c.loop-moment.line)
+    c.args.reads.now c.loop-moment.reads c.loop-moment.reads c.loop-moment.slots.items c.args.moment c.loop-moment.invariant.waits tt
+    (subst (λ (ss : List (Option Reply)). list_any is_none ss ≡ false) c.deref.ensures.value (sym c.is_waiting.ensures ∙ c.loop-moment-test.false))
     c.requires.some

@@ -3,11 +3,11 @@ use Rattle.ua_client.specs.Hearing.{effort}
 use Rattle.ua_client.proofs.Incoming.{Waiting}
 use Rattle.ua_client.proofs.connection.Connection.collect.Given as goal
 
-abbrev pub invariant-loop-alloc : goal.invariant-loop-alloc
-invariant-loop-alloc g l = record {
-  waits : Waiting l.requests l.first l.fn.self l.self (g.L.Line.traffic l.fn.line) (g.L.Line.traffic l.line) l.fn.reads l.reads l.slots.items;
+abbrev pub invariant-loop-moment : goal.invariant-loop-moment
+invariant-loop-moment g l = record {
+  waits : Waiting l.asked.requests.now l.asked.first l.fn.self l.self (g.L.Line.traffic l.fn.line) (g.L.Line.traffic l.line) l.fn.reads l.reads l.slots.items;
   same : g.L.Line.failures l.line ≡ g.L.Line.failures l.fn.line;
 }
 
-abbrev pub decreases-loop-alloc : goal.decreases-loop-alloc
-decreases-loop-alloc g l = effort l.reads l.self
+abbrev pub decreases-loop-moment : goal.decreases-loop-moment
+decreases-loop-moment g l = effort l.reads l.self

@@ -10,7 +10,7 @@ use Rattle.ua_client.proofs.connection.Connection.listen.Goals as goal
 
 pub returns-in-Err : goal.returns-in-Err
 returns-in-Err c =
-    let new : Connection = record { channel = c.take-found.new.self; piece = c.args.self.now.piece } in
+    let new : Connection = record { alloc = c.args.self.now.alloc; channel = c.take-found.new.self; piece = c.args.self.now.piece } in
     let h = took-as c.args.self.now c.args.moment c.take-found.new.self c.untaken.result.now (Err c.in-Err.fault) c.untaken.ensures.value
     c.in-Err.ensures.answers in
     record {
@@ -21,7 +21,7 @@ returns-in-Err c =
 
 pub returns-in-NeedMore : goal.returns-in-NeedMore
 returns-in-NeedMore c =
-    let new : Connection = record { channel = c.take-found.new.self; piece = c.clear.new.self } in
+    let new : Connection = record { alloc = c.args.self.now.alloc; channel = c.take-found.new.self; piece = c.clear.new.self } in
     let h = took-as c.args.self.now c.args.moment c.take-found.new.self c.untaken.result.now (Ok c.in-Ok.found) c.untaken.ensures.value c.in-Ok.ensures.answers
     in
     record {
@@ -32,7 +32,7 @@ returns-in-NeedMore c =
 
 pub returns-in-Failed : goal.returns-in-Failed
 returns-in-Failed c =
-    let new : Connection = record { channel = c.take-found.new.self; piece = c.skip.new.self } in
+    let new : Connection = record { alloc = c.args.self.now.alloc; channel = c.take-found.new.self; piece = c.skip.new.self } in
     let h = took-as c.args.self.now c.args.moment c.take-found.new.self c.untaken.result.now (Ok c.in-Ok.found) c.untaken.ensures.value c.in-Ok.ensures.answers
     in
     record {
@@ -45,7 +45,7 @@ returns-in-Failed c =
 
 pub returns-in_default : goal.returns-in_default
 returns-in_default c =
-    let new : Connection = record { channel = c.take-found.new.self; piece = c.skip-in_default.new.self } in
+    let new : Connection = record { alloc = c.args.self.now.alloc; channel = c.take-found.new.self; piece = c.skip-in_default.new.self } in
     let h = took-as c.args.self.now c.args.moment c.take-found.new.self c.untaken.result.now (Ok c.in-Ok.found) c.untaken.ensures.value c.in-Ok.ensures.answers
     in
     record {

@@ -6,14 +6,14 @@ use Rattle.ua_client.proofs.connection.Connection.renew.Goals as goal
 
 pub returns-in-Err-clause-renews : goal.returns-in-Err-clause-renews
 returns-in-Err-clause-renews g c =
-    let mid : ClientChannel → Connection = λ channel. record { channel = channel; piece = c.args.self.now.piece } in
+    let mid : ClientChannel → Connection = λ channel. record { alloc = c.args.self.now.alloc; channel = channel; piece = c.args.self.now.piece } in
     rw (c.of_ask.ensures) (renews-refused c.args.moment c.args.self.now (mid c.renew.new.self) (g.L.Line.traffic c.args.line.now) c.in-Err.fault
     (ap mid c.in-Err.ensures.unchanged) c.in-Err.ensures.answers
     (λ s at. c.clients_are_settled.ensures.idle c.args.self.now.channel s c.requires.settled at))
 
 pub returns-in_default-clause-renews : goal.returns-in_default-clause-renews
 returns-in_default-clause-renews g c =
-    let mid : Connection = record { channel = c.renew.new.self; piece = c.args.self.now.piece } in
+    let mid : Connection = record { alloc = c.args.self.now.alloc; channel = c.renew.new.self; piece = c.args.self.now.piece } in
     renews-unwritten c.args.moment c.args.self.now mid mid c.in-Ok.asked.0 c.deref.result.now
     (asks-as c.args.moment c.args.self.now.channel c.renew.new.self c.in-Ok.asked.0 c.in-Ok.asked.1.items c.deref.result.now c.deref.ensures.value
     (record { refused = c.in-Ok.ensures.answers; sends = c.in-Ok.ensures.sent; stands = c.in-Ok.ensures.stands; same = c.in-Ok.ensures.same })) refl
@@ -23,7 +23,7 @@ returns-in_default-clause-renews g c =
 
 pub returns-clause-renews : goal.returns-clause-renews
 returns-clause-renews g c =
-    let mid : Connection = record { channel = c.renew.new.self; piece = c.args.self.now.piece } in
+    let mid : Connection = record { alloc = c.args.self.now.alloc; channel = c.renew.new.self; piece = c.args.self.now.piece } in
     renews-last c.args.moment c.args.self.now mid c.wait_until_renewed.new.self c.in-Ok.asked.0 c.deref.result.now
     (asks-as c.args.moment c.args.self.now.channel c.renew.new.self c.in-Ok.asked.0 c.in-Ok.asked.1.items c.deref.result.now c.deref.ensures.value
     (record { refused = c.in-Ok.ensures.answers; sends = c.in-Ok.ensures.sent; stands = c.in-Ok.ensures.stands; same = c.in-Ok.ensures.same })) refl
