@@ -8,7 +8,7 @@ use crate::told::Told;
 use crate::words::{front, lengths_of, text_of};
 use ua_builtin::Wire;
 use ua_client::ClientFault;
-use ua_loopback::{ConversationLog, Operation, Stage, converse};
+use ua_loopback::{ConversationLog, Fragments, Operation, ServerSetup, Stage, converse};
 use ua_services::Request;
 
 /// Lets a client make operations over a transport to the server of these rows, which takes what is
@@ -18,7 +18,10 @@ pub fn answer(given: &Given, serving: &Serving, words: &str, told: &mut Told) {
     let (what, words) = front(words);
     let (writes, words) = front(words);
     let (reads, words) = front(words);
-    let (writes, reads) = (lengths_of(writes, told), lengths_of(reads, told));
+    let fragments = Fragments {
+        writes: lengths_of(writes, told),
+        reads: lengths_of(reads, told),
+    };
     let turns = turns_of(given, words, told);
     let services = services_over(serving.nodes.as_str(), told);
     let (Some(limits), Some(services)) = (serving.limits, services) else {
@@ -31,17 +34,13 @@ pub fn answer(given: &Given, serving: &Serving, words: &str, told: &mut Told) {
     if !url.is_encodable() {
         return;
     }
-    let found = converse(
-        told.alloc(),
-        services,
+    let server = ServerSetup {
         limits,
-        serving.channel,
-        url,
-        turns.as_slice(),
-        given.moment,
-        writes,
-        reads,
-    );
+        channel_id: serving.channel,
+        services,
+        moment: given.moment,
+    };
+    let found = converse(told.alloc(), server, url, turns.as_slice(), fragments);
     tell(given, what, found, told);
 }
 

@@ -20,7 +20,7 @@ use crate::turn::Turn;
 use std::alloc::{AllocError, Global};
 use ua_builtin::DateTime;
 use ua_channel::AskFault;
-use ua_loopback::{ConversationLog as Conversed, Stage, converse};
+use ua_loopback::{ConversationLog as Conversed, Fragments, ServerSetup, Stage, converse};
 use ua_nodes::NodeTable;
 use ua_server::Services;
 
@@ -62,18 +62,15 @@ fn conversed(
     let address = url(alloc)?;
     let writes = copied(alloc, cuts_up)?;
     let reads = copied(alloc, cuts_down)?;
+    let fragments = Fragments { writes, reads };
     let services = Services::new(table, about);
-    Ok(converse(
-        alloc,
+    let server = ServerSetup {
+        limits: limits(),
+        channel_id: CHANNEL_ID,
         services,
-        limits(),
-        CHANNEL_ID,
-        address,
-        turns,
         moment,
-        writes,
-        reads,
-    ))
+    };
+    Ok(converse(alloc, server, address, turns, fragments))
 }
 
 /// Runs a client through these operations, from the HEL to the CLO, at a server over these nodes.

@@ -4,6 +4,7 @@ use Rattle.std.proofs.Math.Nat.{le_refl}
 use Rattle.ua_builtin.specs.declared.date_time.DateTime.{DateTime}
 use Rattle.ua_frame.specs.declared.limits.Limits.{Limits}
 use Rattle.ua_server.specs.State.{State, fresh}
+use Rattle.ua_loopback.specs.declared.server_setup.ServerSetup.{ServerSetup}
 
 -- its limits, its SecureChannelId, its services when the connection began, and the time of each of
 -- its answers
@@ -12,6 +13,10 @@ pub record Beginning : Type 0 where
   pub channel : ℕ
   pub first : State
   pub moment : DateTime
+
+-- how a server begins that is set up so
+abbrev pub beginning_of : ServerSetup → Beginning
+beginning_of s = record { limits = s.limits; channel = s.channel_id; first = s.services; moment = s.moment }
 
 -- the least limits
 abbrev pub least_server_limits : Limits

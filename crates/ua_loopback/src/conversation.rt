@@ -12,7 +12,7 @@ ghost use Rattle.ua_client.specs.Hearing.{failures_behind, most_reads};
 ghost use Rattle.ua_client.specs.ClientPlace.{ClientPlace};
 ghost use Rattle.ua_loopback.specs.Accepted.{AreAcceptedUnder, FirstRefusedUnder};
 ghost use Rattle.ua_loopback.specs.Accepted.{IsTurnFault, acknowledged, turn_refusal_under};
-ghost use Rattle.ua_loopback.specs.Beginning.{Beginning};
+ghost use Rattle.ua_loopback.specs.Beginning.{Beginning, beginning_of};
 ghost use Rattle.ua_loopback.specs.Course.{Converses};
 ghost use Rattle.ua_server.specs.declared.step.End.TheVariants.{Closed};
 ghost use Rattle.ua_loopback.specs.Kept.{EndsAtStage, LeavesAtStage};
@@ -29,8 +29,10 @@ ghost use Rattle.ua_loopback.specs.inside.Talking.{StaysBefore, StaysBehindTurn}
 ghost use Rattle.ua_loopback.specs.inside.Talking.{StaysTalking, Talked, HasOpenedTo};
 ghost use Rattle.ua_loopback.specs.inside.Talking.{WentBefore, fault_at_stage, outcome_at};
 
+use crate::fragments::Fragments;
 use crate::operation::AsOperation;
 use crate::served_line::{Began, ServedLine};
+use crate::server_setup::ServerSetup;
 use crate::stage::Stage;
 use std::alloc::Global;
 use std::marker::Brand;
@@ -61,30 +63,43 @@ pub struct ConversationLog {
     pub services: Services,
 }
 
-/// Opens a client.
-fn begin<L: Line>(
-    alloc: Global,
-    line: &mut L,
+/// A client before it connects.
+#[derive(Debug, Drop)]
+struct ClientSetup {
     limits: Limits,
+    /// The URL of the server.
     url: UaString,
+    /// The timestamp of each OPN and of the CLO.
     moment: DateTime,
-) -> Result<Client, ClientFault>
-    requires { IsTrue (text.encodable url) }
-    ensures went { IfOk result (λ client. (b : Beginning) → CanOpenTo b limits url moment
+}
+
+/// How far a client has come.
+#[derive(Debug, Drop)]
+struct Progress {
+    /// The replies so far.
+    replies: Vec<Reply>,
+    /// How many operations it completed.
+    taken: usize,
+}
+
+/// Opens a client.
+fn begin<L: Line>(alloc: Global, line: &mut L, setup: ClientSetup) -> Result<Client, ClientFault>
+    requires { IsTrue (text.encodable setup.url) }
+    ensures went { IfOk result (λ client. (b : Beginning) → CanOpenTo b setup.limits setup.url setup.moment
         → IsLineTo b [] [] (L.traffic line.old)
-        → HasOpenedTo b limits url moment (connection_of client) (L.traffic line.old)
+        → HasOpenedTo b setup.limits setup.url setup.moment (connection_of client) (L.traffic line.old)
         (L.traffic line.new)) }
     ensures ready { IfOk result (λ client. IsReady client) }
     ensures faults { IfErr result (λ fault. IsTurnFault fault → ⊥) }
-    ensures fails { IfErr result (λ fault. (b : Beginning) → CanOpenTo b limits url moment
-        → IsLineTo b [] [] (L.traffic line.old) → url_length url ≤ 4095 → IsOutside fault) }
-    ensures stops { IfErr result (λ fault. (b : Beginning) → CanOpenTo b limits url moment
-        → IsLineTo b [] [] (L.traffic line.old) → url_length url ≤ 4095
+    ensures fails { IfErr result (λ fault. (b : Beginning) → CanOpenTo b setup.limits setup.url setup.moment
+        → IsLineTo b [] [] (L.traffic line.old) → url_length setup.url ≤ 4095 → IsOutside fault) }
+    ensures stops { IfErr result (λ fault. (b : Beginning) → CanOpenTo b setup.limits setup.url setup.moment
+        → IsLineTo b [] [] (L.traffic line.old) → url_length setup.url ≤ 4095
         → StopsOver fault b [] (L.traffic line.old) (L.traffic line.new)) }
     ensures failed { L.failures line.new ≡ failures_behind (L.failures line.old) result }
 {
     clients_are_settled();
-    match Client::open(alloc, line, limits, url, moment) {
+    match Client::open(alloc, line, setup.limits, setup.url, setup.moment) {
         Ok(client) => Ok(client),
         Err(fault) => Err(fault),
     }
@@ -153,44 +168,43 @@ fn take_turns<T: AsOperation, L: Line>(
     line: &mut L,
     turns: &[T],
     moment: DateTime,
-    replies: &mut Vec<Reply>,
-    taken: &mut usize,
+    progress: &mut Progress,
 ) -> Result<(), ClientFault>
     requires ready { IsReady client.old }
-    requires none { taken.old ≡ 0 }
+    requires none { progress.old.taken ≡ 0 }
     ensures stays { OnOk result ((b : Beginning) (limits : Limits) (url : Option (List ℕ)) (opened : ClientPlace)
         (first : Option Traffic) → StaysTalking b limits url moment opened [] (connection_of client.old) first
-        (L.traffic line.old) replies.old.items
+        (L.traffic line.old) progress.old.replies.items
         → StaysTalking b limits url moment opened (map T.turn turns.now) (connection_of client.new) first
-        (L.traffic line.new) replies.new.items) }
-    ensures taken { OnOk result (taken.new ≡ length turns.now) }
+        (L.traffic line.new) progress.new.replies.items) }
+    ensures taken { OnOk result (progress.new.taken ≡ length turns.now) }
     ensures refused { IfErr result (λ fault. IsTurnFault fault
         → (b : Beginning) (limits : Limits) (url : Option (List ℕ)) (opened : ClientPlace) (first : Option Traffic)
         → StaysTalking b limits url moment opened [] (connection_of client.old) first (L.traffic line.old)
-        replies.old.items
-        → FirstRefusedUnder (acknowledged b.limits limits url) (map T.turn turns.now) taken.new fault) }
+        progress.old.replies.items
+        → FirstRefusedUnder (acknowledged b.limits limits url) (map T.turn turns.now) progress.new.taken fault) }
     ensures fails { IfErr result
         (λ fault. (b : Beginning) (limits : Limits) (url : Option (List ℕ)) (opened : ClientPlace)
         (first : Option Traffic) → StaysTalking b limits url moment opened [] (connection_of client.old) first
-        (L.traffic line.old) replies.old.items
+        (L.traffic line.old) progress.old.replies.items
         → FailsBehind (HaveMisanswers b.first b.moment (map T.turn turns.now)) fault) }
     ensures stops { IfErr result
         (λ fault. (b : Beginning) (limits : Limits) (url : Option (List ℕ)) (opened : ClientPlace)
         (first : Option Traffic) → StaysTalking b limits url moment opened [] (connection_of client.old) first
-        (L.traffic line.old) replies.old.items
+        (L.traffic line.old) progress.old.replies.items
         → StopsOver fault b [] first (L.traffic line.new)) }
     ensures failed { L.failures line.new ≡ failures_behind (L.failures line.old) result }
     ensures before { IfErr result (λ fault. IsTurnFault fault
         → (b : Beginning) (limits : Limits) (url : Option (List ℕ)) (opened : ClientPlace) (first : Option Traffic)
         → StaysTalking b limits url moment opened [] (connection_of client.old) first (L.traffic line.old)
-        replies.old.items
-        → StaysBefore b limits url moment opened (map T.turn turns.now) taken.new (connection_of client.new) first
-        (L.traffic line.new) replies.new.items) }
+        progress.old.replies.items
+        → StaysBefore b limits url moment opened (map T.turn turns.now) progress.new.taken (connection_of client.new)
+        first (L.traffic line.new) progress.new.replies.items) }
     ensures ready { OnOk result (IsReady client.new) }
 {
     for turn in turns {
-        match take_turn(client, line, turn, moment, replies) {
-            Ok(()) => *taken += 1,
+        match take_turn(client, line, turn, moment, &mut progress.replies) {
+            Ok(()) => progress.taken += 1,
             Err(fault) => return Err(fault),
         }
     }
@@ -202,40 +216,40 @@ fn take_turns<T: AsOperation, L: Line>(
 fn talk<T: AsOperation, L: Line>(
     alloc: Global,
     line: &mut L,
-    limits: Limits,
-    url: UaString,
+    setup: ClientSetup,
     turns: &[T],
-    moment: DateTime,
-    replies: &mut Vec<Reply>,
-    taken: &mut usize,
+    progress: &mut Progress,
 ) -> Result<(), ClientFault>
-    requires url { IsTrue (text.encodable url) }
-    requires none { replies.old.items ≡ [] }
-    requires first { taken.old ≡ 0 }
-    ensures talked { OnOk result ((b : Beginning) → CanOpenTo b limits url moment
+    requires url { IsTrue (text.encodable setup.url) }
+    requires none { progress.old.replies.items ≡ [] }
+    requires first { progress.old.taken ≡ 0 }
+    ensures talked { OnOk result ((b : Beginning) → CanOpenTo b setup.limits setup.url setup.moment
         → IsLineTo b [] [] (L.traffic line.old)
-        → Talked b limits url moment (map T.turn turns.now) (L.traffic line.old) (L.traffic line.new)
-        replies.new.items) }
-    ensures taken { OnOk result (taken.new ≡ length turns.now) }
-    ensures refused { IfErr result (λ fault. IsTurnFault fault → (b : Beginning) → CanOpenTo b limits url moment
-        → IsLineTo b [] [] (L.traffic line.old)
-        → FirstRefusedUnder (acknowledged b.limits limits url) (map T.turn turns.now) taken.new fault) }
-    ensures fails { IfErr result (λ fault. (b : Beginning) → CanOpenTo b limits url moment
-        → IsLineTo b [] [] (L.traffic line.old) → url_length url ≤ 4095
+        → Talked b setup.limits setup.url setup.moment (map T.turn turns.now) (L.traffic line.old) (L.traffic line.new)
+        progress.new.replies.items) }
+    ensures taken { OnOk result (progress.new.taken ≡ length turns.now) }
+    ensures refused { IfErr result (λ fault. IsTurnFault fault → (b : Beginning)
+        → CanOpenTo b setup.limits setup.url setup.moment → IsLineTo b [] [] (L.traffic line.old)
+        → FirstRefusedUnder (acknowledged b.limits setup.limits setup.url) (map T.turn turns.now) progress.new.taken
+        fault) }
+    ensures fails { IfErr result (λ fault. (b : Beginning) → CanOpenTo b setup.limits setup.url setup.moment
+        → IsLineTo b [] [] (L.traffic line.old) → url_length setup.url ≤ 4095
         → FailsBehind (HaveMisanswers b.first b.moment (map T.turn turns.now)) fault) }
-    ensures stops { IfErr result (λ fault. (b : Beginning) → CanOpenTo b limits url moment
-        → IsLineTo b [] [] (L.traffic line.old) → url_length url ≤ 4095
+    ensures stops { IfErr result (λ fault. (b : Beginning) → CanOpenTo b setup.limits setup.url setup.moment
+        → IsLineTo b [] [] (L.traffic line.old) → url_length setup.url ≤ 4095
         → StopsOver fault b [] (L.traffic line.old) (L.traffic line.new)) }
     ensures failed { L.failures line.new ≡ failures_behind (L.failures line.old) result }
-    ensures before { IfErr result (λ fault. IsTurnFault fault → (b : Beginning) → CanOpenTo b limits url moment
-        → IsLineTo b [] [] (L.traffic line.old) → WentBefore b limits url moment (map T.turn turns.now) taken.new
-        (L.traffic line.old) (L.traffic line.new) replies.new.items) }
+    ensures before { IfErr result (λ fault. IsTurnFault fault → (b : Beginning)
+        → CanOpenTo b setup.limits setup.url setup.moment → IsLineTo b [] [] (L.traffic line.old)
+        → WentBefore b setup.limits setup.url setup.moment (map T.turn turns.now) progress.new.taken
+        (L.traffic line.old) (L.traffic line.new) progress.new.replies.items) }
 {
-    let mut client = match begin(alloc, line, limits, url, moment) {
+    let moment = setup.moment;
+    let mut client = match begin(alloc, line, setup) {
         Ok(client) => client,
         Err(fault) => return Err(fault),
     };
-    match take_turns(&mut client, line, turns, moment, replies, taken) {
+    match take_turns(&mut client, line, turns, moment, progress) {
         Ok(()) => {}
         Err(fault) => return Err(fault),
     }
@@ -279,62 +293,57 @@ fn outcome_at(stage: Stage, outcome: Result<(), ClientFault>) -> Result<(), Clie
     }
 }
 
-/// Runs a client against a server over these services, of the beginning that the parameter names.
+/// Runs a client against a server of the beginning that the parameter names.
 fn converse_with<T: AsOperation, W: Began>(
     alloc: Global,
-    services: Services,
-    limits: Limits,
-    channel_id: u32,
+    server: ServerSetup,
     url: UaString,
     turns: &[T],
-    moment: DateTime,
-    writes: Vec<usize>,
-    reads: Vec<usize>,
+    fragments: Fragments,
 ) -> ConversationLog
     requires url { IsTrue (text.encodable url) }
-    requires began { W.beginning ≡ record { limits = limits; channel = channel_id; first = services; moment = moment } }
+    requires began { W.beginning ≡ beginning_of server }
     ensures down { result.down.items ≡ server_output W.beginning result.up.items }
     ensures services { LeavesAtStage result.stage W.beginning result.up.items result.services }
     ensures ends { EndsAtStage result.stage W.beginning result.up.items }
     ensures converses { OnOk result.outcome
-        (Converses limits url moment (map T.turn turns.now) result.up.items result.down.items result.replies.items) }
+        (Converses server.limits url server.moment (map T.turn turns.now) result.up.items result.down.items
+        result.replies.items) }
     ensures heard { OnOk result.outcome
-        (ServerCloses limits channel_id result.up.items (conversation_told limits limits url (map T.turn turns.now))) }
+        (ServerCloses server.limits server.channel_id result.up.items
+        (conversation_told server.limits server.limits url (map T.turn turns.now))) }
     ensures closed { OnOk result.outcome (result.stage ≡ Ended Closed) }
     ensures left { OnOk result.outcome (result.services ≡ services_after W.beginning result.up.items) }
-    ensures sent { OnOk result.outcome (result.up.items ≡ conversation_octets limits limits url channel_id moment
+    ensures sent { OnOk result.outcome (result.up.items
+        ≡ conversation_octets server.limits server.limits url server.channel_id server.moment
         (map T.turn turns.now)) }
-    ensures replied { OnOk result.outcome
-        (map Some result.replies.items
-        ≡ replies_to_turns (record { limits = limits; channel = channel_id; first = services; moment = moment }) limits
-        url
-        services 1 (map T.turn turns.now)) }
-    ensures state { OnOk result.outcome (result.services ≡ turns_state services moment (map T.turn turns.now)) }
-    ensures accepted { OnOk result.outcome (AreAcceptedUnder (acknowledged limits limits url) (map T.turn turns.now)) }
+    ensures replied { OnOk result.outcome (map Some result.replies.items
+        ≡ replies_to_turns (beginning_of server) server.limits url server.services 1 (map T.turn turns.now)) }
+    ensures state { OnOk result.outcome
+        (result.services ≡ turns_state server.services server.moment (map T.turn turns.now)) }
+    ensures accepted { OnOk result.outcome
+        (AreAcceptedUnder (acknowledged server.limits server.limits url) (map T.turn turns.now)) }
     ensures taken { OnOk result.outcome (result.taken ≡ length turns.now) }
     ensures refused { IfErr result.outcome (λ fault. IsTurnFault fault
-        → FirstRefusedUnder (acknowledged limits limits url) (map T.turn turns.now) result.taken fault) }
+        → FirstRefusedUnder (acknowledged server.limits server.limits url) (map T.turn turns.now) result.taken
+        fault) }
     ensures fails { IfErr result.outcome (λ fault. url_length url ≤ 4095 → FailsAtStage result.stage fault) }
     ensures before { IfErr result.outcome (λ fault. IsTurnFault fault
-        → BehindRefused (record { limits = limits; channel = channel_id; first = services; moment = moment }) limits url
-        moment (map T.turn turns.now) result.taken result.up.items result.replies.items) }
+        → BehindRefused (beginning_of server) server.limits url server.moment (map T.turn turns.now) result.taken
+        result.up.items result.replies.items) }
 {
-    services_are_sound(&services);
-    let mut line: ServedLine<W> = ServedLine::new(
-        alloc, limits, channel_id, services, moment, writes, reads,
-    );
-    let mut replies = Vec::new(alloc);
-    let mut taken = 0;
-    let outcome = talk(
-        alloc,
-        &mut line,
-        limits,
+    services_are_sound(&server.services);
+    let setup = ClientSetup {
+        limits: server.limits,
         url,
-        turns,
-        moment,
-        &mut replies,
-        &mut taken,
-    );
+        moment: server.moment,
+    };
+    let mut line: ServedLine<W> = ServedLine::new(alloc, server, fragments);
+    let mut progress = Progress {
+        replies: Vec::new(alloc),
+        taken: 0,
+    };
+    let outcome = talk(alloc, &mut line, setup, turns, &mut progress);
     fewer_than_reads(line.down());
     let stage = line.stage();
     let (up, down, services) = line.into_parts();
@@ -342,91 +351,79 @@ fn converse_with<T: AsOperation, W: Began>(
     ConversationLog {
         up,
         down,
-        taken,
-        replies,
+        taken: progress.taken,
+        replies: progress.replies,
         outcome: told,
         stage,
         services,
     }
 }
 
-/// Runs a client through these operations, from the HEL to the CLO, over a transport to a server
-/// over these services, both with these limits. It gives the bytes each way, the replies, and the
-/// services afterwards. No clause mentions the fragment lengths: the result is the same for all of
-/// them.
+/// Runs a client through these operations, from the HEL to the CLO, over a transport to a server,
+/// both with the same limits. It gives the bytes each way, the replies, and the services afterwards.
+/// No clause mentions the fragment lengths: the result is the same for all of them.
 ///
-/// `moment` is the timestamp of each answer, of each OPN and of the CLO. If the client did not
+/// The timestamp of each answer is also that of each OPN and of the CLO. If the client did not
 /// complete all operations, the outcome gives the reason, and the transcript has the bytes and the
 /// state up to then.
 pub fn converse<T: AsOperation>(
     alloc: Global,
-    services: Services,
-    limits: Limits,
-    channel_id: u32,
+    server: ServerSetup,
     url: UaString,
     turns: &[T],
-    moment: DateTime,
-    writes: Vec<usize>,
-    reads: Vec<usize>,
+    fragments: Fragments,
 ) -> ConversationLog
     requires { IsTrue (text.encodable url) }
 
     // The server's bytes are its output for the client's bytes, and the services are as these leave
     // them.
-    ensures down { result.down.items
-        ≡ server_output (record { limits = limits; channel = channel_id; first = services; moment = moment })
-        result.up.items }
+    ensures down { result.down.items ≡ server_output (beginning_of server) result.up.items }
     // The stage tells how the connection ends there.
-    ensures services { LeavesAtStage result.stage
-        (record { limits = limits; channel = channel_id; first = services; moment = moment }) result.up.items
-        result.services }
-    ensures ends { EndsAtStage result.stage
-        (record { limits = limits; channel = channel_id; first = services; moment = moment }) result.up.items }
+    ensures services { LeavesAtStage result.stage (beginning_of server) result.up.items result.services }
+    ensures ends { EndsAtStage result.stage (beginning_of server) result.up.items }
 
     // The client sent just its operations and took all of the server's output, and each request has
     // its own reply.
     ensures converses { OnOk result.outcome
-        (Converses limits url moment (map T.turn turns.now) result.up.items result.down.items result.replies.items) }
+        (Converses server.limits url server.moment (map T.turn turns.now) result.up.items result.down.items
+        result.replies.items) }
 
     // The server refused none of it. Its events are just these operations: each request once, in
     // order, under its own RequestId, and the next token at each renewal. The CLO closed the
     // channel, and the services are as all of that leaves them.
     ensures heard { OnOk result.outcome
-        (ServerCloses limits channel_id result.up.items (conversation_told limits limits url (map T.turn turns.now))) }
+        (ServerCloses server.limits server.channel_id result.up.items
+        (conversation_told server.limits server.limits url (map T.turn turns.now))) }
     ensures closed { OnOk result.outcome (result.stage ≡ Ended Closed) }
-    ensures left { OnOk result.outcome
-        (result.services
-        ≡ services_after (record { limits = limits; channel = channel_id; first = services; moment = moment })
-        result.up.items) }
+    ensures left { OnOk result.outcome (result.services ≡ services_after (beginning_of server) result.up.items) }
 
     // The client's bytes, the replies and the services are functions of the operations.
-    ensures sent { OnOk result.outcome (result.up.items ≡ conversation_octets limits limits url channel_id moment
+    ensures sent { OnOk result.outcome (result.up.items
+        ≡ conversation_octets server.limits server.limits url server.channel_id server.moment
         (map T.turn turns.now)) }
-    ensures replied { OnOk result.outcome
-        (map Some result.replies.items
-        ≡ replies_to_turns (record { limits = limits; channel = channel_id; first = services; moment = moment }) limits
-        url
-        services 1 (map T.turn turns.now)) }
-    ensures state { OnOk result.outcome (result.services ≡ turns_state services moment (map T.turn turns.now)) }
+    ensures replied { OnOk result.outcome (map Some result.replies.items
+        ≡ replies_to_turns (beginning_of server) server.limits url server.services 1 (map T.turn turns.now)) }
+    ensures state { OnOk result.outcome
+        (result.services ≡ turns_state server.services server.moment (map T.turn turns.now)) }
 
     // Each operation was accepted; or the client stopped before the first that is not, and its
     // fault is the first error against it.
-    ensures accepted { OnOk result.outcome (AreAcceptedUnder (acknowledged limits limits url) (map T.turn turns.now)) }
+    ensures accepted { OnOk result.outcome
+        (AreAcceptedUnder (acknowledged server.limits server.limits url) (map T.turn turns.now)) }
     ensures taken { OnOk result.outcome (result.taken ≡ length turns.now) }
     ensures refused { IfErr result.outcome (λ fault. IsTurnFault fault
-        → FirstRefusedUnder (acknowledged limits limits url) (map T.turn turns.now) result.taken fault) }
+        → FirstRefusedUnder (acknowledged server.limits server.limits url) (map T.turn turns.now) result.taken
+        fault) }
     // Then the bytes sent, the replies and the state are those of the requests and renewals before
     // it, and of no more.
     ensures before { IfErr result.outcome (λ fault. IsTurnFault fault
-        → BehindRefused (record { limits = limits; channel = channel_id; first = services; moment = moment }) limits url
-        moment (map T.turn turns.now) result.taken result.up.items result.replies.items) }
+        → BehindRefused (beginning_of server) server.limits url server.moment (map T.turn turns.now) result.taken
+        result.up.items result.replies.items) }
 
     // The client fails for an error against an operation, after which the connection goes on, or
     // for a failed allocation: its own, or the server's, whose transport is then broken. The server
     // takes a URL of at most 4095 bytes (OPC 10000-6, 7.1.2.3).
     ensures fails { IfErr result.outcome (λ fault. url_length url ≤ 4095 → FailsAtStage result.stage fault) }
 {
-    converse_with::<T, Brand>(
-        alloc, services, limits, channel_id, url, turns, moment, writes, reads,
-    )
+    converse_with::<T, Brand>(alloc, server, url, turns, fragments)
 }

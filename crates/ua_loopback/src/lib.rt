@@ -8,13 +8,17 @@
 
 mod conversation;
 mod cuts;
+mod fragments;
 pub mod laws;
 mod operation;
 mod served_line;
+mod server_setup;
 mod stage;
 pub mod talking_laws;
 
 pub use conversation::{ConversationLog, converse};
+pub use fragments::Fragments;
 pub use operation::{AsOperation, Operation};
 pub use served_line::{Began, ServedLine};
+pub use server_setup::ServerSetup;
 pub use stage::Stage;

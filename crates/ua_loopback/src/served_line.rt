@@ -2,18 +2,19 @@
 
 ghost use Rattle.std.specs.Prelude.{◌≡◌, ◌++◌, ◌<◌, ◌≤◌, [], None, Some, IfOk, IfSome, OnErr, length, take};
 ghost use Rattle.ua_channel.specs.Line.{HandsOut, WriteTakes, failures_after};
-ghost use Rattle.ua_loopback.specs.Beginning.{Beginning, no_server};
+ghost use Rattle.ua_loopback.specs.Beginning.{Beginning, beginning_of, no_server};
 ghost use Rattle.ua_loopback.specs.Kept.{EndsAtStage, IsOver, Keeps, LeavesAtStage, Served, BreaksAtWrite, traffic_of};
 ghost use Rattle.ua_loopback.specs.Says.{server_output};
 ghost use Rattle.ua_loopback.specs.declared.stage.Stage.TheVariants.{Going};
 
 use crate::cuts::Cuts;
+use crate::fragments::Fragments;
+use crate::server_setup::ServerSetup;
 use crate::stage::Stage;
 use std::alloc::{AllocError, Global};
 use std::marker::{Brand, Model, PhantomData};
 use ua_builtin::DateTime;
 use ua_channel::{Line, LineFault};
-use ua_frame::Limits;
 use ua_server::{Server, Services};
 
 /// The beginning of the server behind a transport. A function over a transport to a server takes it
@@ -96,32 +97,23 @@ impl<W: Began> Model for ServedLine<W> {
 }
 
 impl<W: Began> ServedLine<W> {
-    /// A transport to a server over these services that waits for a client. `writes` and `reads`
-    /// are the most bytes that each call takes and gives, in turn and again from the first; 0
-    /// counts as 1, and an empty list sets no limit.
-    pub fn new(
-        alloc: Global,
-        limits: Limits,
-        channel_id: u32,
-        services: Services,
-        moment: DateTime,
-        writes: Vec<usize>,
-        reads: Vec<usize>,
-    ) -> ServedLine<W>
-        requires { W.beginning ≡ record { limits = limits; channel = channel_id; first = services; moment = moment } }
-        ensures { result ≡ record { up = []; down = []; read = 0; services = services; stage = Going; failures = 0 } }
+    /// A transport to a server that waits for a client, in fragments of at most these lengths.
+    pub fn new(alloc: Global, server: ServerSetup, fragments: Fragments) -> ServedLine<W>
+        requires { W.beginning ≡ beginning_of server }
+        ensures { result
+            ≡ record { up = []; down = []; read = 0; services = server.services; stage = Going; failures = 0 } }
     {
         ServedLine {
-            server: Server::new(alloc, limits, channel_id),
-            services,
-            moment,
+            server: Server::new(alloc, server.limits, server.channel_id),
+            services: server.services,
+            moment: server.moment,
             up: Vec::new(alloc),
             down: Vec::new(alloc),
             read: 0,
             stage: Stage::Going,
             failures: 0,
-            writes: Cuts::new(writes),
-            reads: Cuts::new(reads),
+            writes: Cuts::new(fragments.writes),
+            reads: Cuts::new(fragments.reads),
             began: PhantomData,
         }
     }

@@ -6,7 +6,7 @@ ghost use Rattle.ua_channel.specs.Line.{WriteTakes, IfTrafficKnown};
 ghost use Rattle.ua_frame.specs.Agreement.{url_length};
 ghost use Rattle.ua_loopback.specs.Accepted.{IsTurnFault};
 ghost use Rattle.ua_loopback.specs.Asked.{asked_by};
-ghost use Rattle.ua_loopback.specs.Beginning.{Beginning};
+ghost use Rattle.ua_loopback.specs.Beginning.{beginning_of};
 ghost use Rattle.ua_loopback.specs.Faults.{BehindRefused, FailsAtStage, FailsBehind};
 ghost use Rattle.ua_loopback.specs.Kept.{LeavesAtStage, traffic_of};
 ghost use Rattle.ua_loopback.specs.Says.{services_after};
@@ -18,9 +18,10 @@ use std::alloc::Global;
 use ua_builtin::{DateTime, UaString};
 use ua_channel::{Line, LineFault};
 use ua_client::{Client, ClientFault};
-use ua_frame::Limits;
 use ua_loopback::talking_laws::renewals_go_on;
-use ua_loopback::{Began, ConversationLog, Operation, ServedLine, converse};
+use ua_loopback::{
+    Began, ConversationLog, Fragments, Operation, ServedLine, ServerSetup, converse,
+};
 use ua_server::Services;
 
 /// Writes bytes to a transport to a server.
@@ -31,39 +32,28 @@ pub fn write_up<W: Began>(line: &mut ServedLine<W>, octets: &[u8]) -> Result<usi
     line.write(octets)
 }
 
-/// The outcome of a client's operations over a transport to a server over these services. Others
-/// that are the same stand beside them.
+/// The outcome of a client's operations over a transport to a server. Services that are the same as
+/// the server's stand beside it.
 pub fn converse_over(
     alloc: Global,
-    services: Services,
+    server: ServerSetup,
     before: &mut Services,
-    limits: Limits,
-    channel_id: u32,
     url: UaString,
     turns: &[Operation],
-    moment: DateTime,
-    writes: Vec<usize>,
-    reads: Vec<usize>,
+    fragments: Fragments,
 ) -> ConversationLog
     requires url { IsTrue (text.encodable url) }
-    requires same { before.old ≡ services }
-    ensures services { LeavesAtStage result.stage
-        (record { limits = limits; channel = channel_id; first = services; moment = moment }) result.up.items
-        result.services }
+    requires same { before.old ≡ server.services }
+    ensures services { LeavesAtStage result.stage (beginning_of server) result.up.items result.services }
     ensures closed { OnOk result.outcome (result.stage ≡ Ended Closed) }
-    ensures left { OnOk result.outcome
-        (result.services
-        ≡ services_after (record { limits = limits; channel = channel_id; first = services; moment = moment })
-        result.up.items) }
+    ensures left { OnOk result.outcome (result.services ≡ services_after (beginning_of server) result.up.items) }
     ensures before { IfErr result.outcome (λ fault. IsTurnFault fault
-        → BehindRefused (record { limits = limits; channel = channel_id; first = services; moment = moment }) limits url
-        moment (map asked_by turns.now) result.taken result.up.items result.replies.items) }
+        → BehindRefused (beginning_of server) server.limits url server.moment (map asked_by turns.now) result.taken
+        result.up.items result.replies.items) }
     ensures fails { IfErr result.outcome (λ fault. url_length url ≤ 4095 → FailsAtStage result.stage fault) }
 {
     let _before = before;
-    converse(
-        alloc, services, limits, channel_id, url, turns, moment, writes, reads,
-    )
+    converse(alloc, server, url, turns, fragments)
 }
 
 /// Renews the token of a client that talks to a server.

@@ -1,5 +1,6 @@
 use Rattle.std.proofs.Common.{◌≡◌, ◌<◌, Fits, FitsSigned, List, ap, length, map, rules, subst, w32, w64, ℕ}
 use Rattle.ua_client.specs.Hearing.{most_reads}
+use Rattle.ua_loopback.specs.Beginning.{beginning_of}
 use Rattle.ua_loopback.specs.Kept.{Served}
 use Rattle.ua_loopback.specs.inside.Talking.{CanOpenTo}
 use Rattle.ua_loopback.proofs.Failing.{ok_told}
@@ -10,31 +11,31 @@ use Rattle.ua_loopback.proofs.conversation.converse_with.Given.{Over as Given}
 use Rattle.ua_loopback.proofs.conversation.converse_with.Goals as goal
 
 able : (g : Given) (c : goal.After-outcome_at-told g)
-    → CanOpenTo (record { limits = c.args.limits; channel = c.args.channel_id; first = c.args.services; moment = c.args.moment })
-    c.args.limits c.args.url c.args.moment
+    → CanOpenTo (beginning_of c.args.server) c.args.server.limits c.args.url c.args.server.moment
 able g c =
-    let dated : FitsSigned w64 c.args.moment.ticks = search rules in
-    let channel : Fits w32 c.args.channel_id = search rules in
-    let receive : Fits w32 c.args.limits.receive_buffer_size = search rules in
-    let send : Fits w32 c.args.limits.send_buffer_size = search rules in
-    let octets : Fits w32 c.args.limits.max_message_size = search rules in
-    let chunks : Fits w32 c.args.limits.max_chunk_count = search rules in
-    can_open c.args.limits c.args.channel_id c.args.services c.args.url c.args.moment receive send octets chunks channel dated c.requires.url
+    let dated : FitsSigned w64 c.args.server.moment.ticks = search rules in
+    let channel : Fits w32 c.args.server.channel_id = search rules in
+    let receive : Fits w32 c.args.server.limits.receive_buffer_size = search rules in
+    let send : Fits w32 c.args.server.limits.send_buffer_size = search rules in
+    let octets : Fits w32 c.args.server.limits.max_message_size = search rules in
+    let chunks : Fits w32 c.args.server.limits.max_chunk_count = search rules in
+    can_open c.args.server.limits c.args.server.channel_id c.args.server.services c.args.url c.args.server.moment receive send octets chunks channel dated
+    c.requires.url
 
 -- the client that ran, and what its call and those of the line say
 abbrev ran : (g : Given) → goal.After-outcome_at-told g → Ran
 ran g c = record {
   begun = g.W.Began.beginning;
-  limits = c.args.limits;
-  channel = c.args.channel_id;
-  services = c.args.services;
+  limits = c.args.server.limits;
+  channel = c.args.server.channel_id;
+  services = c.args.server.services;
   url = c.args.url;
-  moment = c.args.moment;
+  moment = c.args.server.moment;
   turns = map g.T.AsOperation.turn c.args.turns.now;
   old = c.new-line.result;
   new = c.talk-outcome.new.line;
-  taken = c.talk-outcome.new.taken;
-  replies = c.talk-outcome.new.replies.items;
+  taken = c.talk-outcome.new.progress.taken;
+  replies = c.talk-outcome.new.progress.replies.items;
   outcome = c.talk-outcome.result;
   told = c.outcome_at-told.result;
   far = c.stage-stage.result;
@@ -95,7 +96,7 @@ returns-clause-accepted g c = told_accepted (ran g c)
 
 pub returns-clause-taken : goal.returns-clause-taken
 returns-clause-taken g c =
-    ok_told c.stage-stage.result c.talk-outcome.result c.outcome_at-told.result (c.talk-outcome.new.taken ≡ length c.args.turns.now)
+    ok_told c.stage-stage.result c.talk-outcome.result c.outcome_at-told.result (c.talk-outcome.new.progress.taken ≡ length c.args.turns.now)
     c.outcome_at-told.ensures c.talk-outcome.ensures.taken
 
 pub returns-clause-refused : goal.returns-clause-refused

@@ -8,7 +8,7 @@ use Rattle.ua_loopback.proofs.conversation.take_turns.Goals as goal
 
 pub loop-turn-init : goal.loop-turn-init
 loop-turn-init g c = (
-  taken_none g.T.AsOperation.turn c.args.moment c.args.turns.now c.args.client.now (g.L.Line.traffic c.args.line.now) c.args.replies.now.items
+  taken_none g.T.AsOperation.turn c.args.moment c.args.turns.now c.args.client.now (g.L.Line.traffic c.args.line.now) c.args.progress.now.replies.items
       c.requires.ready,
   c.requires.none,
   refl,
@@ -18,7 +18,8 @@ pub loop-turn-preserved : goal.loop-turn-preserved
 loop-turn-preserved g c = (
   taken_more g.T.AsOperation.turn c.args.moment c.args.turns.now c.loop-turn.turn-index c.args.client.now c.loop-turn.client c.take_turn.new.client
       (g.L.Line.traffic c.args.line.now) (g.L.Line.traffic c.loop-turn.line) (g.L.Line.traffic c.take_turn.new.line)
-      c.args.replies.now.items c.loop-turn.replies.items c.take_turn.new.replies.items c.turn-item.result c.loop-turn.invariant.0 c.loop-turn-test.true
+      c.args.progress.now.replies.items c.loop-turn.progress.replies.items c.take_turn.new.replies.items c.turn-item.result c.loop-turn.invariant.0
+      c.loop-turn-test.true
       c.turn-item.is c.in-Ok.ensures.stays c.in-Ok.ensures.ready,
   ap (λ (n : ℕ). n + 1) c.loop-turn.invariant.1,
   c.in-Ok.ensures.failed ∙ c.loop-turn.invariant.2,
@@ -27,7 +28,7 @@ loop-turn-preserved g c = (
 pub returns-clause-stays : goal.returns-clause-stays
 returns-clause-stays g c =
     taken_all g.T.AsOperation.turn c.args.moment c.args.turns.now c.loop-turn.turn-index c.args.client.now c.loop-turn.client (g.L.Line.traffic c.args.line.now)
-    (g.L.Line.traffic c.loop-turn.line) c.args.replies.now.items c.loop-turn.replies.items
+    (g.L.Line.traffic c.loop-turn.line) c.args.progress.now.replies.items c.loop-turn.progress.replies.items
     c.loop-turn.invariant.0 c.loop-turn-test.false
 
 pub returns-in-Err-clause-refused : goal.returns-in-Err-clause-refused
@@ -35,14 +36,16 @@ returns-in-Err-clause-refused g c = λ reason b limits url opened first s.
     subst (λ (n : ℕ). FirstRefusedUnder (acknowledged b.limits limits url) (map g.T.AsOperation.turn c.args.turns.now) n c.in-Err.fault)
     (sym c.loop-turn.invariant.1)
     (refused_next g.T.AsOperation.turn c.args.moment c.args.turns.now c.loop-turn.turn-index c.args.client.now c.loop-turn.client
-    (g.L.Line.traffic c.args.line.now) (g.L.Line.traffic c.loop-turn.line) c.args.replies.now.items c.loop-turn.replies.items c.turn-item.result
+    (g.L.Line.traffic c.args.line.now) (g.L.Line.traffic c.loop-turn.line) c.args.progress.now.replies.items c.loop-turn.progress.replies.items
+    c.turn-item.result
     c.in-Err.fault c.loop-turn.invariant.0 c.loop-turn-test.true c.turn-item.is (λ b' limits' url' opened' done first' s'.
     c.in-Err.ensures.refused reason b' limits' url' opened' done first' s') b limits url opened first s)
 
 pub returns-in-Err-clause-fails : goal.returns-in-Err-clause-fails
 returns-in-Err-clause-fails g c = λ b limits url opened first s.
     fails_next g.T.AsOperation.turn c.args.moment c.args.turns.now c.loop-turn.turn-index c.args.client.now c.loop-turn.client
-    (g.L.Line.traffic c.args.line.now) (g.L.Line.traffic c.loop-turn.line) c.args.replies.now.items c.loop-turn.replies.items c.turn-item.result
+    (g.L.Line.traffic c.args.line.now) (g.L.Line.traffic c.loop-turn.line) c.args.progress.now.replies.items c.loop-turn.progress.replies.items
+    c.turn-item.result
     c.in-Err.fault c.loop-turn.invariant.0 c.loop-turn-test.true c.turn-item.is c.in-Err.ensures.fails b limits url opened first s
 
 pub returns-in-Err-clause-before : goal.returns-in-Err-clause-before
@@ -51,7 +54,8 @@ returns-in-Err-clause-before g c = λ reason b limits url opened first s.
     (g.L.Line.traffic c.take_turn.new.line) c.take_turn.new.replies.items) (sym c.loop-turn.invariant.1)
     (before_next g.T.AsOperation.turn c.args.moment c.args.turns.now c.loop-turn.turn-index c.args.client.now c.loop-turn.client c.take_turn.new.client
     (g.L.Line.traffic c.args.line.now) (g.L.Line.traffic c.loop-turn.line) (g.L.Line.traffic c.take_turn.new.line)
-    c.args.replies.now.items c.loop-turn.replies.items c.take_turn.new.replies.items c.turn-item.result c.loop-turn.invariant.0 c.loop-turn-test.true
+    c.args.progress.now.replies.items c.loop-turn.progress.replies.items c.take_turn.new.replies.items c.turn-item.result c.loop-turn.invariant.0
+    c.loop-turn-test.true
     c.turn-item.is
     (λ b' limits' url' opened' done first' s'. c.in-Err.ensures.before reason b' limits' url' opened' done first' s') b limits url opened first s)
 
