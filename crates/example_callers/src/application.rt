@@ -22,12 +22,11 @@ use std::alloc::{AllocError, Global};
 use thiserror::Error;
 use ua_builtin::{DateTime, NodeId};
 use ua_channel::{Line, Moments};
-use ua_frame::Limits;
 use ua_nodes::{Reading, SetFault};
 use ua_server::laws::a_history_goes_on_by_changes_and_steps;
 use ua_server::{
-    Application, Connection, End, ServeFault, Services, Step, StepFault, Watch, Written,
-    serve_application,
+    Application, Connection, End, ServeFault, ServeTerms, Services, Step, StepFault, Watch,
+    Written, serve_application,
 };
 use ua_services::WriteValue;
 use ua_variant::{Scalar, Variant};
@@ -258,20 +257,16 @@ impl Application for Pulse {
 
 /// Serves a client at the other end of a transport, whose Reads find the switch on and off in turn.
 pub fn serve_pulse<L: Line, M: Moments, W: Watch>(
-    alloc: Global,
     line: &mut L,
     services: &mut Services,
-    limits: Limits,
-    channel_id: u32,
+    terms: ServeTerms,
     moments: &mut M,
     watch: &mut W,
     pulse: &mut Pulse,
 ) -> Result<End, ServeFault>
-    ensures { ServesApplication limits channel_id M.gives W.notes pulses (begun services.old, pulse.old)
+    ensures { ServesApplication terms.limits terms.channel_id M.gives W.notes pulses (begun services.old, pulse.old)
         (moments.old, watch.old) result (services.new, pulse.new) (moments.new, watch.new) (L.traffic line.old)
         (L.traffic line.new) }
 {
-    serve_application(
-        alloc, line, services, limits, channel_id, moments, watch, pulse,
-    )
+    serve_application(line, services, terms, moments, watch, pulse)
 }

@@ -9,7 +9,7 @@ ghost use Rattle.ua_server.specs.declared.serve_fault.ServeFault.TheVariants.{Ou
 use std::alloc::Global;
 use ua_channel::{Line, Moments};
 use ua_frame::Limits;
-use ua_server::{End, ServeFault, Services, Watch, serve, serve_watched};
+use ua_server::{End, ServeFault, ServeTerms, Services, Watch, serve, serve_watched};
 
 /// Serves two transports that bring the same bytes and fail alike, from services in the same state,
 /// at the same times: the answers are one, the same bytes are written, the services are left in one
@@ -54,13 +54,11 @@ pub fn serve_twice<L: Line, K: Line, M: Moments>(
 /// Serves two transports as [`serve_twice`] does, each with a watch of its own: what is said there
 /// holds, and both watches are told of the same requests, in the same order.
 pub fn serve_watched_twice<L: Line, K: Line, M: Moments, W: Watch, V: Watch>(
-    alloc: Global,
     line: &mut L,
     other: &mut K,
     services: &mut Services,
     others: &mut Services,
-    limits: Limits,
-    channel_id: u32,
+    terms: ServeTerms,
     moments: &mut M,
     again: &mut M,
     watch: &mut W,
@@ -91,7 +89,7 @@ pub fn serve_watched_twice<L: Line, K: Line, M: Moments, W: Watch, V: Watch>(
         → ServesAlike result.0 result.1 (L.traffic line.old) (L.traffic line.new) (K.traffic other.old)
         (K.traffic other.new) → ToldAlike W.notes V.notes watch.old watch.new beside.old beside.new }
 {
-    let first = serve_watched(alloc, line, services, limits, channel_id, moments, watch);
-    let second = serve_watched(alloc, other, others, limits, channel_id, again, beside);
+    let first = serve_watched(line, services, terms, moments, watch);
+    let second = serve_watched(other, others, terms, again, beside);
     (first, second)
 }

@@ -18,7 +18,9 @@ use ua_builtin::{DateTime, Octets, Wire};
 use ua_channel::{ListMoments, Moments};
 use ua_frame::Limits;
 use ua_nodes::{LoadFault, NodeTable};
-use ua_server::{End, Endpoint, ServeFault, Server, Services, Step, StepFault, Unwatched, serve};
+use ua_server::{
+    End, Endpoint, ServeFault, ServeTerms, Server, Services, Step, StepFault, Unwatched, serve,
+};
 
 /// What rows have said of a server, and what was begun with it.
 #[derive(Drop)]
@@ -212,13 +214,15 @@ impl Serving {
                     is_on: true,
                     moment: DateTime { ticks },
                 };
-                let (alloc, channel) = (told.alloc(), self.channel);
+                let terms = ServeTerms {
+                    alloc: told.alloc(),
+                    limits,
+                    channel_id: self.channel,
+                };
                 let end = serve_pulse(
-                    alloc,
                     &mut course.line,
                     services,
-                    limits,
-                    channel,
+                    terms,
                     &mut moments,
                     &mut Unwatched,
                     &mut pulse,

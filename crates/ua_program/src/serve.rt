@@ -38,8 +38,8 @@ use ua_exchange::{MESSAGE_SIZE, limits};
 use ua_frame::Limits;
 use ua_pair::encoding_name;
 use ua_server::{
-    AnsweredRequest, Application, End, Endpoint, NoApplication, ServeFault, Services, Unwatched,
-    Watch, serve, serve_application,
+    AnsweredRequest, Application, End, Endpoint, NoApplication, ServeFault, ServeTerms, Services,
+    Unwatched, Watch, serve, serve_application,
 };
 use ua_services::RequestKind;
 use ua_services::session_requests::local_url;
@@ -253,16 +253,12 @@ fn tell_beside<'a, L: Line, M: Moments, A: Application, O: Write>(
         out,
         halt: None,
     };
-    let outcome = serve_application(
+    let serving = ServeTerms {
         alloc,
-        line,
-        services,
-        terms.limits,
-        terms.number,
-        moments,
-        &mut lines,
-        application,
-    );
+        limits: terms.limits,
+        channel_id: terms.number,
+    };
+    let outcome = serve_application(line, services, serving, moments, &mut lines, application);
     let RequestLines {
         alloc: _,
         number: _,
@@ -298,12 +294,15 @@ fn serve_beside<'a, L: Line, M: Moments, A: Application, O: Write>(
     if terms.requests {
         return tell_beside(alloc, line, services, terms, moments, application, out);
     }
-    let outcome = serve_application(
+    let serving = ServeTerms {
         alloc,
+        limits: terms.limits,
+        channel_id: terms.number,
+    };
+    let outcome = serve_application(
         line,
         services,
-        terms.limits,
-        terms.number,
+        serving,
         moments,
         &mut Unwatched,
         application,

@@ -25,6 +25,7 @@ use Rattle.ua_server.specs.declared.step.End.{End as Ending}
 use Rattle.ua_server.specs.declared.step.End.TheVariants as ending
 use Rattle.ua_server.specs.declared.step.Step.{Step}
 use Rattle.ua_server.specs.declared.step.StepFault.{StepFault}
+use Rattle.ua_server.specs.declared.surroundings.Surroundings.{Surroundings}
 
 -- ---- the end of the input
 
@@ -167,6 +168,13 @@ abbrev pub Handles : {A : Type 0} → (A → State → A → State → Type 0) �
     → List Event → State × A → Type 0
 Handles changes (Ok end) x limits channel first read written ticks now = TurnsTo changes end x limits channel first read written ticks now
 Handles changes (Err f) x limits channel first read written ticks now = FailsTelling changes f limits channel first read written ticks now
+
+-- ---- what stands beside the services
+
+-- the same source, observer and application are lent, whatever their states
+abbrev pub AreLentStill : {M W A : Type 0} → Surroundings M W A → Surroundings M W A → Type 0
+AreLentStill old new = (new.moments.ghost_name ≡ old.moments.ghost_name) × (new.watch.ghost_name ≡ old.watch.ghost_name)
+    × (new.application.ghost_name ≡ old.application.ghost_name)
 
 -- ---- what is exchanged
 

@@ -1,23 +1,15 @@
 //! A server on one connection.
 
-ghost use Rattle.std.specs.Prelude.{◌≡◌, ◌⊎◌, false, ◌++◌, ◌∷◌, [], ℕ, List};
-ghost use Rattle.std.specs.Prelude.{length, Ok, Err, None, IfOk, OnErr, IsErrOf};
-ghost use Rattle.std.specs.List.{concat};
+ghost use Rattle.std.specs.Prelude.{◌≡◌, false, ℕ, List, Err, None, IfOk, IsErrOf};
 ghost use Rattle.ua_builtin.specs.declared.date_time.DateTime.{DateTime};
-ghost use Rattle.ua_services.specs.Response.{response};
 ghost use Rattle.ua_channel.specs.ServerAnswers.{Progress};
-ghost use Rattle.ua_channel.specs.ServerPlaces.{agreed_by};
-ghost use Rattle.ua_channel.specs.ServerStands.{limits_of, channel_of, next_of, bound_of, IsDone, Goes, GoesTelling};
-ghost use Rattle.ua_channel.specs.ServerTold.{Told, Asked};
+ghost use Rattle.ua_channel.specs.ServerStands.{limits_of, channel_of, next_of, bound_of, IsDone, Goes};
+ghost use Rattle.ua_channel.specs.ServerTold.{Told};
 ghost use Rattle.ua_channel.specs.declared.server.ServerChannel.{ServerChannel};
 ghost use Rattle.ua_channel.specs.declared.server_fault.ChannelFault.TheVariants as channel_fault;
 ghost use Rattle.ua_server.specs.Now.{NowBehind, StepNow};
-ghost use Rattle.ua_server.specs.Reply.{answered};
-ghost use Rattle.ua_server.specs.Requests.{request_answered};
-ghost use Rattle.ua_server.specs.Said.{lane_at};
 ghost use Rattle.ua_server.specs.State.{State};
-ghost use Rattle.ua_server.specs.Stepping.{AnswersBehind, IsReplyAt, StepStands, is_given_up};
-ghost use Rattle.ua_server.specs.Stored.{stored_of};
+ghost use Rattle.ua_server.specs.Stepping.{AnswersBehind, StepStands, is_given_up};
 ghost use Rattle.ua_server.specs.declared.step.StepFault.TheVariants as step_fault;
 
 use crate::reply::Replied;
@@ -81,75 +73,6 @@ fn next_answered(
     }
 }
 
-/// Answers a whole message, under its RequestId, and gives the answered request; what it stored is
-/// kept in `written`.
-fn reply_to(
-    alloc: Global,
-    channel: &mut ServerChannel,
-    services: &mut Services,
-    id: u32,
-    message: Message,
-    moment: DateTime,
-    written: &mut Written,
-) -> Result<AnsweredMessage, StepFault>
-    requires { written.old ≡ [] }
-    ensures sent { (octets : List ℕ) (before : List Told) (token : ℕ)
-        → GoesTelling channel.old octets before (Asked id token (concat message))
-        → IfOk result (λ told. GoesTelling channel.new octets before (Asked id token (concat message))
-        × IsReplyAt (channel_of channel.old) token (agreed_by before)
-        (response.canonical (answered services.old moment (concat message)).1) (next_of channel.old) id
-        told.out.items (next_of channel.new)) }
-    ensures noted { (octets : List ℕ) (before : List Told) (token : ℕ)
-        → GoesTelling channel.old octets before (Asked id token (concat message))
-        → IfOk result
-        (λ told. told.request ≡ request_answered (lane_at (channel_of channel.old) token (agreed_by before))
-        services.old moment (concat message)) }
-    ensures stored { IfOk result (λ told. written.new ≡ stored_of services.old (concat message)) }
-    ensures forgotten { OnErr result (written.new ≡ []) }
-    ensures state { IfOk result (λ told. services.new ≡ (answered services.old moment (concat message)).0) }
-    ensures failed { (octets : List ℕ) (before : List Told) (token : ℕ)
-        → GoesTelling channel.old octets before (Asked id token (concat message))
-        → OnErr result ((result ≡ Err step_fault.OutOfMemory) × IsDone channel.new) }
-    ensures broken { OnErr result ((services.new ≡ services.old)
-        ⊎ (services.new ≡ (answered services.old moment (concat message)).0)) }
-    ensures bound { bound_of channel.new ≡ bound_of channel.old }
-    ensures limits { limits_of channel.new ≡ limits_of channel.old }
-    ensures channel { channel_of channel.new ≡ channel_of channel.old }
-{
-    let most = channel.most_octets();
-    let told = services.reply_to_message(alloc, &message, moment, most);
-    let Replied {
-        body,
-        request,
-        results,
-    } = match told {
-        Ok(told) => told,
-        Err(_) => {
-            drop(message);
-            channel.end();
-            return Err(StepFault::OutOfMemory);
-        }
-    };
-    written.keep(message, results);
-    match channel.respond(id, &body) {
-        Ok(sent) => {
-            let request = request.sent_as(sent.is_abort);
-            Ok(AnsweredMessage {
-                out: sent.octets,
-                request,
-            })
-        }
-        Err(ReplyFault::OutOfMemory) => {
-            written.forget();
-            Err(StepFault::OutOfMemory)
-        }
-        Err(ReplyFault::NotOpen) => {
-            written.forget();
-            Err(StepFault::Closed)
-        }
-    }
-}
-
 /// The step for a fault of the channel after this many bytes: its output is the ERR frame with the
 /// reason for the refusal.
 fn refusal(alloc: Global, taken: usize, fault: ChannelFault) -> Result<Step, StepFault>
@@ -191,23 +114,31 @@ pub struct Server {
 }
 
 impl Server {
-    ghost use Rattle.std.specs.Prelude.{◌≡◌, ◌≤◌, ◌↔◌, ◌++◌, [], ℕ, List, length, take};
+    ghost use Rattle.std.specs.Prelude.{◌≡◌, ◌≤◌, ◌↔◌, ◌⊎◌, ◌++◌, [], ℕ, List, length, take};
     ghost use Rattle.std.specs.Prelude.{None, false, Ok, Err, IfOk, OnErr, IsErrOf, IsTrue};
+    ghost use Rattle.std.specs.List.{concat};
     ghost use Rattle.std.specs.Map.{keys_of};
     ghost use Rattle.ua_builtin.specs.declared.date_time.DateTime.{DateTime};
     ghost use Rattle.ua_channel.specs.Received.{received};
-    ghost use Rattle.ua_channel.specs.ServerStands.{limits_of, channel_of, next_of, bound_of, Goes, IsDone};
+    ghost use Rattle.ua_channel.specs.ServerPlaces.{agreed_by};
+    ghost use Rattle.ua_channel.specs.ServerStands.{limits_of, channel_of, next_of};
+    ghost use Rattle.ua_channel.specs.ServerStands.{bound_of, Goes, GoesTelling, IsDone};
     ghost use Rattle.ua_channel.specs.ServerStands.{bound_after, held_after, ChannelStands as Holds};
-    ghost use Rattle.ua_channel.specs.ServerTold.{Told};
+    ghost use Rattle.ua_channel.specs.ServerTold.{Asked, Told};
     ghost use Rattle.ua_channel.specs.declared.server.ServerChannel.{ServerChannel};
     ghost use Rattle.ua_frame.specs.declared.frame.Frame.{Frame};
+    ghost use Rattle.ua_services.specs.Response.{response};
     ghost use Rattle.ua_server.specs.History.{ConnectionEvent, StandsOver, StepOver};
     ghost use Rattle.ua_server.specs.Now.{AdvanceNow, NowBehind, StepNow};
+    ghost use Rattle.ua_server.specs.Reply.{answered};
+    ghost use Rattle.ua_server.specs.Requests.{request_answered};
+    ghost use Rattle.ua_server.specs.Said.{lane_at};
     ghost use Rattle.ua_server.specs.Served.{channel_in};
     ghost use Rattle.ua_server.specs.Serving.{IsClean};
     ghost use Rattle.ua_server.specs.State.{State};
-    ghost use Rattle.ua_server.specs.Stepping.{AnswersBehind, Advances, AdvanceStands, ServerStands};
+    ghost use Rattle.ua_server.specs.Stepping.{AnswersBehind, Advances, AdvanceStands, IsReplyAt, ServerStands};
     ghost use Rattle.ua_server.specs.Stepping.{StepAnswers, StepStands, StepTakes, is_given_up};
+    ghost use Rattle.ua_server.specs.Stored.{stored_of};
     ghost use Rattle.ua_server.specs.Storing.{AdvanceStores, StepStores};
     ghost use Rattle.ua_server.specs.declared.step.StepFault.TheVariants as step_fault;
 
@@ -451,8 +382,7 @@ impl Server {
                 request: None,
             }),
             ServerEvent::Asked(id, message) => {
-                let channel = &mut self.channel;
-                match reply_to(self.alloc, channel, services, id, message, moment, written) {
+                match self.reply_to(services, id, message, moment, written) {
                     Ok(told) => Ok(Advanced {
                         step: Step::saying(taken, told.out),
                         answered: true,
@@ -469,6 +399,75 @@ impl Server {
                     answered: false,
                     request: None,
                 })
+            }
+        }
+    }
+
+    /// Answers a whole message, under its RequestId, and gives the answered request; what it stored
+    /// is kept in `written`.
+    fn reply_to(
+        &mut self,
+        services: &mut Services,
+        id: u32,
+        message: Message,
+        moment: DateTime,
+        written: &mut Written,
+    ) -> Result<AnsweredMessage, StepFault>
+        requires { written.old ≡ [] }
+        ensures sent { (octets : List ℕ) (before : List Told) (token : ℕ)
+            → GoesTelling (channel_in self.old) octets before (Asked id token (concat message))
+            → IfOk result (λ told. GoesTelling (channel_in self.new) octets before (Asked id token (concat message))
+            × IsReplyAt (channel_of (channel_in self.old)) token (agreed_by before)
+            (response.canonical (answered services.old moment (concat message)).1) (next_of (channel_in self.old)) id
+            told.out.items (next_of (channel_in self.new))) }
+        ensures noted { (octets : List ℕ) (before : List Told) (token : ℕ)
+            → GoesTelling (channel_in self.old) octets before (Asked id token (concat message))
+            → IfOk result
+            (λ told.
+            told.request ≡ request_answered (lane_at (channel_of (channel_in self.old)) token (agreed_by before))
+            services.old moment (concat message)) }
+        ensures stored { IfOk result (λ told. written.new ≡ stored_of services.old (concat message)) }
+        ensures forgotten { OnErr result (written.new ≡ []) }
+        ensures state { IfOk result (λ told. services.new ≡ (answered services.old moment (concat message)).0) }
+        ensures failed { (octets : List ℕ) (before : List Told) (token : ℕ)
+            → GoesTelling (channel_in self.old) octets before (Asked id token (concat message))
+            → OnErr result ((result ≡ Err step_fault.OutOfMemory) × IsDone (channel_in self.new)) }
+        ensures broken { OnErr result ((services.new ≡ services.old)
+            ⊎ (services.new ≡ (answered services.old moment (concat message)).0)) }
+        ensures bound { bound_of (channel_in self.new) ≡ bound_of (channel_in self.old) }
+        ensures limits { limits_of (channel_in self.new) ≡ limits_of (channel_in self.old) }
+        ensures channel { channel_of (channel_in self.new) ≡ channel_of (channel_in self.old) }
+    {
+        let most = self.channel.most_octets();
+        let told = services.reply_to_message(self.alloc, &message, moment, most);
+        let Replied {
+            body,
+            request,
+            results,
+        } = match told {
+            Ok(told) => told,
+            Err(_) => {
+                drop(message);
+                self.channel.end();
+                return Err(StepFault::OutOfMemory);
+            }
+        };
+        written.keep(message, results);
+        match self.channel.respond(id, &body) {
+            Ok(sent) => {
+                let request = request.sent_as(sent.is_abort);
+                Ok(AnsweredMessage {
+                    out: sent.octets,
+                    request,
+                })
+            }
+            Err(ReplyFault::OutOfMemory) => {
+                written.forget();
+                Err(StepFault::OutOfMemory)
+            }
+            Err(ReplyFault::NotOpen) => {
+                written.forget();
+                Err(StepFault::Closed)
             }
         }
     }

@@ -4,14 +4,16 @@ ghost use Rattle.std.specs.Prelude.{◌≡◌, ◌<◌, ℕ, List, [], IfOk, len
 ghost use Rattle.ua_server.specs.Happening.{WasTold};
 ghost use Rattle.ua_server.specs.Serving.{Serves, ServesTelling, LineFailed};
 ghost use Rattle.ua_server.specs.ServingOver.{ServesApplication};
-ghost use Rattle.ua_server.specs.ServingParts.{most_at_once};
+ghost use Rattle.ua_server.specs.ServingParts.{AreLentStill, most_at_once};
 ghost use Rattle.ua_server.specs.State.{begun};
 
 use crate::application::{Application, NoApplication};
 use crate::serve_fault::ServeFault;
+use crate::serve_terms::ServeTerms;
 use crate::server::Server;
 use crate::services::Services;
 use crate::step::{Advanced, End, Step, StepFault};
+use crate::surroundings::Surroundings;
 use crate::watch::{Unwatched, Watch, tell};
 use crate::written::Written;
 use std::alloc::{AllocError, Global};
@@ -40,69 +42,77 @@ pub fn serve<L: Line, M: Moments>(
         (L.traffic line.old) (L.traffic line.new) }
     ensures failed { LineFailed (L.failures line.old) result (L.failures line.new) }
 {
-    serve_watched(
+    let terms = ServeTerms {
         alloc,
-        line,
-        services,
         limits,
         channel_id,
-        moments,
-        &mut Unwatched,
-    )
+    };
+    serve_watched(line, services, terms, moments, &mut Unwatched)
 }
 
 /// Does what [`serve`] does, and tells `watch` of each request that is answered, in order. No
 /// clause says when that happens relative to the writes. A message that the client gives up is not
 /// answered.
 pub fn serve_watched<L: Line, M: Moments, W: Watch>(
-    alloc: Global,
     line: &mut L,
     services: &mut Services,
-    limits: Limits,
-    channel_id: u32,
+    terms: ServeTerms,
     moments: &mut M,
     watch: &mut W,
 ) -> Result<End, ServeFault>
-    ensures serves { ServesTelling limits channel_id M.gives W.notes (begun services.old) (moments.old, watch.old)
+    ensures serves { ServesTelling terms.limits terms.channel_id M.gives W.notes (begun services.old)
+        (moments.old, watch.old)
         result services.new (moments.new, watch.new) (L.traffic line.old) (L.traffic line.new) }
     ensures told { WasTold W.notes watch.old watch.new }
     ensures failed { LineFailed (L.failures line.old) result (L.failures line.new) }
 {
-    serve_application(
-        alloc,
-        line,
-        services,
-        limits,
-        channel_id,
-        moments,
-        watch,
-        &mut NoApplication,
-    )
+    serve_application(line, services, terms, moments, watch, &mut NoApplication)
 }
 
 /// Does what [`serve_watched`] does, beside an application: before each step of the server it may
 /// change the nodes and see what clients wrote. What is written is the output for the events of the
 /// connection, changes and steps in order.
 pub fn serve_application<L: Line, M: Moments, W: Watch, A: Application>(
-    alloc: Global,
     line: &mut L,
     services: &mut Services,
-    limits: Limits,
-    channel_id: u32,
+    terms: ServeTerms,
     moments: &mut M,
     watch: &mut W,
     application: &mut A,
 ) -> Result<End, ServeFault>
-    ensures serves { ServesApplication limits channel_id M.gives W.notes A.changes (begun services.old, application.old)
-        (moments.old, watch.old) result (services.new, application.new) (moments.new, watch.new) (L.traffic line.old)
-        (L.traffic line.new) }
+    ensures serves { ServesApplication terms.limits terms.channel_id M.gives W.notes A.changes
+        (begun services.old, application.old) (moments.old, watch.old) result (services.new, application.new)
+        (moments.new, watch.new) (L.traffic line.old) (L.traffic line.new) }
     ensures told { WasTold W.notes watch.old watch.new }
     ensures failed { LineFailed (L.failures line.old) result (L.failures line.new) }
 {
+    let mut around = Surroundings {
+        moments,
+        watch,
+        application,
+    };
+    serve_around(line, services, terms, &mut around)
+}
+
+/// Serves a connection from its beginning, with these surroundings.
+fn serve_around<L: Line, M: Moments, W: Watch, A: Application>(
+    line: &mut L,
+    services: &mut Services,
+    terms: ServeTerms,
+    around: &mut Surroundings<M, W, A>,
+) -> Result<End, ServeFault>
+    ensures serves { ServesApplication terms.limits terms.channel_id M.gives W.notes A.changes
+        (begun services.old, around.old.application.now) (around.old.moments.now, around.old.watch.now) result
+        (services.new, around.new.application.now) (around.new.moments.now, around.new.watch.now)
+        (L.traffic line.old) (L.traffic line.new) }
+    ensures told { WasTold W.notes around.old.watch.now around.new.watch.now }
+    ensures lent { AreLentStill around.old around.new }
+    ensures failed { LineFailed (L.failures line.old) result (L.failures line.new) }
+{
     services.begin();
-    let mut serving = Serving::new(alloc, limits, channel_id);
-    match piece(alloc) {
-        Ok(mut buffer) => { serving.run(line, services, moments, watch, application, &mut buffer) }
+    let mut serving = Serving::new(terms);
+    match piece(terms.alloc) {
+        Ok(mut buffer) => serving.run(line, services, around, &mut buffer),
         Err(_) => Err(ServeFault::OutOfMemory),
     }
 }
@@ -141,17 +151,17 @@ impl Serving {
     ghost use Rattle.ua_server.specs.Happening.{Event, Happens, WasTold};
     ghost use Rattle.ua_server.specs.Serving.{moment_of, MovesTraffic, LineFailed};
     ghost use Rattle.ua_server.specs.ServingOver.{ServesApplication};
-    ghost use Rattle.ua_server.specs.ServingParts.{Asked, BeginsServing, Exchanged, Finishes, Handles};
+    ghost use Rattle.ua_server.specs.ServingParts.{AreLentStill, Asked, BeginsServing, Exchanged, Finishes, Handles};
     ghost use Rattle.ua_server.specs.ServingParts.{OwesNothing, OfEventsBetween, WritesCounted, Steps, Turns, noted};
     ghost use Rattle.ua_server.specs.Stepping.{StepTakes};
     ghost use Rattle.ua_server.specs.State.{State};
 
     /// Before the first byte of a client.
-    fn new(alloc: Global, limits: Limits, channel_id: u32) -> Serving
-        ensures { BeginsServing result limits channel_id }
+    fn new(terms: ServeTerms) -> Serving
+        ensures { BeginsServing result terms.limits terms.channel_id }
     {
         Serving {
-            server: Server::new(alloc, limits, channel_id),
+            server: Server::new(terms.alloc, terms.limits, terms.channel_id),
             moment: None,
             greeted: false,
             written: 0,
@@ -194,22 +204,23 @@ impl Serving {
     fn step<M: Moments, W: Watch, A: Application>(
         &mut self,
         services: &mut Services,
-        moments: &mut M,
-        watch: &mut W,
-        application: &mut A,
+        around: &mut Surroundings<M, W, A>,
         piece: &[u8],
     ) -> Result<Step, StepFault>
         requires { 0 < length piece.now }
         ensures steps { (limits : Limits) (channel : ℕ) (first : State × A) (read written : List ℕ) (given : List Event)
-            → OwesNothing A.changes self.old limits channel first read written given (services.old, application.old)
-            → OfEventsBetween (Happens M.gives W.notes) (moments.old, watch.old) (moments.new, watch.new)
+            → OwesNothing A.changes self.old limits channel first read written given
+            (services.old, around.old.application.now)
+            → OfEventsBetween (Happens M.gives W.notes) (around.old.moments.now, around.old.watch.now)
+            (around.new.moments.now, around.new.watch.now)
             (λ events. Steps A.changes result self.new limits channel first piece.now read written (given ++ events)
-            (services.new, application.new)) }
-        ensures told { WasTold W.notes watch.old watch.new }
+            (services.new, around.new.application.now)) }
+        ensures told { WasTold W.notes around.old.watch.now around.new.watch.now }
+        ensures lent { AreLentStill around.old around.new }
         ensures progress { IfOk result (λ step. StepTakes piece.now step) }
     {
-        application.act(services);
-        let moment = self.moment(moments);
+        around.application.act(services);
+        let moment = self.moment(around.moments);
         let mut unasked = Written::nothing();
         let Advanced {
             step,
@@ -223,7 +234,7 @@ impl Serving {
             return Ok(step);
         }
         self.note_answer();
-        tell(watch, request);
+        tell(around.watch, request);
         Ok(step)
     }
 
@@ -257,24 +268,25 @@ impl Serving {
         &mut self,
         line: &mut L,
         services: &mut Services,
-        moments: &mut M,
-        watch: &mut W,
-        application: &mut A,
+        around: &mut Surroundings<M, W, A>,
         piece: &[u8],
     ) -> Result<Taken<Option<End>>, ServeFault>
         requires { 0 < length piece.now }
         ensures turns { (limits : Limits) (channel : ℕ) (first : State × A) (read written : List ℕ) (given : List Event)
-            → OwesNothing A.changes self.old limits channel first read written given (services.old, application.old)
-            → Exchanged (Happens M.gives W.notes) (moments.old, watch.old) (moments.new, watch.new) []
+            → OwesNothing A.changes self.old limits channel first read written given
+            (services.old, around.old.application.now)
+            → Exchanged (Happens M.gives W.notes) (around.old.moments.now, around.old.watch.now)
+            (around.new.moments.now, around.new.watch.now) []
             (L.traffic line.old) (L.traffic line.new)
             (λ more events. Turns A.changes result self.new limits channel first piece.now read (written ++ more)
-            (given ++ events) (services.new, application.new)) }
-        ensures told { WasTold W.notes watch.old watch.new }
+            (given ++ events) (services.new, around.new.application.now)) }
+        ensures told { WasTold W.notes around.old.watch.now around.new.watch.now }
+        ensures lent { AreLentStill around.old around.new }
         ensures progress { IfOk result (λ turn. (turn.size ≤ length piece.now)
             × (turn.outcome ≡ None → 0 < length piece.now → 0 < turn.size)) }
         ensures failed { LineFailed (L.failures line.old) result (L.failures line.new) }
     {
-        let step = match self.step(services, moments, watch, application, piece) {
+        let step = match self.step(services, around, piece) {
             Ok(step) => step,
             Err(_) => return Err(ServeFault::OutOfMemory),
         };
@@ -292,31 +304,24 @@ impl Serving {
         &mut self,
         line: &mut L,
         services: &mut Services,
-        moments: &mut M,
-        watch: &mut W,
-        application: &mut A,
+        around: &mut Surroundings<M, W, A>,
         piece: &[u8],
     ) -> Result<Option<End>, ServeFault>
         ensures handles { (limits : Limits) (channel : ℕ) (first : State × A) (read written : List ℕ)
             (given : List Event) → OwesNothing A.changes self.old limits channel first read written given
-            (services.old, application.old)
-            → Exchanged (Happens M.gives W.notes) (moments.old, watch.old) (moments.new, watch.new) []
+            (services.old, around.old.application.now)
+            → Exchanged (Happens M.gives W.notes) (around.old.moments.now, around.old.watch.now)
+            (around.new.moments.now, around.new.watch.now) []
             (L.traffic line.old) (L.traffic line.new)
             (λ more events. Handles A.changes result self.new limits channel first (read ++ piece.now) (written ++ more)
-            (given ++ events) (services.new, application.new)) }
-        ensures told { WasTold W.notes watch.old watch.new }
+            (given ++ events) (services.new, around.new.application.now)) }
+        ensures told { WasTold W.notes around.old.watch.now around.new.watch.now }
+        ensures lent { AreLentStill around.old around.new }
         ensures failed { LineFailed (L.failures line.old) result (L.failures line.new) }
     {
         let mut taken = 0;
         while taken < piece.len() {
-            let turn = match self.turn(
-                line,
-                services,
-                moments,
-                watch,
-                application,
-                &piece[taken..],
-            ) {
+            let turn = match self.turn(line, services, around, &piece[taken..]) {
                 Ok(turn) => turn,
                 Err(fault) => return Err(fault),
             };
@@ -333,17 +338,18 @@ impl Serving {
         &mut self,
         line: &mut L,
         services: &mut Services,
-        moments: &mut M,
-        watch: &mut W,
-        application: &mut A,
+        around: &mut Surroundings<M, W, A>,
         buffer: &mut [u8],
     ) -> Result<End, ServeFault>
         requires { 0 < length buffer.old }
         ensures serves { (limits : Limits) (channel : ℕ) (first : State × A)
-            → OwesNothing A.changes self.old limits channel first [] [] [] (services.old, application.old)
-            → ServesApplication limits channel M.gives W.notes A.changes first (moments.old, watch.old) result
-            (services.new, application.new) (moments.new, watch.new) (L.traffic line.old) (L.traffic line.new) }
-        ensures told { WasTold W.notes watch.old watch.new }
+            → OwesNothing A.changes self.old limits channel first [] [] [] (services.old, around.old.application.now)
+            → ServesApplication limits channel M.gives W.notes A.changes first
+            (around.old.moments.now, around.old.watch.now) result
+            (services.new, around.new.application.now) (around.new.moments.now, around.new.watch.now)
+            (L.traffic line.old) (L.traffic line.new) }
+        ensures told { WasTold W.notes around.old.watch.now around.new.watch.now }
+        ensures lent { AreLentStill around.old around.new }
         ensures failed { LineFailed (L.failures line.old) result (L.failures line.new) }
     {
         for _reads in 0..u64::MAX {
@@ -354,7 +360,7 @@ impl Serving {
             if n == 0 {
                 return Ok(self.finish());
             }
-            match self.handle(line, services, moments, watch, application, &buffer[..n]) {
+            match self.handle(line, services, around, &buffer[..n]) {
                 Ok(None) => {}
                 Ok(Some(end)) => return Ok(end),
                 Err(fault) => return Err(fault),

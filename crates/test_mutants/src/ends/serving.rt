@@ -15,7 +15,8 @@ use ua_builtin::DateTime;
 use ua_channel::{Line, Moments};
 use ua_frame::Limits;
 use ua_server::{
-    Application, End, ServeFault, Server, Services, StepFault, Watch, serve, serve_application,
+    Application, End, ServeFault, ServeTerms, Server, Services, StepFault, Watch, serve,
+    serve_application,
 };
 
 /// Serves the client at the other end of a transport.
@@ -36,29 +37,18 @@ pub fn serve_begun<L: Line, M: Moments>(
 
 /// Serves it beside an application.
 pub fn serve_beside<L: Line, M: Moments, W: Watch, A: Application>(
-    alloc: Global,
     line: &mut L,
     services: &mut Services,
-    limits: Limits,
-    channel_id: u32,
+    terms: ServeTerms,
     moments: &mut M,
     watch: &mut W,
     application: &mut A,
 ) -> Result<End, ServeFault>
-    ensures serves { ServesApplication limits channel_id M.gives W.notes A.changes (begun services.old, application.old)
-        (moments.old, watch.old) result (services.new, application.new) (moments.new, watch.new) (L.traffic line.old)
-        (L.traffic line.new) }
+    ensures serves { ServesApplication terms.limits terms.channel_id M.gives W.notes A.changes
+        (begun services.old, application.old) (moments.old, watch.old) result (services.new, application.new)
+        (moments.new, watch.new) (L.traffic line.old) (L.traffic line.new) }
 {
-    serve_application(
-        alloc,
-        line,
-        services,
-        limits,
-        channel_id,
-        moments,
-        watch,
-        application,
-    )
+    serve_application(line, services, terms, moments, watch, application)
 }
 
 /// Serves bytes that came after others.

@@ -18,7 +18,8 @@ once : (g : Given) (c : goal.After-serve_watched-second g) (coming : List ℕ)
     × (c.serve_watched-first.new.moments ≡ c.serve_watched-second.new.moments)
     × ToldAlike g.W.Watch.notes g.V.Watch.notes c.args.watch.now c.serve_watched-first.new.watch c.args.beside.now c.serve_watched-second.new.watch
 once g c coming lines had faults =
-    watched_alike g.M.Moments.gives c.requires.once c.args.limits c.args.channel_id c.args.services.now c.args.others.now c.args.moments.now c.args.again.now _
+    watched_alike g.M.Moments.gives c.requires.once c.args.terms.limits c.args.terms.channel_id c.args.services.now c.args.others.now c.args.moments.now
+    c.args.again.now _
     _ _ _ _ _ _ _ _ _ coming
     c.requires.same c.requires.moments lines had faults g.W.Watch.notes g.V.Watch.notes _ _ _ _ c.serve_watched-first.ensures.serves
     c.serve_watched-second.ensures.serves

@@ -43,9 +43,9 @@ returns-in-Ok-clause-stands c = λ old piece octets told b.
     let there = event-as (channel_of old) (next_of old) c.args.moment piece c.args.taken (channel_in c.args.self.now) octets told c.args.event
     (event.Asked c.in-Asked.id c.in-Asked.message) c.in-Asked.is b in
     saying-stands (channel_of old) (next_of old) c.args.moment piece c.args.taken (channel_in c.args.self.now) octets told c.saying-in-Ok.result said
-    c.reply_to.new.channel c.saying-in-Ok.ensures
+    (channel_in c.reply_to.new.self) c.saying-in-Ok.ensures
     (stands-replied (channel_of old) (next_of old) c.args.moment piece c.args.taken (channel_in c.args.self.now) octets told c.in-Asked.id c.in-Asked.message
-    c.reply_to.new.channel c.in-Ok.told.out.items there
+    (channel_in c.reply_to.new.self) c.in-Ok.told.out.items there
     (c.in-Ok.ensures.sent (octets ++ take c.args.taken piece) (told ++ given_up there.quiet) there.answers.1.0.token there.answers.1.0.goes).0)
 
 pub returns-in-Err-clause-stands : goal.returns-in-Err-clause-stands
@@ -53,7 +53,7 @@ returns-in-Err-clause-stands c = λ old piece octets told b.
     let there = event-as (channel_of old) (next_of old) c.args.moment piece c.args.taken (channel_in c.args.self.now) octets told c.args.event
     (event.Asked c.in-Asked.id c.in-Asked.message) c.in-Asked.is b in
     let failed = c.in-Err.ensures.failed (octets ++ take c.args.taken piece) (told ++ given_up there.quiet) there.answers.1.0.token there.answers.1.0.goes in
-    stands-broken piece octets told c.reply_to.new.channel c.in-Err.fault failed.0 failed.1
+    stands-broken piece octets told (channel_in c.reply_to.new.self) c.in-Err.fault failed.0 failed.1
 
 pub returns-in-Closed-clause-stands : goal.returns-in-Closed-clause-stands
 returns-in-Closed-clause-stands c = λ old piece octets told b.
@@ -84,8 +84,9 @@ returns-in-Ok-clause-now c = λ old piece octets told b.
     let there = now-event old (channel_in c.args.self.now) c.args.moment piece c.args.taken octets told c.args.event
     (event.Asked c.in-Asked.id c.in-Asked.message) c.in-Asked.is b in
     now-saying old (channel_in c.args.self.now) c.args.moment piece c.args.taken octets told c.args.services.now (Some c.in-Ok.told.request)
-    c.saying-in-Ok.result said c.reply_to.new.channel c.reply_to.new.services c.saying-in-Ok.ensures
-    (now-reply old (channel_in c.args.self.now) c.args.moment piece c.args.taken octets told c.args.services.now c.in-Ok.told.request c.reply_to.new.channel
+    c.saying-in-Ok.result said (channel_in c.reply_to.new.self) c.reply_to.new.services c.saying-in-Ok.ensures
+    (now-reply old (channel_in c.args.self.now) c.args.moment piece c.args.taken octets told c.args.services.now c.in-Ok.told.request
+    (channel_in c.reply_to.new.self)
     c.in-Asked.id c.in-Asked.message c.in-Ok.told.out.items c.reply_to.new.services there
     (c.in-Ok.ensures.sent (octets ++ take c.args.taken piece) (told ++ given_up there.quiet) there.answers.1.0.token there.answers.1.0.goes)
     c.in-Ok.ensures.state
@@ -96,9 +97,10 @@ returns-in-Err-clause-now c = λ old piece octets told b.
     let there = now-event old (channel_in c.args.self.now) c.args.moment piece c.args.taken octets told c.args.event
     (event.Asked c.in-Asked.id c.in-Asked.message) c.in-Asked.is b in
     let failed = c.in-Err.ensures.failed (octets ++ take c.args.taken piece) (told ++ given_up there.quiet) there.answers.1.0.token there.answers.1.0.goes in
-    now-breaks (limits_of old) (channel_of old) (next_of old) c.args.moment piece c.in-Err.fault c.reply_to.new.channel octets told c.args.services.now
+    now-breaks (limits_of old) (channel_of old) (next_of old) c.args.moment piece c.in-Err.fault (channel_in c.reply_to.new.self) octets told
+    c.args.services.now
     c.reply_to.new.services failed.0
-    (now-break old (channel_in c.args.self.now) c.args.moment piece c.args.taken octets told c.args.services.now c.reply_to.new.channel c.in-Asked.id
+    (now-break old (channel_in c.args.self.now) c.args.moment piece c.args.taken octets told c.args.services.now (channel_in c.reply_to.new.self) c.in-Asked.id
     c.in-Asked.message c.reply_to.new.services there failed.1 c.in-Err.ensures.broken)
 
 pub returns-in-Closed-clause-now : goal.returns-in-Closed-clause-now
@@ -134,9 +136,9 @@ returns-in-Ok-clause-stores c = λ old piece octets told b.
     let there = event-as (channel_of old) (next_of old) c.args.moment piece c.args.taken (channel_in c.args.self.now) octets told c.args.event
     (event.Asked c.in-Asked.id c.in-Asked.message) c.in-Asked.is b in
     saying-stores (channel_of old) (next_of old) c.args.moment piece c.args.taken (channel_in c.args.self.now) octets told c.args.services.now
-    c.saying-in-Ok.result said c.reply_to.new.written c.reply_to.new.channel c.saying-in-Ok.ensures
+    c.saying-in-Ok.result said c.reply_to.new.written (channel_in c.reply_to.new.self) c.saying-in-Ok.ensures
     (stores-replied (channel_of old) (next_of old) c.args.moment piece c.args.taken (channel_in c.args.self.now) octets told c.args.services.now c.in-Asked.id
-    c.in-Asked.message c.reply_to.new.channel c.in-Ok.told.out.items there c.reply_to.new.written
+    c.in-Asked.message (channel_in c.reply_to.new.self) c.in-Ok.told.out.items there c.reply_to.new.written
     (c.in-Ok.ensures.sent (octets ++ take c.args.taken piece) (told ++ given_up there.quiet) there.answers.1.0.token there.answers.1.0.goes).0
     c.in-Ok.ensures.stored)
 

@@ -9,9 +9,11 @@ use Rattle.ua_server.proofs.serving.Serving.turn.Goals as goal
 
 pub returns-in-Err-clause-turns : goal.returns-in-Err-clause-turns
 returns-in-Err-clause-turns g c = λ limits channel first read written given k.
-    turn-broken g.A.Application.changes limits channel first (Happens g.M.Moments.gives g.W.Watch.notes) (c.args.moments.now, c.args.watch.now)
-    (c.step.new.moments, c.step.new.watch) (g.L.Line.traffic c.args.line.now) (g.L.Line.traffic c.args.line.now) c.args.piece.now read written given
-    (c.step.new.services, c.step.new.application) c.in-Err.field-0 c.step.new.self (c.in-Err.ensures.steps limits channel first read written given k)
+    turn-broken g.A.Application.changes limits channel first (Happens g.M.Moments.gives g.W.Watch.notes)
+    (c.args.around.now.moments.now, c.args.around.now.watch.now)
+    (c.step.new.around.moments.now, c.step.new.around.watch.now) (g.L.Line.traffic c.args.line.now) (g.L.Line.traffic c.args.line.now) c.args.piece.now read
+    written given
+    (c.step.new.services, c.step.new.around.application.now) c.in-Err.field-0 c.step.new.self (c.in-Err.ensures.steps limits channel first read written given k)
 
 pub returns-in-Err-clause-failed : goal.returns-in-Err-clause-failed
 returns-in-Err-clause-failed g c = refl
@@ -19,9 +21,11 @@ returns-in-Err-clause-failed g c = refl
 pub returns-in-Ok-say-clause-turns : goal.returns-in-Ok-say-clause-turns
 returns-in-Ok-say-clause-turns g c = λ limits channel first read written given k.
     let counted_so : List ℕ → Serving = λ o. record c.step.new.self { written = sum_up_to_greatest c.step.new.self.written (length o) } in
-    turn-said g.A.Application.changes limits channel first (Happens g.M.Moments.gives g.W.Watch.notes) (c.args.moments.now, c.args.watch.now)
-    (c.step.new.moments, c.step.new.watch) (g.L.Line.traffic c.args.line.now) (g.L.Line.traffic c.say.new.line) c.args.piece.now read written given
-    (c.step.new.services, c.step.new.application) c.in-Ok.step c.step.new.self c.say.new.self
+    turn-said g.A.Application.changes limits channel first (Happens g.M.Moments.gives g.W.Watch.notes)
+    (c.args.around.now.moments.now, c.args.around.now.watch.now)
+    (c.step.new.around.moments.now, c.step.new.around.watch.now) (g.L.Line.traffic c.args.line.now) (g.L.Line.traffic c.say.new.line) c.args.piece.now read
+    written given
+    (c.step.new.services, c.step.new.around.application.now) c.in-Ok.step c.step.new.self c.say.new.self
     (c.in-Ok.ensures.steps limits channel first read written given k)
     (subst (λ (o : List ℕ). c.say.new.self ≡ counted_so o) c.deref.ensures.value c.in-Ok-say.ensures.says.0)
     (subst (λ (o : List ℕ). IfTrafficKnown (MovesTraffic [] o) (g.L.Line.traffic c.args.line.now) (g.L.Line.traffic c.say.new.line)) c.deref.ensures.value
@@ -35,9 +39,11 @@ returns-in-Ok-say-clause-failed g c = c.in-Ok-say.ensures.failed
 
 pub returns-clause-turns : goal.returns-clause-turns
 returns-clause-turns g c = λ limits channel first read written given k.
-    turn-unsaid g.A.Application.changes limits channel first (Happens g.M.Moments.gives g.W.Watch.notes) (c.args.moments.now, c.args.watch.now)
-    (c.step.new.moments, c.step.new.watch) (g.L.Line.traffic c.args.line.now) (g.L.Line.traffic c.say.new.line) c.args.piece.now read written given
-    (c.step.new.services, c.step.new.application) c.in-Ok.step c.step.new.self c.say.new.self c.in-Err-say.fault
+    turn-unsaid g.A.Application.changes limits channel first (Happens g.M.Moments.gives g.W.Watch.notes)
+    (c.args.around.now.moments.now, c.args.around.now.watch.now)
+    (c.step.new.around.moments.now, c.step.new.around.watch.now) (g.L.Line.traffic c.args.line.now) (g.L.Line.traffic c.say.new.line) c.args.piece.now read
+    written given
+    (c.step.new.services, c.step.new.around.application.now) c.in-Ok.step c.step.new.self c.say.new.self c.in-Err-say.fault
     (c.in-Ok.ensures.steps limits channel first read written given k)
     (subst (λ (o : List ℕ). WritesCounted o (Err c.in-Err-say.fault) c.step.new.self c.say.new.self (g.L.Line.traffic c.args.line.now)
     (g.L.Line.traffic c.say.new.line))

@@ -8,24 +8,26 @@ use Rattle.ua_channel.specs.declared.sent_reply.SentReply.{SentReply}
 use Rattle.ua_channel.specs.declared.server_fault.ReplyFault.{ReplyFault}
 use Rattle.ua_server.specs.Reply.{IsBodyWithin, answered}
 use Rattle.ua_server.specs.Requests.{request_answered}
+use Rattle.ua_server.specs.Served.{channel_in}
 use Rattle.ua_server.proofs.Events.{telling-on, replied-there, noted-there}
 use Rattle.ua_server.proofs.GivenUp.{same_reply, same_code}
 use Rattle.ua_server.specs.Stored.{results_of}
 use Rattle.ua_server.proofs.Stores.{kept-stored}
-use Rattle.ua_server.proofs.server.reply_to.Goals as goal
+use Rattle.ua_server.proofs.server.Server.reply_to.Goals as goal
 
 pub returns-in-Ok-respond-clause-sent : goal.returns-in-Ok-respond-clause-sent
 returns-in-Ok-respond-clause-sent c = λ octets before token g.
     let whole = response.canonical (answered c.args.services.now c.args.moment (concat c.args.message)).1 in
     let sent = c.in-Ok-respond.ensures.sent octets (g.frames ++ g.frame ∷ []) [] g.stands in
     let limit = c.most_octets-most.ensures.most octets (g.frames ++ g.frame ∷ []) [] g.stands
-    (server_asked c.args.channel.now octets before c.args.id token (concat c.args.message) g) sent.0 sent.1 in
+    (server_asked (channel_in c.args.self.now) octets before c.args.id token (concat c.args.message) g) sent.0 sent.1 in
     let within : IsBodyWithin c.most_octets-most.result whole c.deref.result.now = search rules in (
-      telling-on c.args.channel.now c.respond.new.self octets before (Asked c.args.id token (concat c.args.message)) g c.respond.ensures.limits
+      telling-on (channel_in c.args.self.now) c.respond.new.self octets before (Asked c.args.id token (concat c.args.message)) g c.respond.ensures.limits
           c.respond.ensures.channel (c.in-Ok-respond.ensures.stands octets (g.frames ++ g.frame ∷ []) [] g.stands),
-      replied-there c.args.channel.now octets before c.args.id token (concat c.args.message) g sent.0 whole c.in-Ok-respond.sent.octets.items
+      replied-there (channel_in c.args.self.now) octets before c.args.id token (concat c.args.message) g sent.0 whole c.in-Ok-respond.sent.octets.items
           (next_of c.respond.new.self) sent.1
-          (same_reply sent.0 c.most_octets-most.result whole c.deref.result.now (next_of c.args.channel.now) c.args.id c.in-Ok-respond.sent.octets.items
+          (same_reply sent.0 c.most_octets-most.result whole c.deref.result.now (next_of (channel_in c.args.self.now)) c.args.id
+          c.in-Ok-respond.sent.octets.items
           (next_of c.respond.new.self) limit within sent.2),
     )
 
@@ -34,10 +36,10 @@ returns-in-Ok-respond-clause-noted c = λ octets before token g.
     let whole = response.canonical (answered c.args.services.now c.args.moment (concat c.args.message)).1 in
     let sent = c.in-Ok-respond.ensures.sent octets (g.frames ++ g.frame ∷ []) [] g.stands in
     let limit = c.most_octets-most.ensures.most octets (g.frames ++ g.frame ∷ []) [] g.stands
-    (server_asked c.args.channel.now octets before c.args.id token (concat c.args.message) g) sent.0 sent.1 in
+    (server_asked (channel_in c.args.self.now) octets before c.args.id token (concat c.args.message) g) sent.0 sent.1 in
     let within : IsBodyWithin c.most_octets-most.result whole c.deref.result.now = search rules in
     let request : c.in-Ok.told.request ≡ request_answered None c.args.services.now c.args.moment (concat c.args.message) = search rules in
-    noted-there c.args.channel.now octets before c.args.id token (concat c.args.message) g sent.0 c.args.services.now c.args.moment c.deref.result.now
+    noted-there (channel_in c.args.self.now) octets before c.args.id token (concat c.args.message) g sent.0 c.args.services.now c.args.moment c.deref.result.now
     c.in-Ok.told.request c.sent_as-request.result sent.1
     (λ code. same_code sent.0 c.most_octets-most.result whole c.deref.result.now code limit within) request
     (c.sent_as-request.ensures sent.0 c.deref.result.now sent.3)
@@ -45,7 +47,7 @@ returns-in-Ok-respond-clause-noted c = λ octets before token g.
 pub returns-clause-failed : goal.returns-clause-failed
 returns-clause-failed c = λ octets before token g.
     let not_open : ReplyFault → Result SentReply ReplyFault = λ f. Err f in
-    absurd (server_asked c.args.channel.now octets before c.args.id token (concat c.args.message) g
+    absurd (server_asked (channel_in c.args.self.now) octets before c.args.id token (concat c.args.message) g
     (c.in-Err-NotOpen.ensures.not_open.0 (ap not_open c.in-Err-NotOpen.field-0-is)))
 
 pub returns-in-Ok-respond-clause-stored : goal.returns-in-Ok-respond-clause-stored
