@@ -19,7 +19,8 @@ use ua_program::{
     ListEndpoints, Task, limits, parse, policy_of, read_question, url_of, write_question,
 };
 use ua_session::{
-    Question, QuestionFault, TokenPolicy, Verdict, WordFault, ask_over, endpoints_over,
+    Inquiry, Opening, Question, QuestionFault, TokenPolicy, Verdict, WordFault, ask_over,
+    endpoints_over,
 };
 use ua_texts::AnswerStyle;
 
@@ -200,7 +201,12 @@ fn endpoints<L: Line, O: Write>(
     if !url.is_encodable() {
         return Err(Fault::NoRow);
     }
-    let ended = endpoints_over(alloc, line, limits(), &url, asked.style, &mut moments, out);
+    let opening = Opening {
+        alloc,
+        limits: limits(),
+        url: &url,
+    };
+    let ended = endpoints_over(line, &opening, asked.style, &mut moments, out);
     Ok(ended.map(|()| "done"))
 }
 
@@ -239,17 +245,18 @@ fn answers<L: Line, O: Write>(
         return Err(Fault::NoRow);
     }
     let mut moments = moments(alloc)?;
-    let ended = ask_over(
+    let opening = Opening {
         alloc,
-        line,
-        limits(),
+        limits: limits(),
         url,
-        &asking.question,
-        &asking.policy,
-        asking.style,
-        &mut moments,
-        out,
-    );
+    };
+    let inquiry = Inquiry {
+        opening,
+        question: &asking.question,
+        policy: &asking.policy,
+        style: asking.style,
+    };
+    let ended = ask_over(line, &inquiry, &mut moments, out);
     match ended {
         Ok(Verdict::SomeBad) if asking.strict => Ok(Ok("bad")),
         Ok(_) => Ok(Ok("done")),

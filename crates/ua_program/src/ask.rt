@@ -26,7 +26,8 @@ use ua_channel::Line;
 use ua_exchange::limits;
 use ua_services::session_requests::local_url;
 use ua_session::{
-    Question, QuestionFault, TokenPolicy, Verdict, WordFault, ask_over, endpoints_over,
+    Inquiry, Opening, Question, QuestionFault, TokenPolicy, Verdict, WordFault, ask_over,
+    endpoints_over,
 };
 use ua_tcp::{ClockMoments, RecordedLine, TcpLine, without_delay};
 use ua_texts::AnswerStyle;
@@ -103,15 +104,12 @@ fn endpoints_line<R: Clock + AllocGlobal, L: Line, O: Write>(
         return Err(QuestionFault::NoMemory);
     };
     let mut moments = ClockMoments::new(rt);
-    endpoints_over(
-        rt.alloc(),
-        line,
-        limits(),
-        &url,
-        asked.style,
-        &mut moments,
-        out,
-    )
+    let opening = Opening {
+        alloc: rt.alloc(),
+        limits: limits(),
+        url: &url,
+    };
+    endpoints_over(line, &opening, asked.style, &mut moments, out)
 }
 
 /// Prints the endpoints of the server over a connection.
@@ -226,17 +224,18 @@ fn ask_line<R: Clock + AllocGlobal, L: Line, O: Write>(
         return Err(QuestionFault::NoMemory);
     };
     let mut moments = ClockMoments::new(rt);
-    ask_over(
-        rt.alloc(),
-        line,
-        limits(),
-        &url,
+    let opening = Opening {
+        alloc: rt.alloc(),
+        limits: limits(),
+        url: &url,
+    };
+    let inquiry = Inquiry {
+        opening,
         question,
-        &policy,
-        how.style,
-        &mut moments,
-        out,
-    )
+        policy: &policy,
+        style: how.style,
+    };
+    ask_over(line, &inquiry, &mut moments, out)
 }
 
 /// Asks a question of the server over a connection, and prints the answers.

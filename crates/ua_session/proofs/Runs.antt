@@ -13,7 +13,7 @@ use Rattle.ua_session.specs.Line.{LineState}
 use Rattle.ua_session.specs.Printed.{AreAnswerLines, AreEndpointLines, HasAdded, IsOutput, LeavesLines, OfEndpoints, OfRead, OfWrite}
 use Rattle.ua_session.specs.Question.{AnswersQuestion, PrintsAnswers}
 use Rattle.ua_session.specs.Replies.{IsUnprinted, PrintsEndpoints}
-use Rattle.ua_session.specs.Session.{AsksByPolicy, AsksInSession, EndsSession}
+use Rattle.ua_session.specs.Session.{AsksByPolicy, AsksInSession, AsksUnder, EndsSession}
 use Rattle.ua_session.specs.Steps.{first_fault_of}
 use Rattle.ua_session.specs.declared.fault.QuestionFault.{QuestionFault}
 use Rattle.ua_session.specs.declared.fault.QuestionFault.TheVariants.{Connection, NoMemory, NoPolicy, Output, Service}
@@ -29,6 +29,14 @@ Done = Result (Unit {0}) QuestionFault
 pub ends_by : (token : NodeId) (handle same : ℕ) (moment : DateTime) (old new : Client) (before after : LineState) (result : Done) → handle ≡ same
     → EndsSession token handle moment old new before after result → EndsSession token same moment old new before after result
 ends_by token handle same moment old new before after result is ends = subst (λ (h : ℕ). EndsSession token h moment old new before after result) is ends
+
+-- a question is asked under the token of a session whose first call has the same request id
+pub under_by : {M O : Type 0} (gives : M → ℤ → M → Type 0) (contents : O → Option (List ℕ)) (style : AnswerStyle) (question : Question) (token : NodeId)
+    (handle same : ℕ) (first last : M) (old new : Client) (before after : LineState) (had have : O) (result : Result Verdict QuestionFault) → handle ≡ same
+    → AsksUnder gives contents style question token handle first last old new before after had have result
+    → AsksUnder gives contents style question token same first last old new before after had have result
+under_by gives contents style question token handle same first last old new before after had have result is asks =
+    subst (λ (h : ℕ). AsksUnder gives contents style question token h first last old new before after had have result) is asks
 
 -- a question is asked in a session whose first call has the same request id
 pub asks_by : {M O : Type 0} (gives : M → ℤ → M → Type 0) (contents : O → Option (List ℕ)) (style : AnswerStyle) (question : Question)

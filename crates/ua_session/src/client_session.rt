@@ -12,7 +12,7 @@ use crate::answer::print_endpoints;
 use crate::fault::QuestionFault;
 use crate::policy::TokenPolicy;
 use crate::question::Question;
-use crate::session::{call_question, end_session, end_unbegun, find_policy, first_call};
+use crate::session::{Heading, call_question, end_session, end_unbegun, find_policy, first_call};
 use crate::step::{begin, call, close, first_of, next_moment, open, told};
 use crate::verdict::Verdict;
 use std::alloc::Global;
@@ -160,16 +160,12 @@ impl ClientSession {
         ensures answered { OnOk result (HasAdded (AreAnswerLines style) (O.contents out.old) (O.contents out.new)) }
         ensures left { IfErr result (λ fault. LeavesLines O.contents (AreAnswerLines style) fault out.old out.new) }
     {
-        let handle = next_handle(&self.client);
-        let called = call_question(
-            self.alloc,
-            line,
-            &mut self.client,
-            question,
-            &self.token,
-            handle,
+        let heading = Heading {
+            token: &self.token,
             moment,
-        );
+            handle: next_handle(&self.client),
+        };
+        let called = call_question(self.alloc, line, &mut self.client, question, &heading);
         question.print(self.alloc, out, called, style)
     }
 

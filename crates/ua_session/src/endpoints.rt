@@ -8,13 +8,12 @@ ghost use Rattle.ua_session.specs.Printed.{AreEndpointLines, HasAdded, LeavesLin
 
 use crate::answer::print_endpoints;
 use crate::fault::QuestionFault;
+use crate::inquiry::Opening;
 use crate::step::{call, close, first_of, next_moment, open};
-use std::alloc::Global;
 use std::io::Write;
 use ua_builtin::{DateTime, UaString};
 use ua_channel::{Line, Moments};
 use ua_client::{Client, Reply};
-use ua_frame::Limits;
 use ua_services::session_requests::get_endpoints_request;
 use ua_texts::EndpointStyle;
 
@@ -41,50 +40,48 @@ pub fn call_endpoints<L: Line>(
 
 /// Calls GetEndpoints, and writes the lines of the endpoints.
 fn ask_endpoints<L: Line, M: Moments, O: Write>(
-    alloc: Global,
     line: &mut L,
     client: &mut Client,
-    url: &UaString,
+    opening: &Opening<'_>,
     style: EndpointStyle,
     moments: &mut M,
     out: &mut O,
 ) -> Result<(), QuestionFault>
-    ensures { AsksEndpoints M.gives O.contents url.now style moments.old moments.new client.old client.new
+    ensures { AsksEndpoints M.gives O.contents opening.now.url.now style moments.old moments.new client.old client.new
         (record { traffic = L.traffic line.old; failures = L.failures line.old })
         (record { traffic = L.traffic line.new; failures = L.failures line.new }) out.old out.new result }
 {
     let moment = next_moment(moments);
-    let called = call_endpoints(line, client, url, moment);
-    print_endpoints(alloc, out, called, style)
+    let called = call_endpoints(line, client, opening.url, moment);
+    print_endpoints(opening.alloc, out, called, style)
 }
 
-/// Asks the server at the other end of a transport for its endpoints, by this URL, and writes their
-/// lines in this style. The connection has to be at its beginning. A client is opened, calls
+/// Asks the server at the other end of a transport for its endpoints, and writes their lines in
+/// this style. The connection has to be at its beginning. A client is opened, calls
 /// GetEndpoints without a session and is closed, also after a fault that lets it go on. The lines
 /// are written and flushed as soon as the response is read, before the client is closed. The
 /// function returns the first fault, but a failed allocation in a later step takes its place unless
 /// it is a failed writer. Each of these steps takes the next timestamp.
 pub fn endpoints_over<L: Line, M: Moments, O: Write>(
-    alloc: Global,
     line: &mut L,
-    limits: Limits,
-    url: &UaString,
+    opening: &Opening<'_>,
     style: EndpointStyle,
     moments: &mut M,
     out: &mut O,
 ) -> Result<(), QuestionFault>
-    requires { IsTrue (text.encodable url.now) }
-    ensures runs { RunsEndpoints M.gives O.contents limits url.now style moments.old moments.new
+    requires { IsTrue (text.encodable opening.now.url.now) }
+    ensures runs { RunsEndpoints M.gives O.contents opening.now.limits opening.now.url.now style moments.old moments.new
         (record { traffic = L.traffic line.old; failures = L.failures line.old })
         (record { traffic = L.traffic line.new; failures = L.failures line.new }) out.old out.new result }
     ensures answered { OnOk result (HasAdded (AreEndpointLines style) (O.contents out.old) (O.contents out.new)) }
     ensures left { IfErr result (λ fault. LeavesLines O.contents (AreEndpointLines style) fault out.old out.new) }
     ensures failed { LineFailedConversing (L.failures line.old) result (L.failures line.new) }
 {
+    let Opening { alloc, limits, url } = *opening;
     let opened_at = next_moment(moments);
     match open(alloc, line, limits, url, opened_at) {
         Ok(mut client) => {
-            let asked = ask_endpoints(alloc, line, &mut client, url, style, moments, out);
+            let asked = ask_endpoints(line, &mut client, opening, style, moments, out);
             let closed_at = next_moment(moments);
             let closed = close(line, client, closed_at);
             first_of(asked, closed)

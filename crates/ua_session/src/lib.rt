@@ -9,7 +9,9 @@
 //! let question = Question::parse_read(alloc, &["ns=1;s=Pump"], 13, None)?;
 //! let style = AnswerStyle::exact(LineStyle::plain(false));
 //! let policy = TokenPolicy::Auto;
-//! ask_over(alloc, &mut line, limits, &url, &question, &policy, style, &mut moments, &mut out)?;
+//! let opening = Opening { alloc, limits, url: &url };
+//! let inquiry = Inquiry { opening, question: &question, policy: &policy, style };
+//! ask_over(&mut line, &inquiry, &mut moments, &mut out)?;
 //! // `ns=1;s=Pump 00000000 Int32 6` is written to `out`
 //! ```
 //!
@@ -27,6 +29,7 @@ mod client_session;
 mod endpoints;
 mod fault;
 mod fault_name;
+mod inquiry;
 mod policy;
 mod question;
 mod session;
@@ -38,6 +41,7 @@ pub use answer::is_bad_response;
 pub use client_session::ClientSession;
 pub use endpoints::endpoints_over;
 pub use fault::{NotBegun, QuestionFault, WordFault};
+pub use inquiry::{Inquiry, Opening};
 pub use policy::TokenPolicy;
 pub use question::Question;
 pub use session::ask_over;

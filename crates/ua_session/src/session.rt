@@ -13,6 +13,7 @@ ghost use Rattle.ua_session.specs.Steps.{AsksRequest};
 use crate::answer::expect_done;
 use crate::endpoints::call_endpoints;
 use crate::fault::{NotBegun, QuestionFault};
+use crate::inquiry::{Inquiry, Opening};
 use crate::policy::{TokenPolicy, choose_by};
 use crate::question::Question;
 use crate::step::{begin, call, close, first_of, next_moment, open};
@@ -22,9 +23,7 @@ use std::io::Write;
 use ua_builtin::{DateTime, NodeId, UaString};
 use ua_channel::{Line, Moments};
 use ua_client::{Client, Reply};
-use ua_frame::Limits;
 use ua_services::session_requests::close_session_request;
-use ua_texts::AnswerStyle;
 
 /// The PolicyId by which a session is to be begun; the server is asked for it where none is named.
 pub fn find_policy<L: Line, M: Moments>(
@@ -64,25 +63,34 @@ pub fn first_call(policy: &TokenPolicy) -> u32
     }
 }
 
-/// Calls the request that asks a question under the token of a session, with this RequestHandle.
+/// What the header of a request in a session has.
+#[derive(Clone, Copy)]
+pub struct Heading<'a> {
+    /// The AuthenticationToken.
+    pub token: &'a NodeId,
+    /// The Timestamp.
+    pub moment: DateTime,
+    /// The RequestHandle.
+    pub handle: u32,
+}
+
+/// Calls the request that asks a question, under this heading.
 pub fn call_question<L: Line>(
     alloc: Global,
     line: &mut L,
     client: &mut Client,
     question: &Question,
-    token: &NodeId,
-    handle: u32,
-    moment: DateTime,
+    heading: &Heading<'_>,
 ) -> Result<Reply, QuestionFault>
-    ensures { AsksRequest (request_of_question question.now token.now moment handle) client.old client.new
-        (record { traffic = L.traffic line.old; failures = L.failures line.old })
+    ensures { AsksRequest (request_of_question question.now heading.now.token.now heading.now.moment heading.now.handle)
+        client.old client.new (record { traffic = L.traffic line.old; failures = L.failures line.old })
         (record { traffic = L.traffic line.new; failures = L.failures line.new }) result }
 {
-    let Ok(token) = token.try_clone() else {
+    let Ok(token) = heading.token.try_clone() else {
         return Err(QuestionFault::NoMemory);
     };
-    match question.request(alloc, token, moment, handle) {
-        Ok(request) => call(line, client, request, moment),
+    match question.request(alloc, token, heading.moment, heading.handle) {
+        Ok(request) => call(line, client, request, heading.moment),
         Err(_) => Err(QuestionFault::NoMemory),
     }
 }
@@ -118,25 +126,29 @@ pub fn end_session<L: Line>(
 /// Asks a question under the token of a session, writes the lines of the answers, and ends the
 /// session.
 fn ask_under<L: Line, M: Moments, O: Write>(
-    alloc: Global,
     line: &mut L,
     client: &mut Client,
-    question: &Question,
-    style: AnswerStyle,
+    inquiry: &Inquiry<'_>,
     token: NodeId,
-    handle: u32,
     moments: &mut M,
     out: &mut O,
 ) -> Result<Verdict, QuestionFault>
-    requires { handle < 2 ^ 31 }
-    ensures { AsksUnder M.gives O.contents style question.now token handle moments.old moments.new client.old client.new
+    ensures { AsksUnder M.gives O.contents inquiry.now.style inquiry.now.question.now token
+        (first_call inquiry.now.policy.now) moments.old moments.new client.old client.new
         (record { traffic = L.traffic line.old; failures = L.failures line.old })
         (record { traffic = L.traffic line.new; failures = L.failures line.new }) out.old out.new result }
 {
-    let asked_at = next_moment(moments);
-    let called = call_question(alloc, line, client, question, &token, handle, asked_at);
+    let alloc = inquiry.opening.alloc;
+    let handle = first_call(inquiry.policy);
+    let moment = next_moment(moments);
+    let heading = Heading {
+        token: &token,
+        moment,
+        handle,
+    };
+    let called = call_question(alloc, line, client, inquiry.question, &heading);
     let behind = handle_behind(handle, &called);
-    let printed = question.print(alloc, out, called, style);
+    let printed = inquiry.question.print(alloc, out, called, inquiry.style);
     let ended_at = next_moment(moments);
     let ended = end_session(line, client, token, behind, ended_at);
     first_of(printed, ended)
@@ -180,60 +192,48 @@ pub fn end_unbegun<L: Line, M: Moments>(
 /// Begins a session by the token policy with an id, asks a question in it, writes the lines of the
 /// answers, and ends the session.
 fn ask_in_session<L: Line, M: Moments, O: Write>(
-    alloc: Global,
     line: &mut L,
     client: &mut Client,
-    question: &Question,
-    style: AnswerStyle,
+    inquiry: &Inquiry<'_>,
     policy_id: UaString,
-    handle: u32,
     moments: &mut M,
     out: &mut O,
 ) -> Result<Verdict, QuestionFault>
-    requires few { handle < 2 ^ 31 }
-    requires some { 0 < handle }
-    ensures { AsksInSession M.gives O.contents style question.now policy_id handle moments.old moments.new client.old
-        client.new (record { traffic = L.traffic line.old; failures = L.failures line.old })
+    ensures { AsksInSession M.gives O.contents inquiry.now.style inquiry.now.question.now policy_id
+        (first_call inquiry.now.policy.now) moments.old moments.new client.old client.new
+        (record { traffic = L.traffic line.old; failures = L.failures line.old })
         (record { traffic = L.traffic line.new; failures = L.failures line.new }) out.old out.new result }
 {
+    let handle = first_call(inquiry.policy);
     let begun_at = next_moment(moments);
     match begin(line, client, policy_id, begun_at) {
-        Ok(token) => ask_under(
-            alloc, line, client, question, style, token, handle, moments, out,
-        ),
+        Ok(token) => ask_under(line, client, inquiry, token, moments, out),
         Err(refused) => Err(end_unbegun(line, client, refused, handle, moments)),
     }
 }
 
 /// Finds the token policy, and asks a question in a session that is begun by it.
 fn ask_by_policy<L: Line, M: Moments, O: Write>(
-    alloc: Global,
     line: &mut L,
     client: &mut Client,
-    url: &UaString,
-    question: &Question,
-    policy: &TokenPolicy,
-    style: AnswerStyle,
+    inquiry: &Inquiry<'_>,
     moments: &mut M,
     out: &mut O,
 ) -> Result<Verdict, QuestionFault>
-    ensures { AsksByPolicy M.gives O.contents url.now policy.now style question.now moments.old moments.new client.old
-        client.new (record { traffic = L.traffic line.old; failures = L.failures line.old })
+    ensures { AsksByPolicy M.gives O.contents inquiry.now.opening.url.now inquiry.now.policy.now inquiry.now.style
+        inquiry.now.question.now moments.old moments.new client.old client.new
+        (record { traffic = L.traffic line.old; failures = L.failures line.old })
         (record { traffic = L.traffic line.new; failures = L.failures line.new }) out.old out.new result }
 {
-    let found = find_policy(line, client, url, policy, moments);
-    let handle = first_call(policy);
-    match found {
-        Ok(id) => ask_in_session(
-            alloc, line, client, question, style, id, handle, moments, out,
-        ),
+    match find_policy(line, client, inquiry.opening.url, inquiry.policy, moments) {
+        Ok(id) => ask_in_session(line, client, inquiry, id, moments, out),
         Err(fault) => Err(fault),
     }
 }
 
-/// Asks the server at the other end of a transport a question in a session of its own, by this URL,
-/// and writes the lines of the answers in this style. The connection has to be at its beginning. A
-/// client is opened, begins a session by this token policy, asks, ends the session and is closed,
+/// Asks the server at the other end of a transport a question in a session of its own, and writes
+/// the lines of the answers. The connection has to be at its beginning. A client is opened, begins a
+/// session by the token policy, asks, ends the session and is closed,
 /// these two also after a fault that lets it go on. A session that CreateSession made, and
 /// ActivateSession did not begin, is ended, too; the outcome of that is not reported, and the fault
 /// is that of ActivateSession. The lines are written and flushed as soon as the response is read,
@@ -242,38 +242,27 @@ fn ask_by_policy<L: Line, M: Moments, O: Write>(
 /// calls GetEndpoints before it begins the session; where the endpoints give no policy the fault is
 /// `NoPolicy`, and no session is begun. Each of these steps takes the next timestamp.
 pub fn ask_over<L: Line, M: Moments, O: Write>(
-    alloc: Global,
     line: &mut L,
-    limits: Limits,
-    url: &UaString,
-    question: &Question,
-    policy: &TokenPolicy,
-    style: AnswerStyle,
+    inquiry: &Inquiry<'_>,
     moments: &mut M,
     out: &mut O,
 ) -> Result<Verdict, QuestionFault>
-    requires { IsTrue (text.encodable url.now) }
-    ensures runs { RunsQuestion M.gives O.contents limits url.now policy.now style question.now moments.old moments.new
+    requires { IsTrue (text.encodable inquiry.now.opening.url.now) }
+    ensures runs { RunsQuestion M.gives O.contents inquiry.now.opening.limits inquiry.now.opening.url.now
+        inquiry.now.policy.now inquiry.now.style inquiry.now.question.now moments.old moments.new
         (record { traffic = L.traffic line.old; failures = L.failures line.old })
         (record { traffic = L.traffic line.new; failures = L.failures line.new }) out.old out.new result }
-    ensures answered { OnOk result (HasAdded (AreAnswerLines style) (O.contents out.old) (O.contents out.new)) }
-    ensures left { IfErr result (λ fault. LeavesLines O.contents (AreAnswerLines style) fault out.old out.new) }
+    ensures answered { OnOk result
+        (HasAdded (AreAnswerLines inquiry.now.style) (O.contents out.old) (O.contents out.new)) }
+    ensures left { IfErr result
+        (λ fault. LeavesLines O.contents (AreAnswerLines inquiry.now.style) fault out.old out.new) }
     ensures failed { LineFailedConversing (L.failures line.old) result (L.failures line.new) }
 {
+    let Opening { alloc, limits, url } = inquiry.opening;
     let opened_at = next_moment(moments);
     match open(alloc, line, limits, url, opened_at) {
         Ok(mut client) => {
-            let asked = ask_by_policy(
-                alloc,
-                line,
-                &mut client,
-                url,
-                question,
-                policy,
-                style,
-                moments,
-                out,
-            );
+            let asked = ask_by_policy(line, &mut client, inquiry, moments, out);
             let closed_at = next_moment(moments);
             let closed = close(line, client, closed_at);
             first_of(asked, closed)

@@ -1,11 +1,11 @@
-use Rattle.ua_session.proofs.Runs.{ends_by}
+use Rattle.ua_session.proofs.Runs.{ends_by, under_by}
 use Rattle.ua_session.proofs.session.ask_under.Goals as goal
 
 pub returns : goal.returns
-returns g c = record {
-  asked_at = c.next_moment-asked_at.result;
-  behind = c.next_moment-asked_at.new.moments;
-  asking_given = c.next_moment-asked_at.ensures;
+returns g c = under_by _ _ _ _ _ _ _ _ _ _ _ _ _ _ _ _ c.first_call-handle.ensures.handle (record {
+  asked_at = c.next_moment-moment.result;
+  behind = c.next_moment-moment.new.moments;
+  asking_given = c.next_moment-moment.ensures;
   called = c.call_question-called.result;
   asked = c.call_question-called.new.client;
   answered = record { traffic = g.L.Line.traffic c.call_question-called.new.line; failures = g.L.Line.failures c.call_question-called.new.line };
@@ -17,4 +17,4 @@ returns g c = record {
   ended = c.end_session-ended.result;
   ends = ends_by _ _ _ _ _ _ _ _ _ c.handle_behind-behind.ensures c.end_session-ended.ensures;
   result_is = c.first_of.ensures;
-}
+})
