@@ -230,17 +230,26 @@ fn items_of(
     Ok(items)
 }
 
+/// What the header of a request under a token has, as C gives it.
+#[derive(Clone, Copy)]
+struct Heading<'a> {
+    /// The AuthenticationToken.
+    token: &'a [u8],
+    /// The Timestamp.
+    moment: DateTime,
+    /// The RequestHandle.
+    handle: u32,
+}
+
 /// A request of Read for the Values of the nodes that lines name, or for the parts of them that an
 /// index range names, under a token.
 fn reading(
     alloc: Global,
-    token: &[u8],
-    moment: DateTime,
-    handle: u32,
+    heading: &Heading<'_>,
     nodes: &[u8],
     range: &[u8],
 ) -> Result<Request, BadText>
-    ensures { MakesRead token.now moment handle nodes.now range.now result }
+    ensures { MakesRead heading.now.token.now heading.now.moment heading.now.handle nodes.now range.now result }
 {
     let range = match range_of(alloc, range) {
         Ok(range) => range,
@@ -250,12 +259,12 @@ fn reading(
         Ok(nodes) => nodes,
         Err(bad) => return Err(bad),
     };
-    let token = match node_of(alloc, token) {
+    let token = match node_of(alloc, heading.token) {
         Ok(token) => token,
         Err(status) => return Err(BadText::only(TEXT_TOKEN, status)),
     };
     match items_of(alloc, nodes.as_slice(), &range) {
-        Ok(items) => Ok(read_request(token, moment, handle, items)),
+        Ok(items) => Ok(read_request(token, heading.moment, heading.handle, items)),
         Err(_) => Err(BadText::only(TEXT_NODES, NO_MEMORY)),
     }
 }
@@ -263,14 +272,12 @@ fn reading(
 /// A request of Write for the Value of a node, under a token.
 fn writing(
     alloc: Global,
-    token: &[u8],
-    moment: DateTime,
-    handle: u32,
+    heading: &Heading<'_>,
     node: &[u8],
     kind: &[u8],
     text: &[u8],
 ) -> Result<Request, BadText>
-    ensures { MakesWrite token.now moment handle node.now kind.now text.now result }
+    ensures { MakesWrite heading.now.token.now heading.now.moment heading.now.handle node.now kind.now text.now result }
 {
     let value = match value_by(alloc, kind, text, false) {
         Ok(value) => value,
@@ -280,13 +287,13 @@ fn writing(
         Ok(node) => node,
         Err(status) => return Err(BadText::only(TEXT_NODE, status)),
     };
-    let token = match node_of(alloc, token) {
+    let token = match node_of(alloc, heading.token) {
         Ok(token) => token,
         Err(status) => return Err(BadText::only(TEXT_TOKEN, status)),
     };
     let mut items = Vec::new(alloc);
     match items.push(write_item(node, value)) {
-        Ok(()) => Ok(write_request(token, moment, handle, items)),
+        Ok(()) => Ok(write_request(token, heading.moment, heading.handle, items)),
         Err(_) => Err(BadText::only(TEXT_NODE, NO_MEMORY)),
     }
 }
@@ -409,14 +416,12 @@ pub extern "C" fn ua_read_request(
         (λ made. MakesRead token.now (record { ticks = moment }) handle nodes.now range.now made
         × (index.new ≡ index_in made)) buffer.old buffer.new needed.new reason.new result }
 {
-    let made = reading(
-        alloc,
+    let heading = Heading {
         token,
-        DateTime { ticks: moment },
+        moment: DateTime { ticks: moment },
         handle,
-        nodes,
-        range,
-    );
+    };
+    let made = reading(alloc, &heading, nodes, range);
     *index = index_in(&made);
     put_told(alloc, made, buffer, needed, reason)
 }
@@ -439,14 +444,11 @@ pub extern "C" fn ua_write_request(
         (λ made. MakesWrite token.now (record { ticks = moment }) handle node.now kind.now text.now made)
         buffer.old buffer.new needed.new reason.new result }
 {
-    let made = writing(
-        alloc,
+    let heading = Heading {
         token,
-        DateTime { ticks: moment },
+        moment: DateTime { ticks: moment },
         handle,
-        node,
-        kind,
-        text,
-    );
+    };
+    let made = writing(alloc, &heading, node, kind, text);
     put_told(alloc, made, buffer, needed, reason)
 }

@@ -62,25 +62,29 @@ fn text_of(alloc: Global, octets: &[u8], number: u32, reason: &mut u32) -> Resul
     string_of(alloc, octets)
 }
 
+/// What a server is to tell about itself, as C gives it.
+#[derive(Clone, Copy)]
+struct Described<'a> {
+    url: &'a [u8],
+    application_uri: &'a [u8],
+    name: &'a [u8],
+    max_message_size: u32,
+}
+
 /// What a server tells about itself, or a status and the number of the text that is none.
 #[tactic(auto, using(crate::proofs::Connected::about_made))]
-fn about(
-    alloc: Global,
-    url: &[u8],
-    application_uri: &[u8],
-    name: &[u8],
-    max_message_size: u32,
-    reason: &mut u32,
-) -> Result<Endpoint, u32>
-    ensures endpoint { IfOk result (λ e. IsAbout url.now application_uri.now name.now max_message_size e) }
+fn about(alloc: Global, server: &Described<'_>, reason: &mut u32) -> Result<Endpoint, u32>
+    ensures endpoint { IfOk result (λ e. IsAbout server.now.url.now server.now.application_uri.now server.now.name.now
+        server.now.max_message_size e) }
     ensures fits { IfOk result (λ e. IsEndpointEncodable e) }
-    ensures fault { IfErr result (λ status. IsNoAbout url.now application_uri.now name.now reason.new status) }
+    ensures fault { IfErr result (λ status. IsNoAbout server.now.url.now server.now.application_uri.now
+        server.now.name.now reason.new status) }
 {
     Ok(Endpoint {
-        url: text_of(alloc, url, TEXT_URL, reason)?,
-        application_uri: text_of(alloc, application_uri, TEXT_APPLICATION_URI, reason)?,
-        name: text_of(alloc, name, TEXT_NAME, reason)?,
-        message_limit: max_message_size,
+        url: text_of(alloc, server.url, TEXT_URL, reason)?,
+        application_uri: text_of(alloc, server.application_uri, TEXT_APPLICATION_URI, reason)?,
+        name: text_of(alloc, server.name, TEXT_NAME, reason)?,
+        message_limit: server.max_message_size,
     })
 }
 
@@ -89,17 +93,15 @@ fn about(
 fn shared(
     alloc: Global,
     file: &[u8],
-    url: &[u8],
-    application_uri: &[u8],
-    name: &[u8],
-    max_message_size: u32,
+    server: &Described<'_>,
     line: &mut usize,
     reason: &mut u32,
 ) -> Result<SharedNodes, u32>
-    ensures { MakesShared file.now url.now application_uri.now name.now max_message_size line.new reason.new result }
+    ensures { MakesShared file.now server.now.url.now server.now.application_uri.now server.now.name.now
+        server.now.max_message_size line.new reason.new result }
 {
     *line = 0;
-    let endpoint = about(alloc, url, application_uri, name, max_message_size, reason)?;
+    let endpoint = about(alloc, server, reason)?;
     let nodes = nodes_of(alloc, file, line, reason)?;
     Ok(SharedNodes {
         services: Services::new(nodes, endpoint),
@@ -124,16 +126,13 @@ pub extern "C" fn ua_nodes_new(
     ensures { MakesNodes file.now url.now application_uri.now name.now max_message_size out.old.value out.new.value
         line.new reason.new result }
 {
-    match shared(
-        alloc,
-        file,
+    let server = Described {
         url,
         application_uri,
         name,
         max_message_size,
-        line,
-        reason,
-    ) {
+    };
+    match shared(alloc, file, &server, line, reason) {
         Ok(nodes) => seat(alloc, Machine::Nodes(nodes), out),
         Err(status) => status,
     }
