@@ -1,7 +1,7 @@
 //! Listeners that fail.
 
 use crate::fault::Fault;
-use crate::serve::{client, served_services, telling};
+use crate::serve::{client, served_services, setup};
 use crate::texts::{first_word, marked};
 use std::alloc::Global;
 use std::cell::Cell;
@@ -125,7 +125,7 @@ pub fn accepts<R: Files + Net + Clock + AllocGlobal>(rt: &R, words: &str) -> Res
         live: false,
         writes: false,
     };
-    let told = told(&listening, &listener, &asked);
+    let told = told(&listening, &listener, asked);
     drop(clients);
     told
 }
@@ -133,20 +133,13 @@ pub fn accepts<R: Files + Net + Clock + AllocGlobal>(rt: &R, words: &str) -> Res
 fn told<R: Net + Clock + AllocGlobal>(
     listening: &Listening<'_, R>,
     listener: &Failing<'_, R::Listener>,
-    asked: &Serve<'_>,
+    asked: Serve<'_>,
 ) -> Result<String, Fault> {
     let alloc = listening.alloc();
     let mut served = served_services(alloc)?;
     let (mut out, mut err) = (Vec::new(alloc), Vec::new(alloc));
-    let stopped = serve_all(
-        listening,
-        listener,
-        &mut served,
-        asked,
-        &mut out,
-        telling(alloc),
-        &mut err,
-    );
+    let setup = setup(alloc, asked);
+    let stopped = serve_all(listening, listener, &mut served, &setup, &mut out, &mut err);
     drop(served);
     let end = end_of(alloc, &stopped)?;
     drop(stopped);

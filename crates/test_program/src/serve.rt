@@ -15,7 +15,7 @@ use std::rt::Files;
 use std::time::Clock;
 use ua_channel::{Line, ListMoments, MemoryLine};
 use ua_program::{
-    ALL_CONNECTIONS, Plant, Serve, Stop, Telling, say_no_memory, serve_all, serve_line,
+    ALL_CONNECTIONS, Plant, Serve, Setup, Stop, Telling, say_no_memory, serve_all, serve_line,
     serve_places, services,
 };
 use ua_server::Services;
@@ -170,17 +170,8 @@ pub fn serve_none<R: Net + Clock + AllocGlobal>(rt: &R) -> Result<String, Fault>
     let mut served = served_services(rt.alloc())?;
     let mut out = Vec::new(rt.alloc());
     let mut err = Vec::new(rt.alloc());
-    let telling = telling(rt.alloc());
-    let asked = asked(1, false);
-    let stopped = serve_all(
-        rt,
-        &listener,
-        &mut served,
-        &asked,
-        &mut out,
-        telling,
-        &mut err,
-    );
+    let setup = setup(rt.alloc(), asked(1, false));
+    let stopped = serve_all(rt, &listener, &mut served, &setup, &mut out, &mut err);
     drop(served);
     let out = marked(rt.alloc(), &out)?;
     match stopped {
@@ -209,13 +200,14 @@ fn asked(connections: u32, requests: bool) -> Serve<'static> {
     }
 }
 
-/// Faults are told with their reasons.
-pub fn telling(alloc: Global) -> Telling {
-    Telling {
+/// A server for these words, which tells faults with their reasons.
+pub fn setup(alloc: Global, asked: Serve<'_>) -> Setup<'_> {
+    let telling = Telling {
         alloc,
         why: true,
         aloud: true,
-    }
+    };
+    Setup { asked, telling }
 }
 
 /// A connection that has sent bytes, and sends no more.
@@ -255,18 +247,9 @@ fn served_all<R: Net + Clock + AllocGlobal>(
     };
     let mut served = served_services(rt.alloc())?;
     let mut out = Vec::new(rt.alloc());
-    let asked = asked(connections, requests);
     let mut err = Vec::new(rt.alloc());
-    let telling = telling(rt.alloc());
-    let stopped = serve_all(
-        rt,
-        listener,
-        &mut served,
-        &asked,
-        &mut out,
-        telling,
-        &mut err,
-    );
+    let setup = setup(rt.alloc(), asked(connections, requests));
+    let stopped = serve_all(rt, listener, &mut served, &setup, &mut out, &mut err);
     drop(served);
     match stopped {
         Ok(()) => marked(rt.alloc(), &out),
@@ -290,14 +273,13 @@ fn served_places<R: Files + Net + Clock + AllocGlobal>(
         writes,
         ..asked(connections, false)
     };
-    let telling = telling(rt.alloc());
+    let setup = setup(rt.alloc(), asked);
     let mut plant = Plant {
         services: served_services(rt.alloc())?,
         live: None,
+        places,
     };
-    let stopped = serve_places(
-        rt, listener, &mut plant, &asked, places, &mut out, telling, &mut err,
-    );
+    let stopped = serve_places(rt, listener, &mut plant, &setup, &mut out, &mut err);
     match stopped {
         Ok(()) => marked(rt.alloc(), &out),
         Err(_) => Err(Fault::Failed),

@@ -12,6 +12,7 @@ use crate::live::{LiveFile, follow};
 use crate::output::{Stop, write_text};
 use crate::reason::cannot_listen;
 use crate::serve::{is_of_connection, limits_for, outcome_line, say_listening, write_no_memory};
+use crate::setup::Setup;
 use crate::stored::{LOST_LINE, stored_lines};
 use crate::tell::Telling;
 use crate::time_keeper::set_current_time;
@@ -255,11 +256,13 @@ pub fn listen<'a, R: Net>(rt: &R, port: u16) -> Result<TcpListener, Stop<'a>> {
     }
 }
 
-/// What is served: services, and the node file that they follow, if they follow it.
+/// What is served many at a time: services, and the node file that they follow, if they follow it.
 #[derive(Drop)]
 pub struct Plant<'r, 'a, R> {
     pub services: Services,
     pub live: Option<LiveFile<'r, 'a, R>>,
+    /// The most connections that are served at a time.
+    pub places: u16,
 }
 
 /// Whether stored values are printed in the human-readable form, if they are printed.
@@ -284,20 +287,18 @@ pub fn serve_places<'r, 'a, R: Files + Net + Clock + AllocGlobal, O: Write, E: W
     rt: &'r R,
     listener: TcpListener,
     plant: &mut Plant<'r, 'a, R>,
-    asked: &Serve<'a>,
-    places: u16,
+    setup: &Setup<'a>,
     out: &mut O,
-    telling: Telling,
     err: &mut E,
 ) -> Result<(), Stop<'a>>
-    ensures served { OnOk result
-        (HasServedAtOnce (writes_of asked.now) asked.now.goes_on asked.now.port asked.now.connections
-        (O.contents out.old) (O.contents out.new)) }
+    ensures served { OnOk result (HasServedAtOnce (writes_of setup.now.asked) setup.now.asked.goes_on
+        setup.now.asked.port setup.now.asked.connections (O.contents out.old) (O.contents out.new)) }
     ensures stopped { IfErr result (λ stop. StopsWriting stop ⊎ (out.new ≡ out.old)
-        ⊎ HasServedSomeAtOnce (writes_of asked.now) asked.now.goes_on asked.now.port asked.now.connections
-        (O.contents out.old) (O.contents out.new)) }
-    ensures quiet { telling.aloud ≡ false → err.new ≡ err.old }
+        ⊎ HasServedSomeAtOnce (writes_of setup.now.asked) setup.now.asked.goes_on setup.now.asked.port
+        setup.now.asked.connections (O.contents out.old) (O.contents out.new)) }
+    ensures quiet { setup.now.telling.aloud ≡ false → err.new ≡ err.old }
 {
+    let asked = &setup.asked;
     say_listening(rt.alloc(), asked.port, out)?;
     let live = plant.live.take();
     let mut host = Host {
@@ -305,7 +306,7 @@ pub fn serve_places<'r, 'a, R: Files + Net + Clock + AllocGlobal, O: Write, E: W
         keeps_time: asked.standard,
         live,
         writes: writes_of(asked),
-        telling,
+        telling: setup.telling,
         goes_on: asked.goes_on,
         out,
         err,
@@ -313,7 +314,7 @@ pub fn serve_places<'r, 'a, R: Files + Net + Clock + AllocGlobal, O: Write, E: W
     };
     let wanted = AtOnce {
         limits: limits_for(asked.answers),
-        places: usize::from(places),
+        places: usize::from(plant.places),
         total: asked.connections,
     };
     let served = serve_at_once(

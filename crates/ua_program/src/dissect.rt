@@ -144,6 +144,16 @@ fn is_told(asked: &Dissect<'_>, dissector: &Dissector) -> bool
     !asked.hex && dissector.has_refused()
 }
 
+/// How far a source is dissected.
+#[derive(Drop)]
+struct Dissection {
+    /// How far digits are read, where they stand for the bytes.
+    digits: HexPieces,
+    dissector: Dissector,
+    /// The lines that are printed next.
+    text: String,
+}
+
 /// Reads once more, and prints the lines of what is complete by then; at the end, or at a frame
 /// that is refused, prints the last line and returns whether one is refused. Digits are read to
 /// their end.
@@ -151,22 +161,26 @@ fn print_next<'a, I: Read, O: Write>(
     alloc: Global,
     asked: &Dissect<'a>,
     source: &mut I,
-    digits: &mut HexPieces,
-    dissector: &mut Dissector,
+    dissection: &mut Dissection,
     piece: &mut [u8],
-    text: &mut String,
     out: &mut O,
 ) -> Result<Option<Verdict>, Stop<'a>>
     requires room { 0 < length piece.old }
     ensures prints { (content told : List ℕ)
-        → ToldSoFar asked.now.hex asked.now.options digits.old.half dissector.old content told
-        → IfOk result (λ ended. PrintsNext ended asked.now.hex asked.now.options digits.new.half dissector.new content
-        told (I.remaining source.old) (I.remaining source.new) (O.contents out.old) (O.contents out.new)) }
+        → ToldSoFar asked.now.hex asked.now.options dissection.old.digits.half dissection.old.dissector content told
+        → IfOk result (λ ended. PrintsNext ended asked.now.hex asked.now.options dissection.new.digits.half
+        dissection.new.dissector content told (I.remaining source.old) (I.remaining source.new) (O.contents out.old)
+        (O.contents out.new)) }
     ensures kept { IfErr result (λ stop. StopsWriting stop ⊎ (out.new ≡ out.old)) }
     ensures stopped { (content told : List ℕ)
-        → ToldSoFar asked.now.hex asked.now.options digits.old.half dissector.old content told
+        → ToldSoFar asked.now.hex asked.now.options dissection.old.digits.half dissection.old.dissector content told
         → IfErr result (λ stop. StopsNext asked.now.hex asked.now.file content (I.remaining source.old) stop) }
 {
+    let Dissection {
+        digits,
+        dissector,
+        text,
+    } = dissection;
     text.clear();
     let Some(n) = read_piece(asked.file, source, piece)? else {
         return Ok(None);
@@ -200,21 +214,16 @@ pub fn dissect_source<'a, I: Read, O: Write>(
         (I.remaining source.old) (O.contents out.old) (O.contents out.new)) }
     ensures stopped { IfErr result (λ stop. StopsReading asked.now.hex asked.now.file (I.remaining source.old) stop) }
 {
-    let mut digits = HexPieces::new();
-    let mut dissector = Dissector::new(alloc, asked.options);
-    let mut text = String::new(alloc);
+    let digits = HexPieces::new();
+    let dissector = Dissector::new(alloc, asked.options);
+    let mut dissection = Dissection {
+        digits,
+        dissector,
+        text: String::new(alloc),
+    };
     let mut piece = [0u8; PIECE];
     for _reads in 0..u64::MAX {
-        let ended = print_next(
-            alloc,
-            asked,
-            source,
-            &mut digits,
-            &mut dissector,
-            &mut piece,
-            &mut text,
-            out,
-        )?;
+        let ended = print_next(alloc, asked, source, &mut dissection, &mut piece, out)?;
         if let Some(verdict) = ended {
             return Ok(verdict);
         }

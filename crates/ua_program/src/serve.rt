@@ -22,6 +22,7 @@ use crate::input::{parse_nodes, read_nodes};
 use crate::live::LiveFile;
 use crate::output::{Stop, say, write_text};
 use crate::reason::{blame_line, cannot_listen};
+use crate::setup::Setup;
 use crate::standard::{StandardServices, standard_services};
 use crate::tell::Telling;
 use crate::time_keeper::TimeKeeper;
@@ -97,6 +98,7 @@ pub fn limits_for(most: u32) -> Limits
 /// How a connection is served.
 #[derive(Clone, Copy)]
 struct Terms {
+    alloc: Global,
     /// The connection's number.
     number: u32,
     /// Whether each request has a line.
@@ -233,7 +235,6 @@ impl<'o, O: Write> Watch for RequestLines<'o, O> {
 /// Serves the client at the other end of a transport beside an application, and prints the line of
 /// each request as it is answered. Returns the line of text with the outcome of the connection.
 fn tell_beside<'a, L: Line, M: Moments, A: Application, O: Write>(
-    alloc: Global,
     line: &mut L,
     services: &mut Services,
     terms: Terms,
@@ -248,13 +249,13 @@ fn tell_beside<'a, L: Line, M: Moments, A: Application, O: Write>(
     ensures only { IfErr result StopsConnection }
 {
     let mut lines = RequestLines {
-        alloc,
+        alloc: terms.alloc,
         number: terms.number,
         out,
         halt: None,
     };
     let serving = ServeTerms {
-        alloc,
+        alloc: terms.alloc,
         limits: terms.limits,
         channel_id: terms.number,
     };
@@ -268,7 +269,7 @@ fn tell_beside<'a, L: Line, M: Moments, A: Application, O: Write>(
     // No effect at run time. The proof reads what the writer holds from this use of it.
     let _ = &*out;
     match halt {
-        None => Ok(outcome_line(alloc, terms.number, outcome)?),
+        None => Ok(outcome_line(terms.alloc, terms.number, outcome)?),
         Some(Halt::Memory) => Err(Stop::Fault(Fault::NoMemory)),
         Some(Halt::Output(error)) => Err(Stop::Output(error)),
     }
@@ -277,7 +278,6 @@ fn tell_beside<'a, L: Line, M: Moments, A: Application, O: Write>(
 /// Serves the client at the other end of a transport beside an application, with the lines of its
 /// requests where they are wanted. Returns the line of text with the outcome of the connection.
 fn serve_beside<'a, L: Line, M: Moments, A: Application, O: Write>(
-    alloc: Global,
     line: &mut L,
     services: &mut Services,
     terms: Terms,
@@ -292,10 +292,10 @@ fn serve_beside<'a, L: Line, M: Moments, A: Application, O: Write>(
     ensures only { IfErr result StopsConnection }
 {
     if terms.requests {
-        return tell_beside(alloc, line, services, terms, moments, application, out);
+        return tell_beside(line, services, terms, moments, application, out);
     }
     let serving = ServeTerms {
-        alloc,
+        alloc: terms.alloc,
         limits: terms.limits,
         channel_id: terms.number,
     };
@@ -307,14 +307,13 @@ fn serve_beside<'a, L: Line, M: Moments, A: Application, O: Write>(
         &mut Unwatched,
         application,
     );
-    Ok(outcome_line(alloc, terms.number, outcome)?)
+    Ok(outcome_line(terms.alloc, terms.number, outcome)?)
 }
 
 /// Serves the client of a connection beside an application, after which the connection has ended.
 /// The responses to requests that arrived together are sent together. Returns the line of text with
 /// the outcome of the connection.
 fn serve_stream<'a, S: Read + Write + Drop, M: Moments, A: Application, O: Write>(
-    alloc: Global,
     stream: S,
     services: &mut Services,
     terms: Terms,
@@ -328,8 +327,8 @@ fn serve_stream<'a, S: Read + Write + Drop, M: Moments, A: Application, O: Write
         (O.contents out.new)) }
     ensures only { IfErr result StopsConnection }
 {
-    let mut line = GatheringLine::new(alloc, TcpLine::new(stream));
-    let served = serve_beside(alloc, &mut line, services, terms, moments, application, out);
+    let mut line = GatheringLine::new(terms.alloc, TcpLine::new(stream));
+    let served = serve_beside(&mut line, services, terms, moments, application, out);
     // the last responses, or the ERR message: no connection tells whether the client receives them
     let _ = line.flush();
     served
@@ -350,8 +349,8 @@ fn serve_asked<'a, R: Clock + AllocGlobal, S: Read + Write + Drop, O: Write>(
         (O.contents out.new)) }
     ensures only { IfErr result StopsConnection }
 {
-    let alloc = rt.alloc();
     let terms = Terms {
+        alloc: rt.alloc(),
         number,
         requests: asked.requests,
         limits: limits_for(asked.answers),
@@ -361,18 +360,9 @@ fn serve_asked<'a, R: Clock + AllocGlobal, S: Read + Write + Drop, O: Write>(
         let mut keeper = TimeKeeper {
             moments: ClockMoments::new(rt),
         };
-        serve_stream(
-            alloc,
-            stream,
-            services,
-            terms,
-            &mut moments,
-            &mut keeper,
-            out,
-        )
+        serve_stream(stream, services, terms, &mut moments, &mut keeper, out)
     } else {
         serve_stream(
-            alloc,
             stream,
             services,
             terms,
@@ -454,26 +444,22 @@ pub fn write_no_memory<O: Write>(number: u32, out: &mut O) -> io::Result<()>
     out.flush()
 }
 
-/// Waits for the next connection, serves it and prints its outcome. Where the server goes on, a
-/// failed allocation ends that connection alone.
-fn serve_next<'a, R: Net + Clock + AllocGlobal, O: Write, E: Write>(
+/// Serves the client of a connection and prints its outcome. Where the server goes on, a failed
+/// allocation ends that connection alone.
+fn serve_one<'a, R: Net + Clock + AllocGlobal, O: Write>(
     rt: &R,
-    listener: &R::Listener,
+    stream: R::Stream,
     services: &mut Services,
     number: u32,
     asked: &Serve<'a>,
     out: &mut O,
-    telling: Telling,
-    err: &mut E,
 ) -> Result<(), Stop<'a>>
     ensures served { OnOk result (ServesOne asked.now.requests asked.now.goes_on number (O.contents out.old)
         (O.contents out.new)) }
     ensures stopped { IfErr result (λ stop. StopsWriting stop ⊎ HasTold asked.now.requests number (O.contents out.old)
         (O.contents out.new)) }
-    ensures lasts { asked.now.goes_on ≡ true → IfErr result EndsServing }
-    ensures quiet { telling.aloud ≡ false → err.new ≡ err.old }
+    ensures lasts { asked.now.goes_on ≡ true → IfErr result StopsWriting }
 {
-    let stream = next_stream(rt, listener, asked.goes_on, telling, err)?;
     let served = serve_asked(rt, without_delay(stream), services, number, asked, out);
     match served {
         Ok(text) => say(out, &text),
@@ -582,24 +568,24 @@ pub fn serve_all<'a, R: Net + Clock + AllocGlobal, O: Write, E: Write>(
     rt: &R,
     listener: &R::Listener,
     services: &mut Services,
-    asked: &Serve<'a>,
+    setup: &Setup<'a>,
     out: &mut O,
-    telling: Telling,
     err: &mut E,
 ) -> Result<(), Stop<'a>>
-    ensures served { OnOk result (HasServed asked.now.requests asked.now.goes_on asked.now.port asked.now.connections
-        (O.contents out.old) (O.contents out.new)) }
+    ensures served { OnOk result (HasServed setup.now.asked.requests setup.now.asked.goes_on setup.now.asked.port
+        setup.now.asked.connections (O.contents out.old) (O.contents out.new)) }
     ensures stopped { IfErr result (λ stop. StopsWriting stop ⊎ (out.new ≡ out.old)
-        ⊎ HasServedSome asked.now.requests asked.now.goes_on asked.now.port asked.now.connections (O.contents out.old)
-        (O.contents out.new)) }
+        ⊎ HasServedSome setup.now.asked.requests setup.now.asked.goes_on setup.now.asked.port
+        setup.now.asked.connections (O.contents out.old) (O.contents out.new)) }
     // Once it listens, neither a failed allocation nor an error of the listener with its reason
     // ends a server that goes on.
-    ensures lasts { asked.now.goes_on ≡ true → IfErr result (λ why. EndsServing why ⊎ (out.new ≡ out.old)) }
-    ensures quiet { telling.aloud ≡ false → err.new ≡ err.old }
+    ensures lasts { setup.now.asked.goes_on ≡ true → IfErr result (λ why. EndsServing why ⊎ (out.new ≡ out.old)) }
+    ensures quiet { setup.now.telling.aloud ≡ false → err.new ≡ err.old }
 {
-    say_listening(rt.alloc(), asked.port, out)?;
-    for number in 0..asked.connections {
-        serve_next(rt, listener, services, number + 1, asked, out, telling, err)?;
+    say_listening(rt.alloc(), setup.asked.port, out)?;
+    for number in 0..setup.asked.connections {
+        let stream = next_stream(rt, listener, setup.asked.goes_on, setup.telling, err)?;
+        serve_one(rt, stream, services, number + 1, &setup.asked, out)?;
     }
     Ok(())
 }
@@ -633,15 +619,20 @@ pub fn serve_connections<'a, R: Files + Net + Clock + AllocGlobal, I: Read, O: W
         standard: keeps_time,
         ..*asked
     };
+    let setup = Setup { asked, telling };
     match asked.at_once {
         None => {
             let listener = listen(rt, asked.port)?;
-            serve_all(rt, &listener, &mut services, &asked, out, telling, err)
+            serve_all(rt, &listener, &mut services, &setup, out, err)
         }
         Some(places) => {
             let listener = at_once::listen(rt, asked.port)?;
-            let mut plant = Plant { services, live };
-            serve_places(rt, listener, &mut plant, &asked, places, out, telling, err)
+            let mut plant = Plant {
+                services,
+                live,
+                places,
+            };
+            serve_places(rt, listener, &mut plant, &setup, out, err)
         }
     }
 }

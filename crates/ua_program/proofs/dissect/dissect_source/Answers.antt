@@ -20,7 +20,7 @@ returns-in_err-ended-clause-begun g c =
     rw p.1 (elim c.in_err-ended.ensures.kept [
       | inl output ↦ inl (subst StopsWriting (sym p.2) output)
       | inr same ↦
-          inr (rw same (has_begun c.args.asked.now.hex c.args.asked.now.options c.loop-reads.digits.half c.loop-reads.dissector
+          inr (rw same (has_begun c.args.asked.now.hex c.args.asked.now.options c.loop-reads.dissection.digits.half c.loop-reads.dissection.dissector
           (g.I.Read.remaining c.args.source.now) (g.I.Read.remaining c.loop-reads.source) (g.O.Write.contents c.args.out.now)
           (g.O.Write.contents c.loop-reads.out) s))
     ])
@@ -37,10 +37,11 @@ returns-in_err-ended-clause-stopped g c =
 pub returns-in-Some-clause-lines : goal.returns-in-Some-clause-lines
 returns-in-Some-clause-lines g c =
     let s = c.loop-reads.invariant.so_far in
-    reads_all c.in-Some.verdict c.args.asked.now.hex c.args.asked.now.options c.loop-reads.digits.half c.loop-reads.dissector
+    reads_all c.in-Some.verdict c.args.asked.now.hex c.args.asked.now.options c.loop-reads.dissection.digits.half c.loop-reads.dissection.dissector
     (g.I.Read.remaining c.args.source.now) (g.I.Read.remaining c.loop-reads.source) (g.I.Read.remaining c.print_next.new.source)
     (g.O.Write.contents c.args.out.now) (g.O.Write.contents c.loop-reads.out) (g.O.Write.contents c.print_next.new.out) s
-    (as_last c.in_ok-ended.ended c.in-Some.verdict c.args.asked.now.hex c.args.asked.now.options c.print_next.new.digits.half c.print_next.new.dissector
+    (as_last c.in_ok-ended.ended c.in-Some.verdict c.args.asked.now.hex c.args.asked.now.options c.print_next.new.dissection.digits.half
+    c.print_next.new.dissection.dissector
     s.content s.told (g.I.Read.remaining c.loop-reads.source) (g.I.Read.remaining c.print_next.new.source) (g.O.Write.contents c.loop-reads.out)
     (g.O.Write.contents c.print_next.new.out)
     c.in-Some.is (c.in_ok-ended.ensures.prints s.content s.told s.so_far))
@@ -51,11 +52,13 @@ loop-reads-preserved g c =
     record {
       room = (let was = c.loop-reads.invariant.room in let same = c.print_next.auto.piece in omega (arith, was, same));
       so_far =
-          reads_on c.args.asked.now.hex c.args.asked.now.options c.loop-reads.digits.half c.print_next.new.digits.half c.loop-reads.dissector
-          c.print_next.new.dissector (g.I.Read.remaining c.args.source.now) (g.I.Read.remaining c.loop-reads.source)
+          reads_on c.args.asked.now.hex c.args.asked.now.options c.loop-reads.dissection.digits.half c.print_next.new.dissection.digits.half
+          c.loop-reads.dissection.dissector
+          c.print_next.new.dissection.dissector (g.I.Read.remaining c.args.source.now) (g.I.Read.remaining c.loop-reads.source)
           (g.I.Read.remaining c.print_next.new.source) (g.O.Write.contents c.args.out.now) (g.O.Write.contents c.loop-reads.out)
           (g.O.Write.contents c.print_next.new.out) s
-          (as_piece c.in_ok-ended.ended c.args.asked.now.hex c.args.asked.now.options c.print_next.new.digits.half c.print_next.new.dissector s.content s.told
+          (as_piece c.in_ok-ended.ended c.args.asked.now.hex c.args.asked.now.options c.print_next.new.dissection.digits.half
+          c.print_next.new.dissection.dissector s.content s.told
           (g.I.Read.remaining c.loop-reads.source) (g.I.Read.remaining c.print_next.new.source) (g.O.Write.contents c.loop-reads.out)
           (g.O.Write.contents c.print_next.new.out)
           c.in_default.is (c.in_ok-ended.ensures.prints s.content s.told s.so_far));
@@ -63,5 +66,6 @@ loop-reads-preserved g c =
 
 pub returns-clause-begun : goal.returns-clause-begun
 returns-clause-begun g c =
-    inr (has_begun c.args.asked.now.hex c.args.asked.now.options c.loop-reads.digits.half c.loop-reads.dissector (g.I.Read.remaining c.args.source.now)
+    inr (has_begun c.args.asked.now.hex c.args.asked.now.options c.loop-reads.dissection.digits.half c.loop-reads.dissection.dissector
+    (g.I.Read.remaining c.args.source.now)
     (g.I.Read.remaining c.loop-reads.source) (g.O.Write.contents c.args.out.now) (g.O.Write.contents c.loop-reads.out) c.loop-reads.invariant.so_far)
