@@ -203,8 +203,7 @@ class Fuzz:
             if '--json' in mode.options:
                 members = answers.json_line(node, it, style, times)
                 if not answers.is_json_line(members, line):
-                    shown = '{%s}' % ','.join('"%s":%s' % (name, answers.show_json(value)) for name, value in members)
-                    self.tell(mode, value_octets(of, place), line, shown)
+                    self.tell(mode, value_octets(of, place), line, answers.show_json(answers.Members(members)))
             else:
                 parts = answers.line(node, it, style, times)
                 if not texts.fits(parts, line):

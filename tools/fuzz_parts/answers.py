@@ -6,10 +6,11 @@ import re
 from typing import NamedTuple
 
 from fuzz_parts import values as v
-from fuzz_parts.texts import DECIMAL, Bits, Parts, Style, bits_of, diagnostic, escaped, fits, is_encodable, is_null, joined, number
+from fuzz_parts.texts import DECIMAL, Bits, Parts, Style, bits_of, diagnostic, escaped, fits, guid, is_encodable, is_null, joined, number
+from fuzz_parts.texts import octets as base64_text
 from fuzz_parts.texts import scalar, shown, time, whole
 from fuzz_parts.encoding import PLAIN
-from fuzz_parts.values import DataValue, DiagnosticInfo, ExtensionObject, NodeId
+from fuzz_parts.values import DataValue, DiagnosticInfo, ExpandedNodeId, ExtensionObject, LocalizedText, NodeId, QualifiedName, Variant
 
 MOST_EXACT = 1 << 53
 
@@ -17,6 +18,11 @@ MOST_EXACT = 1 << 53
 class Text(NamedTuple):
     """A text of JSON with these parts."""
     parts: Parts
+
+
+class Members(NamedTuple):
+    """An object of JSON with these members, in this order."""
+    members: list[tuple[str, object]]
 
 
 class Number(str):
@@ -62,18 +68,103 @@ def line(node: str, of: DataValue, style: Style, times: bool) -> Parts:
     return joined(out)
 
 
+def text_or_null(of: str | None) -> object:
+    return None if of is None else Text([of])
+
+
+def node_members(of: NodeId) -> list[tuple[str, object]]:
+    """The members of a NodeId's object.
+
+    >>> node_members(NodeId(1, 's', None)), node_members(NodeId(0, 'i', 85))[2]
+    ([('ns', 1), ('id_type', Text(parts=['s'])), ('id', None)], ('id', 85))
+    """
+    at = of.identifier
+    identifier: object = at
+    if isinstance(at, bytes):
+        identifier = Text([guid(at) if of.form == 'g' else base64_text(at)])
+    elif isinstance(at, str):
+        identifier = Text([at])
+    return [('ns', of.namespace), ('id_type', Text([of.form])), ('id', identifier)]
+
+
+def code_members(of: int, style: Style) -> Members:
+    name = style.names.get(of) if style.names else None
+    return Members([('code', Text(['%08X' % of]))] + ([('name', Text([name]))] if name else []))
+
+
+def variant_members(of: Variant, style: Style) -> list[tuple[str, object]]:
+    """The type, the value and the dimensions of a value that has an encoding."""
+    out: list[tuple[str, object]] = [('type', Text([v.NAMES[of.kind] + ('[]' if of.array else '')]))]
+    if isinstance(of.value, tuple) and of.array:
+        out.append(('value', [json_value(of.kind, one, style) for one in of.value]))
+    else:
+        out.append(('value', None if of.array or of.kind == 0 else json_value(of.kind, of.value, style)))
+    if of.dimensions:
+        out.append(('dimensions', list(of.dimensions)))
+    return out
+
+
+def data_members(of: DataValue, style: Style) -> list[tuple[str, object]]:
+    """The members of a DataValue's object."""
+    out = variant_members(of.value, style) if of.value is not None else []
+    if of.status is not None:
+        out.append(('status', code_members(of.status, style)))
+    for name, moment, more in [('source', of.source, of.source_picoseconds), ('server', of.server, of.server_picoseconds)]:
+        out += [(name, Text([time(moment)]))] if moment is not None else []
+        out += [(name + '_picoseconds', more)] if more is not None else []
+    return out
+
+
+def diagnostic_members(of: DiagnosticInfo, style: Style) -> list[tuple[str, object]]:
+    """The members of a DiagnosticInfo's object."""
+    names = ['symbolic_id', 'namespace_uri', 'locale', 'localized_text']
+    out: list[tuple[str, object]] = [(name, it) for name, it in zip(names, of[:4]) if it is not None]
+    if of.additional_info is not None:
+        out.append(('additional_info', Text([of.additional_info])))
+    if of.inner_status_code is not None:
+        out.append(('inner_status_code', code_members(of.inner_status_code, style)))
+    if of.inner is not None:
+        out.append(('inner', Members(diagnostic_members(of.inner, style))))
+    return out
+
+
+def json_object(of: object, style: Style) -> Members | None:
+    """The object that a value is in JSON with `--plain`, if it is one.
+
+    >>> json_object(QualifiedName(1, None), Style(True)), json_object(7, Style(True))
+    (Members(members=[('ns', 1), ('name', None)]), None)
+    """
+    if isinstance(of, NodeId):
+        return Members(node_members(of))
+    if isinstance(of, ExpandedNodeId):
+        return Members([('server', of.server), ('uri', text_or_null(of.uri)), *node_members(of.node)])
+    if isinstance(of, QualifiedName):
+        return Members([('ns', of.namespace), ('name', text_or_null(of.name))])
+    if isinstance(of, LocalizedText):
+        return Members([('locale', text_or_null(of.locale)), ('text', text_or_null(of.text))])
+    if isinstance(of, Variant):
+        return Members(variant_members(of, style))
+    if isinstance(of, DataValue):
+        return Members(data_members(of, style))
+    return Members(diagnostic_members(of, style)) if isinstance(of, DiagnosticInfo) else None
+
+
 def json_value(kind: int, of: object, style: Style) -> object:
-    """A value in JSON: True, False or None, an int, Bits, or a Text."""
+    """A value in JSON: True, False or None, an int, Bits, a Text, or Members."""
     if kind == v.BOOLEAN or of is None and kind in (v.STRING, v.BYTE_STRING):
         return of
     if kind in v.INTEGERS and isinstance(of, int):
         return of if abs(of) <= MOST_EXACT else Text([str(of)])
     if kind == v.STRING:
         return Text([str(of)])
-    if kind in (v.FLOAT, v.DOUBLE) and style.plain and isinstance(of, int):
+    if not style.plain:
+        return Text(joined(scalar(kind, of, Style())))
+    if kind in (v.FLOAT, v.DOUBLE) and isinstance(of, int):
         it = number(kind, of)
         return it if isinstance(it, Bits) else Text([it])
-    return Text(joined(scalar(kind, of, style if style.plain else Style())))
+    if kind == v.STATUS_CODE and isinstance(of, int):
+        return code_members(of, style)
+    return json_object(of, style) or Text(joined(scalar(kind, of, style)))
 
 
 def json_line(node: str, of: DataValue, style: Style, times: bool) -> list[tuple[str, object]]:
@@ -83,16 +174,8 @@ def json_line(node: str, of: DataValue, style: Style, times: bool) -> list[tuple
     if style.names and code in style.names:
         out.append(('name', Text([style.names[code]])))
     it = of.value
-    if it is not None and not is_encodable(it):
-        out.append(('unwritable', True))
-    elif it is not None:
-        out.append(('type', Text([v.NAMES[it.kind] + ('[]' if it.array else '')])))
-        if isinstance(it.value, tuple) and it.array:
-            out.append(('value', [json_value(it.kind, one, style) for one in it.value]))
-        else:
-            out.append(('value', None if it.array or it.kind == 0 else json_value(it.kind, it.value, style)))
-        if it.dimensions:
-            out.append(('dimensions', list(it.dimensions)))
+    if it is not None:
+        out += variant_members(it, style) if is_encodable(it) else [('unwritable', True)]
     for name, moment in (('source', of.source), ('server', of.server)) if times else ():
         out.append((name, None if moment is None else Text([time(moment) if style.plain else str(moment)])))
     return out
@@ -116,12 +199,20 @@ def is_json(wanted: object, got: object) -> bool:
         return isinstance(got, str) and not isinstance(got, Number) and fits(wanted.parts, got)
     if isinstance(wanted, Bits):
         return isinstance(got, Number) and DECIMAL.fullmatch(got) is not None and bits_of(got, wanted.kind) == wanted.pattern
+    if isinstance(wanted, Members):
+        return isinstance(got, tuple) and are_members(wanted.members, got)
     if wanted is None or isinstance(wanted, bool):
         return got is wanted
     if isinstance(wanted, int):
         return isinstance(got, Number) and got == str(wanted)
     return (isinstance(wanted, list) and isinstance(got, list) and len(wanted) == len(got)
             and all(is_json(one, other) for one, other in zip(wanted, got)))
+
+
+def are_members(wanted: list[tuple[str, object]], got: tuple[tuple[str, object], ...]) -> bool:
+    """Whether the members that came are those wanted, in this order."""
+    return ([name for name, _ in got] == [name for name, _ in wanted]
+            and all(is_json(one, other) for (_, one), (_, other) in zip(wanted, got)))
 
 
 def is_json_line(wanted: list[tuple[str, object]], got: str) -> bool:
@@ -134,8 +225,7 @@ def is_json_line(wanted: list[tuple[str, object]], got: str) -> bool:
         members = READ.decode(got)
     except ValueError:
         return False
-    return (' ' not in TEXT.sub('', got) and isinstance(members, tuple) and [name for name, _ in members] == [name for name, _ in wanted]
-            and all(is_json(one, other) for (_, one), (_, other) in zip(wanted, members)))
+    return ' ' not in TEXT.sub('', got) and isinstance(members, tuple) and are_members(wanted, members)
 
 
 def show_json(wanted: object) -> str:
@@ -144,6 +234,8 @@ def show_json(wanted: object) -> str:
         return json.dumps(shown(wanted.parts), ensure_ascii=False) if isinstance(wanted, Text) else shown([wanted])
     if isinstance(wanted, list):
         return '[%s]' % ','.join(show_json(it) for it in wanted)
+    if isinstance(wanted, Members):
+        return '{%s}' % ','.join('"%s":%s' % (name, show_json(it)) for name, it in wanted.members)
     return json.dumps(wanted)
 
 

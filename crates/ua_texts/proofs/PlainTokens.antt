@@ -13,22 +13,27 @@ use Rattle.json.specs.Token as token
 use Rattle.json.specs.Tree.{items_tokens, json_tokens}
 use Rattle.json.specs.Written.{Writes, Written}
 use Rattle.ryu.specs.Plain.{IsPlainNumber}
+use Rattle.ua_builtin.specs.declared.date_time.DateTime.{DateTime}
 use Rattle.ua_builtin.specs.declared.node_id.NodeId.{NodeId}
-use Rattle.ua_variant.specs.Data.{ScalarData, ScalarsData, VariantData, many, one}
+use Rattle.ua_variant.specs.Data.{DataFields, DataValueData, LeafData, ScalarData, ScalarsData, VariantData, bare, leaf, many, null, one, valued}
 use Rattle.ua_variant.specs.Encodable.{kind_of_scalar, variant_encodable}
-use Rattle.ua_variant.specs.View.{many_of, row}
+use Rattle.ua_variant.specs.View.{data_fields_of, data_value_of, many_of, no_data_fields, row, scalar_of, value_within}
 use Rattle.ua_variant.specs.declared.values.DataValue.{DataValue}
+use Rattle.ua_variant.specs.declared.values.Scalar.{Scalar}
 use Rattle.ua_texts.specs.Json.{Field, json_array, array_fields, dimension_fields, json_items, json_line, object, status_fields, unwritable_fields}
+use Rattle.ua_texts.specs.Json.{variant_fields}
 use Rattle.ua_texts.specs.Names.{number_of}
-use Rattle.ua_texts.specs.PlainJson.{AreBothFields, AreJson, AreTimeFields, AreValueFields, AreVariantFields, AreWrittenFields}
-use Rattle.ua_texts.specs.PlainJson.{IsArrayJson, IsFloatJson, IsPlainJson, IsScalarJson, IsTextJson, IsTimeJson, PutsFields, PutsJson}
-use Rattle.ua_texts.specs.PlainLeaf.{Adds, Either}
+use Rattle.ua_texts.specs.ObjectParts.{code_member, count_member}
+use Rattle.ua_texts.specs.PlainJson.{AreBothFields, AreDataMembers, AreJoined, AreJson, AreTimeFields, AreTimeMembers, AreValueFields, AreVariantFields}
+use Rattle.ua_texts.specs.PlainJson.{AreWrittenFields, IsArrayJson, IsDataValueJson, IsFloatJson, IsLeafOrText, IsMomentMember, IsObject, IsPlainJson}
+use Rattle.ua_texts.specs.PlainJson.{IsScalarJson, IsTextJson, IsTimeJson, PutsFields, PutsJson}
+use Rattle.ua_texts.specs.PlainLeaf.{Adds, Either, IsPlainMoment}
 use Rattle.ua_texts.specs.Tokens.{PutsTokens, fields_tokens}
 use Rattle.ua_texts.specs.Values.{type_name}
 use Rattle.ua_texts.specs.declared.style.LineStyle.{LineStyle}
 use Rattle.ua_texts.proofs.PlainAdds.{adds_is}
 use Rattle.ua_texts.proofs.Rows.{get_map, take_next}
-use Rattle.ua_texts.proofs.Tokens.{Put, fields-append, line_is, put_then}
+use Rattle.ua_texts.proofs.Tokens.{Put, fields-append, line_is, object_is, put_then}
 
 -- a value, values, or members of which this holds were put
 abbrev pub OneJson : Written → Written → (Json → Type 0) → Type 0
@@ -85,7 +90,131 @@ other_put (Ok y) old new f x text Holds finite w h = (
 )
 other_put (Err e) old new f x text Holds finite w h = tt
 
+-- ---- objects
+
+-- a value that is known was put
+pub value_put : {E : Type 0} (r : Result (Unit {0}) E) (old new : Written) (j : Json) (Is : Json → Type 0) → PutsTokens r old new (json_tokens j) → Is j
+    → PutsJson r old new Is
+value_put (Ok x) old new j Is p h = (j, p.0, p.1, h)
+value_put (Err e) old new j Is p h = tt
+
+-- a scalar was put that is a known value
+pub leaf_known : {E : Type 0} (r : Result (Unit {0}) E) (old new : Written) (names : Bool) (value s : Scalar) (j : Json) → value ≡ s
+    → PutsTokens r old new (json_tokens j) → IsLeafOrText names (scalar_of s) j → PutsJson r old new (IsLeafOrText names (scalar_of value))
+leaf_known r old new names value s j is p h =
+    subst (λ (v : Scalar). PutsJson r old new (IsLeafOrText names (scalar_of v))) (sym is)
+    (value_put r old new j (IsLeafOrText names (scalar_of s)) p h)
+
+-- members were put in curly brackets
+pub object_put : {E : Type 0} (r : Result (Unit {0}) E) (Are : List Field → Type 0) (a b c d : Written) → Put a b (token.begin_object ∷ [])
+    → SomeFields b c Are → PutsTokens r c d (token.end_object ∷ []) → PutsJson r a d (IsObject Are)
+object_put (Ok x) Are a b c d first h last =
+    let ts = fields_tokens h.0 in
+    let put = put_then a b d (token.begin_object ∷ []) (ts ++ token.end_object ∷ []) first (put_then b c d ts (token.end_object ∷ []) (h.1, h.2) last) in
+    (object h.0, put.0, put.1 ∙ ap (λ (t : List Token). a.tokens ++ t) (sym (object_is h.0)), (h.0, refl, h.3))
+object_put (Err e) Are a b c d first h last = tt
+
+-- members were put, and others behind them
+joined_put : (First Second : List Field → Type 0) (a b c : Written) → SomeFields a b First → SomeFields b c Second → SomeFields a c (AreJoined First Second)
+joined_put First Second a b c h k =
+    let put = put_then a b c (fields_tokens h.0) (fields_tokens k.0) (h.1, h.2) (k.1, k.2) in
+    (h.0 ++ k.0, put.0, put.1 ∙ ap (λ (t : List Token). a.tokens ++ t) (sym (fields-append h.0 k.0)), (h.0, k.0, refl, h.3, k.3))
+
+-- a Variant that is there
+pub within_put : {E : Type 0} (r : Result (Unit {0}) E) (names : Bool) (v whole : VariantData) (a b c d : Written) → v ≡ whole
+    → Put a b (token.begin_object ∷ []) → SomeFields b c (AreVariantFields names v) → PutsTokens r c d (token.end_object ∷ [])
+    → PutsJson r a d (IsObject (AreVariantFields names whole))
+within_put r names v whole a b c d is first h last =
+    subst (λ (w : VariantData). PutsJson r a d (IsObject (AreVariantFields names w))) is (object_put r (AreVariantFields names v) a b c d first h last)
+
+-- a null Variant
+pub null_within : {E : Type 0} (r : Result (Unit {0}) E) (names : Bool) (whole : VariantData) (a b c d : Written) → null ≡ whole
+    → Put a b (token.begin_object ∷ []) → Put b c (fields_tokens (variant_fields null)) → PutsTokens r c d (token.end_object ∷ [])
+    → PutsJson r a d (IsObject (AreVariantFields names whole))
+null_within r names whole a b c d is first p last = within_put r names null whole a b c d is first (variant_fields null, p.0, p.1, refl) last
+
+-- a DataValue with a value
+pub valued_put : {E : Type 0} (r : Result (Unit {0}) E) (names : Bool) (d : DataValue) (whole : DataValueData) (held v : VariantData) (a b c e f : Written)
+    → data_value_of d ≡ whole → d.value ≡ Some held → v ≡ held → Put a b (token.begin_object ∷ []) → SomeFields b c (AreVariantFields names v)
+    → SomeFields c e (AreDataMembers names (data_fields_of d)) → PutsTokens r e f (token.end_object ∷ [])
+    → PutsJson r a f (IsDataValueJson names whole)
+valued_put r names d whole held v a b c e f is some same first h k last =
+    let made : valued v (data_fields_of d) ≡ whole = ap (λ (w : VariantData). valued w (data_fields_of d)) same
+    ∙ ap (λ o. value_within o (data_fields_of d)) (sym some) ∙ is in
+    let First = AreVariantFields names v in
+    let Second = AreDataMembers names (data_fields_of d) in
+    subst (λ (w : DataValueData). PutsJson r a f (IsDataValueJson names w)) made
+    (object_put r (AreJoined First Second) a b e f first (joined_put First Second b c e h k) last)
+
+-- a DataValue without a value
+pub bare_put : {E : Type 0} (r : Result (Unit {0}) E) (names : Bool) (d : DataValue) (whole : DataValueData) (a b c e : Written)
+    → data_value_of d ≡ whole → d.value ≡ None → Put a b (token.begin_object ∷ []) → SomeFields b c (AreDataMembers names (data_fields_of d))
+    → PutsTokens r c e (token.end_object ∷ []) → PutsJson r a e (IsDataValueJson names whole)
+bare_put r names d whole a b c e is none first h last =
+    let made : bare (data_fields_of d) ≡ whole = ap (λ o. value_within o (data_fields_of d)) (sym none) ∙ is in
+    subst (λ (w : DataValueData). PutsJson r a e (IsDataValueJson names w)) made (object_put r (AreDataMembers names (data_fields_of d)) a b c e first h last)
+
+-- a DataValue without a field
+pub empty_put : {E : Type 0} (r : Result (Unit {0}) E) (names : Bool) (whole : DataValueData) (old new : Written) → bare no_data_fields ≡ whole
+    → PutsTokens r old new (json_tokens (object [])) → PutsJson r old new (IsDataValueJson names whole)
+empty_put r names whole old new is p =
+    subst (λ (w : DataValueData). PutsJson r old new (IsDataValueJson names w)) is
+    (value_put r old new (object []) (IsDataValueJson names (bare no_data_fields)) p ([], refl, ([], [], refl, ([], refl, refl), ([], refl, refl))))
+
+-- ---- the fields of a DataValue
+
+-- a time behind its name
+pub moment_put : {E : Type 0} (r : Result (Unit {0}) E) (name : List ℕ) (moment : Option DateTime) (t : DateTime) (a b c : Written) → moment ≡ Some t
+    → Put a b (token.key name ∷ []) → PutsJson r b c (IsTextJson (IsPlainMoment t)) → PutsFields r a c (IsMomentMember name moment)
+moment_put (Ok x) name moment t a b c is first h =
+    let put = put_then a b c (token.key name ∷ []) (json_tokens h.0) first (h.1, h.2) in
+    subst (λ (o : Option DateTime). SomeFields a c (IsMomentMember name o)) (sym is) (
+      (name, h.0) ∷ [],
+      put.0,
+      put.1 ∙ ap (λ (u : List Token). a.tokens ++ token.key name ∷ u) (sym (append-nil (json_tokens h.0))),
+      (h.0, refl, h.3),
+    )
+moment_put (Err e) name moment t a b c is first h = tt
+
+-- no time
+pub no_moment : (name : List ℕ) (moment : Option DateTime) (w : Written) → moment ≡ None → SomeFields w w (IsMomentMember name moment)
+no_moment name moment w is = subst (λ (o : Option DateTime). SomeFields w w (IsMomentMember name o)) (sym is) ([], refl, sym (append-nil w.tokens), refl)
+
+-- a time, and its picoseconds behind it
+pub times_put : {E : Type 0} (r : Result (Unit {0}) E) (name more : List ℕ) (t : Option DateTime) (n : Option ℕ) (a b c : Written)
+    → SomeFields a b (IsMomentMember name t) → PutsTokens r b c (fields_tokens (count_member more n)) → PutsFields r a c (AreTimeMembers name more t n)
+times_put (Ok x) name more t n a b c h p =
+    let count = count_member more n in
+    let put = put_then a b c (fields_tokens h.0) (fields_tokens count) (h.1, h.2) p in
+    (h.0 ++ count, put.0, put.1 ∙ ap (λ (u : List Token). a.tokens ++ u) (sym (fields-append h.0 count)), (h.0, refl, h.3))
+times_put (Err e) name more t n a b c h p = tt
+
+-- the status, and the times behind it
+pub data_put : {E : Type 0} (r : Result (Unit {0}) E) (names : Bool) (f : DataFields) (a b c d : Written)
+    → Put a b (fields_tokens (code_member names (codes "status") f.status))
+    → SomeFields b c (AreTimeMembers (codes "source") (codes "source_picoseconds") f.source_timestamp f.source_picoseconds)
+    → PutsFields r c d (AreTimeMembers (codes "server") (codes "server_picoseconds") f.server_timestamp f.server_picoseconds)
+    → PutsFields r a d (AreDataMembers names f)
+data_put (Ok x) names f a b c d first h k =
+    let status = code_member names (codes "status") f.status in
+    let rest = put_then b c d (fields_tokens h.0) (fields_tokens k.0) (h.1, h.2) (k.1, k.2) in
+    let put = put_then a b d (fields_tokens status) (fields_tokens h.0 ++ fields_tokens k.0) first rest in
+    let parts = fields-append status (h.0 ++ k.0) ∙ ap (λ (u : List Token). fields_tokens status ++ u) (fields-append h.0 k.0) in
+    (status ++ (h.0 ++ k.0), put.0, put.1 ∙ ap (λ (u : List Token). a.tokens ++ u) (sym parts), (h.0, k.0, refl, h.3, k.3))
+data_put (Err e) names f a b c d first h k = tt
+
 -- ---- elements
+
+-- an element that holds no further value
+leaf_is : (names : Bool) (s : ScalarData) (o : Option LeafData) (j : Json) → Some s ≡ option_map leaf o → IsLeafOrText names s j → IsScalarJson names s j
+leaf_is names s None j e h = absurd cc
+leaf_is names s (Some l) j e h =
+    let same : leaf l ≡ s = cc in subst (λ (x : ScalarData). IsScalarJson names x j) same (subst (λ (x : ScalarData). IsLeafOrText names x j) (sym same) h)
+
+-- such an element was put
+pub leaf_put : (names : Bool) (s : ScalarData) (o : Option LeafData) (old new : Written) → Some s ≡ option_map leaf o
+    → OneJson old new (IsLeafOrText names s) → OneJson old new (IsScalarJson names s)
+leaf_put names s o old new e h = (h.0, h.1, h.2, leaf_is names s o h.0 e h.3)
 
 json_push : (names : Bool) (ss : List ScalarData) (js : List Json) (s : ScalarData) (j : Json) → AreJson names (row ss) js → IsScalarJson names s j
     → AreJson names (row (ss ++ s ∷ [])) (js ++ j ∷ [])
@@ -174,7 +303,7 @@ many_put (Ok x) names k ss ds a b c d e first second h last =
     let dims = fields_tokens (dimension_fields ds) in
     let behind = put_then b c e (token.key (codes "value") ∷ []) (json_tokens h.0 ++ dims) second (put_then c d e (json_tokens h.0) dims (h.1, h.2) last) in
     let put = put_then a b e (token.key (codes "type") ∷ token.string kind ∷ []) (token.key (codes "value") ∷ (json_tokens h.0 ++ dims)) first behind in
-    ((codes "type", json.string kind) ∷ (codes "value", h.0) ∷ dimension_fields ds, put.0, put.1, (h.0, refl, h.3))
+    ((codes "type", json.string kind) ∷ (codes "value", h.0) ∷ dimension_fields ds, put.0, put.1, (h.0, refl, h.3.0, h.3.1, h.3.2))
 many_put (Err x) names k ss ds a b c d e first second h last = tt
 
 -- ---- lines

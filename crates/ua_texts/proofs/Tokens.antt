@@ -85,6 +85,29 @@ field_put r a b c name value first p =
     puts_as r a c (token.key name ∷ ts) (token.key name ∷ (ts ++ [])) (ap (λ (t : List Token). token.key name ∷ t) (sym (append-nil ts)))
     (then_last r a b c (token.key name ∷ []) ts first p)
 
+-- members were put, and others behind them
+pub members_then : {E : Type 0} (r : Result (Unit {0}) E) (a b c : Written) (fs gs : List Field) → Put a b (fields_tokens fs)
+    → PutsTokens r b c (fields_tokens gs) → PutsTokens r a c (fields_tokens (fs ++ gs))
+members_then r a b c fs gs p q =
+    puts_as r a c (fields_tokens fs ++ fields_tokens gs) (fields_tokens (fs ++ gs)) (sym (fields-append fs gs))
+    (then_last r a b c (fields_tokens fs) (fields_tokens gs) p q)
+
+-- the members of an object were put in its brackets
+pub object_whole : {E : Type 0} (r : Result (Unit {0}) E) (a b c d : Written) (fields : List Field) → Put a b (token.begin_object ∷ [])
+    → Put b c (fields_tokens fields) → PutsTokens r c d (token.end_object ∷ []) → PutsTokens r a d (json_tokens (object fields))
+object_whole r a b c d fields first members last =
+    let ts = fields_tokens fields in
+    puts_as r a d (token.begin_object ∷ (ts ++ token.end_object ∷ [])) (json_tokens (object fields)) (sym (object_is fields))
+    (then_last r a b d (token.begin_object ∷ []) (ts ++ token.end_object ∷ []) first (then_last r b c d ts (token.end_object ∷ []) members last))
+
+-- an object with one member more at its end
+pub object_around : {E : Type 0} (r : Result (Unit {0}) E) (a b c d e f : Written) (fields : List Field) (name : List ℕ) (value : Json)
+    → Put a b (token.begin_object ∷ []) → Put b c (fields_tokens fields) → Put c d (token.key name ∷ []) → Put d e (json_tokens value)
+    → PutsTokens r e f (token.end_object ∷ []) → PutsTokens r a f (json_tokens (object (fields ++ (name, value) ∷ [])))
+object_around r a b c d e f fields name value first members key inner last =
+    let one = field_put {E = Unit {0}} (Ok tt) c d e name value key inner in
+    object_whole r a b e f (fields ++ (name, value) ∷ []) first (members_then {E = Unit {0}} (Ok tt) b c e fields ((name, value) ∷ []) members one) last
+
 -- the line of the object of these fields
 pub line_is : {E : Type 0} (r : Result (Unit {0}) E) (old new : List ℕ) (tokens : List Token) (fields : List Field)
     → tokens ≡ token.begin_object ∷ fields_tokens fields

@@ -13,6 +13,7 @@ pub mod PlainLines
 pub mod Styles
 pub mod Json
 pub mod Tokens
+pub mod ObjectParts
 pub mod Answers
 pub mod PlainJson
 pub mod PlainAnswers

@@ -18,6 +18,7 @@ pub mod laws;
 mod marks;
 mod names;
 mod object;
+mod object_parts;
 mod plain;
 mod plain_answer;
 mod plain_diagnostic;

@@ -120,7 +120,7 @@ fn push_line(out: &mut String, line: Writer) -> Result<(), AllocError>
 }
 
 /// Puts a member that is a text.
-fn put_text(line: &mut Writer, name: &str, text: &str) -> Result<(), AllocError>
+pub(crate) fn put_text(line: &mut Writer, name: &str, text: &str) -> Result<(), AllocError>
     ensures { PutsTokens result line.old line.new (key name.now ∷ string text.now ∷ []) }
 {
     line.key(name)?;
@@ -128,7 +128,7 @@ fn put_text(line: &mut Writer, name: &str, text: &str) -> Result<(), AllocError>
 }
 
 /// Puts a String, or null.
-fn put_string(line: &mut Writer, text: &UaString) -> Result<(), AllocError>
+pub(crate) fn put_string(line: &mut Writer, text: &UaString) -> Result<(), AllocError>
     ensures { PutsTokens result line.old line.new (json_tokens (text_or_null text.now)) }
 {
     match text.as_str() {
@@ -138,7 +138,11 @@ fn put_string(line: &mut Writer, text: &UaString) -> Result<(), AllocError>
 }
 
 /// Puts a ByteString in base64, or null.
-fn put_base64(alloc: Global, line: &mut Writer, octets: &UaBytes) -> Result<(), AllocError>
+pub(crate) fn put_base64(
+    alloc: Global,
+    line: &mut Writer,
+    octets: &UaBytes,
+) -> Result<(), AllocError>
     ensures { PutsTokens result line.old line.new
         (json_tokens (text_or_null (option_map (encode_of standard) octets.now))) }
 {
@@ -166,7 +170,7 @@ pub(crate) fn put_status(
 }
 
 /// Puts the name of a StatusCode, if names are wanted and it has one.
-fn put_name(line: &mut Writer, status: StatusCode, names: bool) -> Result<(), AllocError>
+pub(crate) fn put_name(line: &mut Writer, status: StatusCode, names: bool) -> Result<(), AllocError>
     ensures { PutsTokens result line.old line.new (fields_tokens (name_fields names (name_of_code status.code))) }
 {
     match code_name(status) {
@@ -459,7 +463,11 @@ fn put_address(line: &mut Writer, endpoint: &EndpointDescription) -> Result<(), 
 }
 
 /// Puts a member that is a String, or null.
-fn put_string_as(line: &mut Writer, name: &str, text: &UaString) -> Result<(), AllocError>
+pub(crate) fn put_string_as(
+    line: &mut Writer,
+    name: &str,
+    text: &UaString,
+) -> Result<(), AllocError>
     ensures { PutsTokens result line.old line.new (key name.now ∷ json_tokens (text_or_null text.now)) }
 {
     line.key(name)?;
@@ -467,7 +475,7 @@ fn put_string_as(line: &mut Writer, name: &str, text: &UaString) -> Result<(), A
 }
 
 /// Puts a member that is a signed number.
-fn put_signed_as(line: &mut Writer, name: &str, number: i32) -> Result<(), AllocError>
+pub(crate) fn put_signed_as(line: &mut Writer, name: &str, number: i32) -> Result<(), AllocError>
     ensures { PutsTokens result line.old line.new (key name.now ∷ json_tokens (signed_json number)) }
 {
     line.key(name)?;

@@ -1,19 +1,25 @@
 //! Read results as JSON objects, with values and timestamps in the human-readable form.
 
-ghost use Rattle.std.specs.Prelude.{false, from_bits, map, string_bytes};
+ghost use Rattle.std.specs.Prelude.{codes, false, from_bits, map, string_bytes};
 ghost use Rattle.std.specs.Float.{binary32, binary64};
 ghost use Rattle.ua_variant.specs.Data.{leaf, many, one};
 ghost use Rattle.ua_variant.specs.Packed.{packed_leaves};
-ghost use Rattle.ua_variant.specs.View.{elements_of, many_of, row, scalar_of, variant_of};
+ghost use Rattle.ua_variant.specs.View.{data_fields_of, elements_of, many_of, row, scalar_of, variant_of};
 ghost use Rattle.ua_texts.specs.Plain.{IsPlainScalar};
-ghost use Rattle.ua_texts.specs.PlainJson.{AreBothFields, AreJson, AreTimeFields, AreValueFields, AreVariantFields};
-ghost use Rattle.ua_texts.specs.PlainJson.{AreWrittenFields, IsArrayJson, IsFloatJson, IsPlainJson, IsScalarJson};
-ghost use Rattle.ua_texts.specs.PlainJson.{IsTextJson, IsTimeJson, PutsEach, PutsFields, PutsJson};
+ghost use Rattle.ua_texts.specs.PlainJson.{AreBothFields, AreDataMembers, AreJson, AreTimeFields, AreTimeMembers};
+ghost use Rattle.ua_texts.specs.PlainJson.{AreValueFields, AreVariantFields, AreWrittenFields, IsArrayJson};
+ghost use Rattle.ua_texts.specs.PlainJson.{IsDataValueJson, IsFloatJson, IsLeafOrText, IsMomentMember, IsObject};
+ghost use Rattle.ua_texts.specs.PlainJson.{IsPlainJson, IsScalarJson, IsTextJson, IsTimeJson, PutsEach, PutsFields};
+ghost use Rattle.ua_texts.specs.PlainJson.{PutsJson};
 ghost use Rattle.ua_texts.specs.PlainLeaf.{Adds, IsPlainDouble, IsPlainFloat, IsPlainMoment};
 
 use crate::object::{
     begin_line, end_line, put_array, put_array_type, put_dimensions, put_null, put_scalar,
     put_status, put_type, put_unwritable,
+};
+use crate::object_parts::{
+    put_code, put_code_member, put_count_member, put_diagnostic, put_empty, put_expanded,
+    put_localized, put_node, put_qualified,
 };
 use crate::plain::push_plain_scalar;
 use crate::plain_leaf::{push_double, push_float, push_moment};
@@ -23,7 +29,10 @@ use std::alloc::{AllocError, Global};
 use std::num;
 use ua_builtin::{DateTime, DoubleBits, FloatBits, NodeId, StatusCode};
 use ua_diagnostic::Dimensions;
-use ua_variant::{DataValue, Elements, HeldVariant, Packed, Scalar, Scalars, Variant};
+use ua_variant::{
+    BoxedDataValue, BoxedVariant, DataValue, Elements, HeldVariant, Packed, Scalar, Scalars,
+    Variant,
+};
 
 /// Appends the result of a Read item.
 pub fn push_plain_json(
@@ -75,6 +84,7 @@ fn put_plain_written(
 }
 
 /// Puts the type and the value.
+#[cycle(plain_objects)]
 fn put_plain_variant(
     alloc: Global,
     line: &mut Writer,
@@ -93,6 +103,7 @@ fn put_plain_variant(
 }
 
 /// Puts the type and the value of a scalar.
+#[cycle(plain_objects)]
 fn put_plain_one(
     alloc: Global,
     line: &mut Writer,
@@ -107,6 +118,7 @@ fn put_plain_one(
 }
 
 /// Puts the type, the elements and the dimensions of an array.
+#[cycle(plain_objects)]
 fn put_plain_array(
     alloc: Global,
     line: &mut Writer,
@@ -124,6 +136,7 @@ fn put_plain_array(
 }
 
 /// Puts the type, the elements and the dimensions of an array that is not null.
+#[cycle(plain_objects)]
 fn put_plain_items(
     alloc: Global,
     line: &mut Writer,
@@ -141,6 +154,7 @@ fn put_plain_items(
 }
 
 /// Puts the elements of an array.
+#[cycle(plain_objects)]
 fn put_plain_list(
     alloc: Global,
     line: &mut Writer,
@@ -155,6 +169,7 @@ fn put_plain_list(
 }
 
 /// Puts the elements of an array, each a value.
+#[cycle(plain_objects)]
 fn put_plain_elements(
     alloc: Global,
     line: &mut Writer,
@@ -181,11 +196,12 @@ fn put_plain_packed(
         let Some(scalar) = packed.get(index) else {
             unreachable!()
         };
-        put_plain_scalar(alloc, line, &scalar, names)?;
+        put_plain_leaf(alloc, line, &scalar, names)?;
     }
     Ok(())
 }
 
+#[cycle(plain_objects)]
 fn put_plain_scalars(
     alloc: Global,
     line: &mut Writer,
@@ -201,6 +217,7 @@ fn put_plain_scalars(
 }
 
 /// Puts a value of a built-in type.
+#[cycle(plain_objects)]
 fn put_plain_scalar(
     alloc: Global,
     line: &mut Writer,
@@ -208,6 +225,24 @@ fn put_plain_scalar(
     names: bool,
 ) -> Result<(), AllocError>
     ensures { PutsJson result line.old line.new (IsScalarJson names (scalar_of scalar.now)) }
+{
+    match scalar {
+        Scalar::DataValue(value) => put_plain_data_value(alloc, line, value, names),
+        Scalar::Variant(value) => put_plain_within(alloc, line, value, names),
+        Scalar::DiagnosticInfo(value) => put_diagnostic(alloc, line, value, names),
+        _ => put_plain_leaf(alloc, line, scalar, names),
+    }
+}
+
+/// Puts a value that contains no other value; any other as its text.
+#[inline(never)]
+fn put_plain_leaf(
+    alloc: Global,
+    line: &mut Writer,
+    scalar: &Scalar,
+    names: bool,
+) -> Result<(), AllocError>
+    ensures { PutsJson result line.old line.new (IsLeafOrText names (scalar_of scalar.now)) }
 {
     match scalar {
         Scalar::Boolean(_)
@@ -223,7 +258,115 @@ fn put_plain_scalar(
         | Scalar::ByteString(_) => put_scalar(alloc, line, scalar),
         Scalar::Float(value) => put_float(alloc, line, *value),
         Scalar::Double(value) => put_double(alloc, line, *value),
+        Scalar::NodeId(value) => put_node(alloc, line, value),
+        Scalar::ExpandedNodeId(value) => put_expanded(alloc, line, value.get()),
+        Scalar::StatusCode(value) => put_code(alloc, line, *value, names),
+        Scalar::QualifiedName(value) => put_qualified(line, value),
+        Scalar::LocalizedText(value) => put_localized(line, value.get()),
         _ => put_plain_text(alloc, line, scalar, names),
+    }
+}
+
+/// Puts a Variant among other Variants as an object.
+#[cycle(plain_objects)]
+fn put_plain_within(
+    alloc: Global,
+    line: &mut Writer,
+    value: &BoxedVariant,
+    names: bool,
+) -> Result<(), AllocError>
+    ensures { PutsJson result line.old line.new (IsObject (AreVariantFields names value.now)) }
+{
+    line.begin_object()?;
+    match value.get() {
+        Some(value) => {
+            put_plain_variant(alloc, line, value, names)?;
+            line.end_object()
+        }
+        None => {
+            put_null(line)?;
+            line.end_object()
+        }
+    }
+}
+
+/// Puts a DataValue among Variants as an object.
+#[cycle(plain_objects)]
+fn put_plain_data_value(
+    alloc: Global,
+    line: &mut Writer,
+    value: &BoxedDataValue,
+    names: bool,
+) -> Result<(), AllocError>
+    ensures { PutsJson result line.old line.new (IsDataValueJson names value.now) }
+{
+    let Some(value) = value.get() else {
+        return put_empty(line);
+    };
+    line.begin_object()?;
+    match &value.value {
+        Some(held) => {
+            put_plain_variant(alloc, line, held.get(), names)?;
+            put_data_members(alloc, line, value, names)?;
+            line.end_object()
+        }
+        None => {
+            put_data_members(alloc, line, value, names)?;
+            line.end_object()
+        }
+    }
+}
+
+/// Puts the fields of a DataValue that are present, except its value.
+#[inline(never)]
+fn put_data_members(
+    alloc: Global,
+    line: &mut Writer,
+    value: &DataValue,
+    names: bool,
+) -> Result<(), AllocError>
+    ensures { PutsFields result line.old line.new (AreDataMembers names (data_fields_of value.now)) }
+{
+    put_code_member(alloc, line, "status", value.status, names)?;
+    put_source(alloc, line, value)?;
+    put_server(alloc, line, value)
+}
+
+/// Puts the SourceTimestamp and its picoseconds, each if it is present.
+fn put_source(alloc: Global, line: &mut Writer, value: &DataValue) -> Result<(), AllocError>
+    ensures { PutsFields result line.old line.new
+        (AreTimeMembers (codes "source") (codes "source_picoseconds")
+        value.now.source_timestamp value.now.source_picoseconds) }
+{
+    put_moment_member(alloc, line, "source", value.source_timestamp)?;
+    put_count_member(line, "source_picoseconds", value.source_picoseconds)
+}
+
+/// Puts the ServerTimestamp and its picoseconds, each if it is present.
+fn put_server(alloc: Global, line: &mut Writer, value: &DataValue) -> Result<(), AllocError>
+    ensures { PutsFields result line.old line.new
+        (AreTimeMembers (codes "server") (codes "server_picoseconds")
+        value.now.server_timestamp value.now.server_picoseconds) }
+{
+    put_moment_member(alloc, line, "server", value.server_timestamp)?;
+    put_count_member(line, "server_picoseconds", value.server_picoseconds)
+}
+
+/// Puts a member that is a time, if there is one.
+fn put_moment_member(
+    alloc: Global,
+    line: &mut Writer,
+    name: &str,
+    moment: Option<DateTime>,
+) -> Result<(), AllocError>
+    ensures { PutsFields result line.old line.new (IsMomentMember name.now moment) }
+{
+    match moment {
+        Some(moment) => {
+            line.key(name)?;
+            put_moment(alloc, line, moment)
+        }
+        None => Ok(()),
     }
 }
 
