@@ -9,6 +9,7 @@ from fuzz_parts import values as v
 from fuzz_parts.texts import DECIMAL, Bits, Parts, Style, bits_of, diagnostic, escaped, fits, guid, is_encodable, is_null, joined, number
 from fuzz_parts.texts import octets as base64_text
 from fuzz_parts.texts import scalar, shown, time, whole
+from fuzz_parts.decoding import Reader, Unreadable
 from fuzz_parts.encoding import PLAIN
 from fuzz_parts.values import DataValue, DiagnosticInfo, ExpandedNodeId, ExtensionObject, LocalizedText, NodeId, QualifiedName, Variant
 
@@ -266,6 +267,37 @@ def extension(of: ExtensionObject) -> Parts:
     return [(octets, 'null')] if of.kind == 0 and is_null(of.type) else [octets]
 
 
+def token(of: ExtensionObject) -> tuple[str, list[tuple[str, str]]] | None:
+    """The type and the fields of an identity token.
+
+    >>> token(ExtensionObject(NodeId(0, 'i', 321), 1, b'\\1\\0\\0\\0a')), token(ExtensionObject(NodeId(0, 'i', 321), 1, b''))
+    (('AnonymousIdentityToken', [('policy_id', 'a')]), None)
+    """
+    number = of.type.identifier
+    if of.type.namespace or not isinstance(number, int) or number not in v.TOKENS or of.kind != 1 or of.body is None:
+        return None
+    name, fields = v.TOKENS[number]
+    reader = Reader(of.body)
+    try:
+        read = [(field, base64_text(reader.counted()) if field in v.TOKEN_OCTETS else text_or_word(reader.text())) for field in fields]
+    except Unreadable:
+        return None
+    return (name, read) if reader.place == len(of.body) else None
+
+
+def text_or_word(of: str | None) -> str:
+    return 'null' if of is None else told(of)
+
+
+def additional_lines(of: ExtensionObject, style: Style) -> list[Parts]:
+    """The additional header of a header."""
+    path = 'response_header.additional_header'
+    found = token(of) if style.plain else None
+    if found is None:
+        return [joined(['    %s ' % path, *extension(of)])]
+    return [['    %s %s' % (path, found[0])]] + [['      %s.%s %s' % (path, field, text)] for field, text in found[1]]
+
+
 def moment(ticks: int | None, style: Style) -> str:
     return 'null' if ticks is None else time(ticks) if style.plain else str(ticks)
 
@@ -278,8 +310,8 @@ def header_lines(of: Header, style: Style) -> list[Parts]:
         ('string_table', ['null' if of.strings is None else str(len(of.strings))])]
     out = [joined(['    response_header.%s ' % name, *text]) for name, text in texts]
     for place, text in enumerate(of.strings or ()):
-        out.append(['      response_header.string_table[%d] %s' % (place, 'null' if text is None else told(text))])
-    return out + [joined(['    response_header.additional_header ', *extension(of.additional)])]
+        out.append(['      response_header.string_table[%d] %s' % (place, text_or_word(text))])
+    return out + additional_lines(of.additional, style)
 
 
 def value_lines(place: int, of: DataValue, style: Style) -> list[Parts]:

@@ -26,6 +26,13 @@ DAY = 864_000_000_000
 YEAR_0, LAST_DAY = -584_754 * DAY, 3_067_670 * DAY
 MIDNIGHTS = [YEAR_0, LAST_DAY, -307 * DAY, 109_266 * DAY, 134_774 * DAY, 145_790 * DAY]
 
+# The identity tokens of OPC 10000-4, 7.41, by the numbers of their encodings: their types and fields, and which of these are ByteStrings.
+TOKENS = {321: ('AnonymousIdentityToken', ('policy_id',)),
+          324: ('UserNameIdentityToken', ('policy_id', 'user_name', 'password', 'encryption_algorithm')),
+          327: ('X509IdentityToken', ('policy_id', 'certificate_data')),
+          940: ('IssuedIdentityToken', ('policy_id', 'token_data', 'encryption_algorithm'))}
+TOKEN_OCTETS = ('password', 'certificate_data', 'token_data')
+
 # Those with most corners.
 OFTEN = [FLOAT, DOUBLE, DATE_TIME, INT64, UINT64, STRING, LOCALIZED_TEXT, DIAGNOSTIC_INFO]
 
@@ -207,7 +214,17 @@ class Maker:
             return NodeId(namespace, form, self.pick([0, 1, 255, 256, 65535, 65536, (1 << 32) - 1, self.integer(UINT32)]))
         return NodeId(namespace, form, self.text() if form == 's' else self.guid() if form == 'g' else self.octets())
 
+    def token(self) -> ExtensionObject:
+        """An identity token, now and then with an octet more."""
+        number = self.pick(sorted(TOKENS))
+        parts = [self.octets() if field in TOKEN_OCTETS else text.encode() if (text := self.text()) is not None else None
+                 for field in TOKENS[number][1]]
+        body = b''.join(struct.pack('<i', -1) if it is None else struct.pack('<i', len(it)) + it for it in parts)
+        return ExtensionObject(NodeId(0, 'i', number), 1, body + b'\0' * (self.below(8) // 7))
+
     def extension(self) -> ExtensionObject:
+        if self.chance() < 0.1:
+            return self.token()
         kind = self.below(3)
         return ExtensionObject(self.node_id(), kind, self.octets() if kind else None)
 

@@ -1,22 +1,33 @@
 -- A text followed by lines: the old text stays in front, and if texts are exact the lines are those
 -- of the tree.
-use Rattle.std.proofs.Common.{◌≡◌, ℕ, ◌+◌, Bool, List, [], ◌++◌, Result, Ok, Err, OnOk, is_ok}
+use Rattle.std.proofs.Common.{◌≡◌, ℕ, ◌+◌, Bool, true, false, List, [], ◌++◌, Result, Ok, Err, OnOk, is_ok}
 use Rattle.std.proofs.Common.{if◌then◌else◌, codes, refl, sym, ap, subst, ◌∙◌, append-nil, append_assoc}
 use Rattle.std.specs.Fmt.{decimal}
-use Rattle.ua_texts.specs.PlainLeaf.{Adds}
+use Rattle.ua_texts.specs.PlainLeaf.{Adds, Either}
 use Rattle.ua_pair.specs.declared.options.FieldStyle.{FieldStyle}
 use Rattle.ua_pair.specs.Styles.{exact_field_style}
 use Rattle.ua_pair.specs.Messages.{AreMessageLines, message_lines}
-use Rattle.ua_pair.specs.Tree.{exact_leaf_text, Leaf, IsText, Tree, Array, Elements, Fields, text, array, structure, null, elements}
+use Rattle.ua_pair.specs.Tree.{exact_leaf_text, Leaf, IsText, Tree, Array, Elements, Fields, text, opened, array, structure, null, elements}
 use Rattle.ua_pair.specs.Tree.{no_elements, element, no_fields, field, count, deeper, line, lines, array_lines, element_lines, field_lines}
 use Rattle.ua_pair.specs.Tree.{field_margin, field_path, element_path, IsBehind, IsArrayBehind, AreElementsBehind, AreFieldsBehind}
 
 -- ---- what stands in front
 
+-- what a text holds, or nothing below it
+opened_shifted : (plain : Bool) (front old mid new : List ℕ) (Is : List ℕ → List ℕ → Type 0) → mid ≡ front ++ old
+    → (Is (front ++ old) new → (more : List ℕ) × (new ≡ front ++ more) × Is old more) → Either plain (Is mid new) (new ≡ mid)
+    → (more : List ℕ) × (new ≡ front ++ more) × Either plain (Is old more) (more ≡ old)
+opened_shifted true front old mid new Is e f h = f (subst (λ (x : List ℕ). Is x new) e h)
+opened_shifted false front old mid new Is e f h = (old, h ∙ e, refl)
+
 mutual
   shifted : (style : FieldStyle) (margin path front old : List ℕ) (tree : Tree) (new : List ℕ) → IsBehind style margin path (front ++ old) tree new
       → (more : List ℕ) × (new ≡ front ++ more) × IsBehind style margin path old tree more
   shifted style margin path front old (text leaf) new h = (old ++ line margin path h.0, h.1 ∙ append_assoc front old (line margin path h.0), (h.0, refl, h.2))
+  shifted style margin path front old (opened leaf inner) new h =
+      let rest = opened_shifted style.plain front (old ++ line margin path h.0) h.1 new (λ x y. IsBehind style (deeper margin) path x inner y)
+      (h.2 ∙ append_assoc front old (line margin path h.0)) (shifted style (deeper margin) path front (old ++ line margin path h.0) inner new) h.4 in
+      (rest.0, rest.1, (h.0, old ++ line margin path h.0, refl, h.3, rest.2))
   shifted style margin path front old (array items) new h = array_shifted style margin path front old items new h
   shifted style margin path front old (structure inner) new h = fields_shifted style margin path front old inner new h
 
@@ -80,6 +91,7 @@ mutual
   exact_behind : (names : Bool) (margin path old : List ℕ) (tree : Tree) (new : List ℕ) → IsBehind (exact_field_style names) margin path old tree new
       → new ≡ old ++ lines names margin path tree
   exact_behind names margin path old (text leaf) new h = h.1 ∙ ap (λ (t : List ℕ). old ++ line margin path t) h.2
+  exact_behind names margin path old (opened leaf inner) new h = h.4 ∙ h.2 ∙ ap (λ (t : List ℕ). old ++ line margin path t) h.3
   exact_behind names margin path old (array items) new h = exact_array names margin path old items new h
   exact_behind names margin path old (structure inner) new h = exact_fields names margin path old inner new h
 
@@ -111,6 +123,13 @@ mutual
   behind_exact : (names : Bool) (margin path old : List ℕ) (tree : Tree) (new : List ℕ) → new ≡ old ++ lines names margin path tree
       → IsBehind (exact_field_style names) margin path old tree new
   behind_exact names margin path old (text leaf) new h = (exact_leaf_text names leaf, h, refl)
+  behind_exact names margin path old (opened leaf inner) new h = (
+    exact_leaf_text names leaf,
+    old ++ line margin path (exact_leaf_text names leaf),
+    refl,
+    refl,
+    h,
+  )
   behind_exact names margin path old (array items) new h = array_exact names margin path old items new h
   behind_exact names margin path old (structure inner) new h = fields_exact names margin path old inner new h
 

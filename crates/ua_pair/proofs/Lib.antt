@@ -1,6 +1,7 @@
 mod Elements
 mod EncodingTable
 pub mod Behind
+mod Identities
 mod Bodies
 mod OneLine
 mod Befores

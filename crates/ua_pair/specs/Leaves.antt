@@ -1,8 +1,11 @@
 -- Values without fields of their own, as trees of one line.
-use Rattle.std.specs.Prelude.{ℕ, Bool, true, false, ◌&&◌, cond, nat_eq, List, Option, Some, None, is_none, codes}
+use Rattle.std.specs.Prelude.{ℕ, Bool, true, false, ◌&&◌, cond, nat_eq, List, [], ◌∷◌, Option, Some, None, is_none, option_map, codes}
 use Rattle.std.specs.Fmt.{decimal, signed_decimal}
 use lib.IntN.{ℤ}
+use Rattle.ua_wire.specs.Counted.{counted, text as string_format}
+use Rattle.ua_wire.specs.Exact.{◌>>=◌}
 use Rattle.ua_wire.specs.Format.{flat}
+use Rattle.ua_wire.specs.Join.{pair}
 use Rattle.ua_wire.specs.declared.double_bits.DoubleBits.{DoubleBits}
 use Rattle.ua_builtin.specs.ExtensionObject.{extension_object as object_format}
 use Rattle.ua_builtin.specs.Format.{Format}
@@ -23,12 +26,18 @@ use Rattle.ua_diagnostic.specs.Diagnostic.{DiagnosticFields, DiagnosticData, inn
 use Rattle.ua_diagnostic.specs.Formats.{diagnostic_format}
 use Rattle.ua_diagnostic.specs.View.{diagnostic_of}
 use Rattle.ua_diagnostic.specs.declared.diagnostic_info.DiagnosticInfo.{DiagnosticInfo}
+use Rattle.ua_opening.specs.Message.{body_of, standard_number}
+use Rattle.ua_structures.specs.Session.{anonymous_identity_token}
+use Rattle.ua_structures.specs.declared.session.AnonymousIdentityToken.{AnonymousIdentityToken}
 use Rattle.ua_texts.specs.Names.{named_code}
 use Rattle.ua_texts.specs.Shown.{escaped, escaped_string, base64_text, written_text}
 use Rattle.ua_texts.specs.Values.{boolean_text}
 use Rattle.ua_texts.specs.PlainDiagnostic.{plain_diagnostic}
 use Rattle.ua_texts.specs.PlainLeaf.{plain_localized, plain_name}
-use Rattle.ua_pair.specs.Tree.{Leaf, Tree, double_of, fixed, moment_of, same_leaf, text}
+use Rattle.ua_pair.specs.Tree.{Fields, Leaf, Tree, double_of, fixed, moment_of, named, no_fields, opened, same_leaf, structure, text}
+use Rattle.ua_pair.specs.declared.fields.identity.IssuedIdentityToken.{IssuedIdentityToken}
+use Rattle.ua_pair.specs.declared.fields.identity.UserNameIdentityToken.{UserNameIdentityToken}
+use Rattle.ua_pair.specs.declared.fields.identity.X509IdentityToken.{X509IdentityToken}
 
 -- what the line of a value says, or `null` if there is none
 abbrev pub leaf_or_null : {A : Type 0} → (A → Leaf) → Option A → Leaf
@@ -173,12 +182,12 @@ localized_leaf t = encoded (flat localized_format) is_null_localized (λ names. 
 abbrev pub localized_text_tree : LocalizedText → Tree
 localized_text_tree t = text (localized_leaf t)
 
--- an ExtensionObject: by its bytes in each style
-abbrev pub object_leaf : ExtensionObject → Leaf
-object_leaf x = same_leaf (encoded_text (flat object_format) is_null_object x)
+-- an ExtensionObject by its bytes
+abbrev pub object_text : ExtensionObject → List ℕ
+object_text x = encoded_text (flat object_format) is_null_object x
 
-abbrev pub extension_object_tree : ExtensionObject → Tree
-extension_object_tree x = text (object_leaf x)
+abbrev pub object_leaf : ExtensionObject → Leaf
+object_leaf x = same_leaf (object_text x)
 
 -- a DiagnosticInfo: by its fields, as `{ symbolic_id 1 }`
 abbrev pub diagnostic_leaf : DiagnosticInfo → Leaf
@@ -186,3 +195,109 @@ diagnostic_leaf d = encoded diagnostic_format (λ v. is_empty (diagnostic_of v))
 
 abbrev pub diagnostic_info : DiagnosticInfo → Tree
 diagnostic_info d = text (diagnostic_leaf d)
+
+-- ---- identity tokens
+
+-- AnonymousIdentityToken (OPC 10000-4, 7.41.3)
+unfoldable pub anonymous_token_entries : AnonymousIdentityToken → Fields
+anonymous_token_entries m = named ((codes "policy_id", string_tree m.policy_id) ∷ [])
+
+-- UserNameIdentityToken (OPC 10000-4, 7.41.4)
+unfoldable pub user_name_token_entries : UserNameIdentityToken → Fields
+user_name_token_entries m = named (
+    (codes "policy_id", string_tree m.policy_id)
+    ∷ (codes "user_name", string_tree m.user_name)
+    ∷ (codes "password", byte_string_tree m.password)
+    ∷ (codes "encryption_algorithm", string_tree m.encryption_algorithm)
+    ∷ [])
+
+-- X509IdentityToken (OPC 10000-4, 7.41.5)
+unfoldable pub certificate_token_entries : X509IdentityToken → Fields
+certificate_token_entries m = named (
+    (codes "policy_id", string_tree m.policy_id)
+    ∷ (codes "certificate_data", byte_string_tree m.certificate_data)
+    ∷ [])
+
+-- IssuedIdentityToken (OPC 10000-4, 7.41.6)
+unfoldable pub issued_token_entries : IssuedIdentityToken → Fields
+issued_token_entries m = named (
+    (codes "policy_id", string_tree m.policy_id)
+    ∷ (codes "token_data", byte_string_tree m.token_data)
+    ∷ (codes "encryption_algorithm", string_tree m.encryption_algorithm)
+    ∷ [])
+
+-- the parts of tokens in order, as they are encoded
+abbrev pub UserNameParts : Type 0
+UserNameParts = Option (List ℕ) × (Option (List ℕ) × (Option (List ℕ) × Option (List ℕ)))
+
+abbrev pub CertificateParts : Type 0
+CertificateParts = Option (List ℕ) × Option (List ℕ)
+
+abbrev pub IssuedParts : Type 0
+IssuedParts = Option (List ℕ) × (Option (List ℕ) × Option (List ℕ))
+
+-- the tokens that are made of them
+abbrev pub user_name_token : UserNameParts → UserNameIdentityToken
+user_name_token v = record { policy_id = v.0; user_name = v.1.0; password = v.1.1.0; encryption_algorithm = v.1.1.1 }
+
+abbrev pub certificate_token : CertificateParts → X509IdentityToken
+certificate_token v = record { policy_id = v.0; certificate_data = v.1 }
+
+abbrev pub issued_token : IssuedParts → IssuedIdentityToken
+issued_token v = record { policy_id = v.0; token_data = v.1.0; encryption_algorithm = v.1.1 }
+
+-- the tokens that bytes encode, with nothing after them
+abbrev pub anonymous_token_of : List ℕ → Option AnonymousIdentityToken
+anonymous_token_of octets = body_of anonymous_identity_token octets
+
+abbrev pub user_name_token_of : List ℕ → Option UserNameIdentityToken
+user_name_token_of octets = option_map user_name_token
+    (body_of (pair (flat string_format) (pair (flat string_format) (pair (flat counted) (flat string_format)))) octets)
+
+abbrev pub certificate_token_of : List ℕ → Option X509IdentityToken
+certificate_token_of octets = option_map certificate_token (body_of (pair (flat string_format) (flat counted)) octets)
+
+abbrev pub issued_token_of : List ℕ → Option IssuedIdentityToken
+issued_token_of octets = option_map issued_token (body_of (pair (flat string_format) (pair (flat counted) (flat string_format))) octets)
+
+-- a token by the name of its type, and its fields
+abbrev pub token_as : {A : Type 0} → List ℕ → (A → Tree) → Option A → Option (List ℕ × Tree)
+token_as name tree found = option_map (λ token. (name, tree token)) found
+
+-- the identity token that bytes of an encoding with this number encode, if they encode one (OPC
+-- 10000-6, A.3)
+abbrev pub token_numbered : ℕ → List ℕ → Option (List ℕ × Tree)
+token_numbered n octets =
+    cond (nat_eq n 321) (token_as (codes "AnonymousIdentityToken") (λ m. structure (anonymous_token_entries m)) (anonymous_token_of octets)) (
+    cond (nat_eq n 324) (token_as (codes "UserNameIdentityToken") (λ m. structure (user_name_token_entries m)) (user_name_token_of octets)) (
+    cond (nat_eq n 327) (token_as (codes "X509IdentityToken") (λ m. structure (certificate_token_entries m)) (certificate_token_of octets)) (
+    cond (nat_eq n 940) (token_as (codes "IssuedIdentityToken") (λ m. structure (issued_token_entries m)) (issued_token_of octets))
+    None)))
+
+-- the bytes of a body of bytes, none for null
+abbrev pub octets_of_body : ExtensionBody → Option (List ℕ)
+octets_of_body Absent = None
+octets_of_body (ByteString b) = b
+octets_of_body (Xml x) = None
+
+-- the identity token that an ExtensionObject holds, if it holds one
+abbrev pub token_of : ExtensionObject → Option (List ℕ × Tree)
+token_of x = standard_number x.type_id >>= λ n. octets_of_body x.body >>= λ octets. token_numbered n octets
+
+-- what the line of an ExtensionObject says: its bytes; as people write it, of an identity token the
+-- name of its type
+abbrev pub object_line : ExtensionObject → Option (List ℕ × Tree) → Leaf
+object_line x None = object_leaf x
+object_line x (Some token) = fixed (λ names. object_text x) (λ names. token.0)
+
+-- what stands below that line as people write it: the fields of an identity token
+abbrev pub below_object : Option (List ℕ × Tree) → Tree
+below_object None = structure no_fields
+below_object (Some token) = token.1
+
+-- an ExtensionObject that holds this identity token, or none
+abbrev pub object_or_token : ExtensionObject → Option (List ℕ × Tree) → Tree
+object_or_token x token = opened (object_line x token) (below_object token)
+
+abbrev pub extension_object_tree : ExtensionObject → Tree
+extension_object_tree x = object_or_token x (token_of x)

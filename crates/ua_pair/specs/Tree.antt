@@ -40,11 +40,12 @@ IsText style leaf text = Either style.plain (IsPlainText style.names leaf text) 
 
 -- ---- trees
 
--- a field is a text, an array, or a structure; an array is null or has trees as its elements, and
--- a structure has named trees as its fields
+-- a field is a text, a text with what it holds as people write it, an array, or a structure; an
+-- array is null or has trees as its elements, and a structure has named trees as its fields
 mutual
   pub data Tree : Type 0 where
     text : Leaf → Tree
+    opened : Leaf → Tree → Tree
     array : Array → Tree
     structure : Fields → Tree
 
@@ -116,15 +117,17 @@ element_path path index = path ++ (codes "[" ++ (decimal index ++ codes "]"))
 -- and its fields are one level deeper
 abbrev pub field_margin : List ℕ → Tree → List ℕ
 field_margin margin (text shown) = margin
+field_margin margin (opened shown inner) = margin
 field_margin margin (array items) = margin
 field_margin margin (structure inner) = deeper margin
 
 -- the lines of a tree with these leading spaces and under this path, with or without the names of
--- StatusCodes: a text on its line; an array's count on its line, or `null`, and its elements one
--- level deeper; of a structure the lines of its fields, in their order
+-- StatusCodes: a text on its line, without what it holds; an array's count on its line, or `null`,
+-- and its elements one level deeper; of a structure the lines of its fields, in their order
 abbrev mutual
   pub lines : Bool → List ℕ → List ℕ → Tree → List ℕ
   lines names margin path (text leaf) = line margin path (exact_leaf_text names leaf)
+  lines names margin path (opened leaf inner) = line margin path (exact_leaf_text names leaf)
   lines names margin path (array items) = array_lines names margin path items
   lines names margin path (structure inner) = field_lines names margin path inner
 
@@ -144,10 +147,13 @@ abbrev mutual
 
 -- ---- lines after a text, in any style
 
--- the new text is the old one followed by the lines of a tree, in this style
+-- the new text is the old one followed by the lines of a tree, in this style; as people write it,
+-- what a text holds is one level deeper
 abbrev mutual
   pub IsBehind : FieldStyle → List ℕ → List ℕ → List ℕ → Tree → List ℕ → Type 0
   IsBehind style margin path old (text leaf) new = (shown : List ℕ) × (new ≡ old ++ line margin path shown) × IsText style leaf shown
+  IsBehind style margin path old (opened leaf inner) new = (shown : List ℕ) × (mid : List ℕ) × (mid ≡ old ++ line margin path shown)
+      × IsText style leaf shown × Either style.plain (IsBehind style (deeper margin) path mid inner new) (new ≡ mid)
   IsBehind style margin path old (array items) new = IsArrayBehind style margin path old items new
   IsBehind style margin path old (structure inner) new = AreFieldsBehind style margin path old inner new
 

@@ -9,6 +9,7 @@ mod body;
 mod data_value;
 mod discovery;
 mod header;
+mod identity;
 mod leaves;
 mod lines;
 mod message;

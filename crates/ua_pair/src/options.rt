@@ -26,7 +26,7 @@ pub struct FieldStyle {
     /// Whether the standard name of a StatusCode follows it.
     pub names: bool,
     /// Whether they are as people write them: decimals, times, names, the fields of a
-    /// DiagnosticInfo.
+    /// DiagnosticInfo and of an identity token.
     pub plain: bool,
 }
 

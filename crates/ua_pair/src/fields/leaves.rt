@@ -1,9 +1,11 @@
 //! Values without fields of their own, as lines.
 
-ghost use Rattle.std.specs.Prelude.{string_bytes, OnOk};
+ghost use Rattle.std.specs.Prelude.{string_bytes, None, OnOk};
 ghost use Rattle.ua_texts.specs.PlainLeaf.{Adds};
+ghost use Rattle.ua_pair.specs.Leaves.{object_leaf, object_or_token};
 ghost use Rattle.ua_pair.specs.Tree.{IsBehind, IsText, Leaf, text};
 
+use crate::fields::identity::push_object;
 use crate::fields::lines::{Lines, Place, push_line, push_start};
 use crate::fields::null::{is_empty, is_null_name, is_null_object, is_null_text};
 use crate::fields::text::{push_encoded_or_null, push_node};
@@ -449,7 +451,7 @@ impl Lines for DiagnosticInfo {
 }
 
 impl Text for ExtensionObject {
-    ghost use Rattle.ua_pair.specs.Leaves.{object_leaf};
+    ghost use Rattle.ua_pair.specs.Leaves.{object_leaf, object_or_token};
 
     ghost leaf = { object_leaf };
 
@@ -464,12 +466,26 @@ impl Text for ExtensionObject {
     }
 }
 
+/// Appends the line of an ExtensionObject by its bytes.
+#[tactic(auto, using(crate::proofs::Identities::no_token))]
+pub(crate) fn push_object_octets(
+    alloc: Global,
+    out: &mut String,
+    place: Place<'_>,
+    object: &ExtensionObject,
+) -> Result<(), AllocError>
+    ensures { OnOk result (IsBehind place.entry.style place.entry.margin.now place.entry.path.now (string_bytes out.old)
+        (object_or_token object.now None) (string_bytes out.new)) }
+{
+    push_text_line(alloc, out, place, object)
+}
+
 impl Lines for ExtensionObject {
     ghost use Rattle.ua_pair.specs.Leaves.{extension_object_tree};
 
     ghost tree = { extension_object_tree };
 
     fn push_lines(&self, alloc: Global, out: &mut String, place: Place) -> Result<(), AllocError> {
-        push_text_line(alloc, out, place, self)
+        push_object(alloc, out, place, self)
     }
 }
