@@ -57,11 +57,11 @@ def main(words: list[str]) -> int:
             save("")
             return 0
         with open(words[0], encoding="utf-8") as file:
-            write_service(file.read(), Schema())
+            lacking = write_service(file.read(), Schema())
     except (OSError, Refused) as fault:
         print(f"add_service: {fault}", file=sys.stderr)
         return 1
-    save(LEFT)
+    save(LEFT + lacking)
     return 0
 
 

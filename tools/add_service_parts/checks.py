@@ -102,7 +102,7 @@ def check_kinds(kinds: list[Kind]) -> list[str]:
 
 def left_over(path: str, kind: Kind) -> list[str]:
     """The lines of a file, and its imports, that name a kind and that no place of schema/kinds.lines has."""
-    text, found = read(path), [place for place in places() if place.path == path and place.of == "kind"]
+    text, found = read(path), [place for place in places() if place.path == path and place.of in ("kind", "known")]
     taken, words = {kind.fill(place.standing(kind)[2]) for place in found}, (kind.name, f"{kind.word}_request", f"{kind.word}_response")
     wrong = [it for use in uses(text) for it in (named(use.path, name) for name in use.names) if it not in taken and any(word in it for word in words)]
     spans = [place.standing(kind)[:2] for place in found if not place.is_use()] + [(use.start, use.end) for use in uses(text)]
@@ -123,7 +123,8 @@ def check() -> int:
     k = Schema()
     wrong = check_generated(k) + check_declared(k) + check_rows(k)
     kinds = kinds_of(k)
-    wrong += check_kinds(kinds) or check_left_over(next(it for it in kinds if it.name == PLAIN))
+    known = [it for place in places() if place.of == "known" for it in place.faults(kinds)]
+    wrong += known + check_kinds(kinds) or check_left_over(next(it for it in kinds if it.name == PLAIN))
     count = f"{len(k.structures)} structures of schema/ in {len(generated(k))} files, {len(kinds)} kinds of message in {len(places())} places, {len(REFUSED)} descriptions that are refused"
     wrong += check_refused()
     try:

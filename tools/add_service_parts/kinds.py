@@ -9,7 +9,7 @@ from add_service_parts.texts import STRUCTURES, Refused, named, read, snake, spo
 
 TABLE = f"{FOLDER}/kinds.lines"
 # The words with which the text of a place begins in the table: of what it is.
-OF = ("kind", "items", "part", "file")
+OF = ("kind", "items", "known", "part", "file")
 # The other words in front of a text of the table; but for the name of a kind, whose own text it is.
 WORDS = ("from", "or", "first", "behind", "to")
 

@@ -92,8 +92,8 @@ def write_server(new: Kind, old: Kind, structures: list[Structure]) -> None:
         add_of("file", new, old, SERVER)
 
 
-def write_service(text: str, k: Schema) -> None:
-    """All that a description gives, which is not saved yet."""
+def write_service(text: str, k: Schema) -> str:
+    """All that a description gives, which is not saved yet; and what is to be there already, and is not."""
     new, old, file = described(text, k)
     refuse_what_stands(new, file, k)
     write(f"{FOLDER}/{new.module}.txt", kept(text, new))
@@ -102,6 +102,7 @@ def write_service(text: str, k: Schema) -> None:
     write_messages(new, old, file.structures, k)
     write_server(new, old, file.structures)
     write_generated(Schema())
+    return "".join(f"\n  which is to stand already: {it}" for place in places() if place.of == "known" for it in place.faults([new]))
 
 
 def save(left: str) -> None:
