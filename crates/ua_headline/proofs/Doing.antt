@@ -226,7 +226,7 @@ module _ (connect : EndsConnect) (e : Ends) (can : CanOpen e) (x : ServerChannel
       d.last d.done d.part asks d.did d.doing (d.taken, d.got_is) (d.part, d.sent_is ∙ sym (append_assoc up_first d.done d.part))
 
   -- what the server took of it is a prefix of the turns
-  took_of_turns : TookOf e (turns_of deeds now) x took
+  pub took_of_turns : TookOf e (turns_of deeds now) x took
   took_of_turns = record {
     can = can;
     accepted = turns_are.accepted;

@@ -20,15 +20,15 @@ use Rattle.ua_server.specs.State.{State}
 use Rattle.ua_client.specs.Told.{is_told_of, told_of}
 use Rattle.ua_headline.specs.Talk.{answers_to}
 
-own_id : (o : Option CutFault) (id k : ℕ) (body : List ℕ) → k ≡ id → is_told_of k (told_reply o id body) ≡ true
+pub own_id : (o : Option CutFault) (id k : ℕ) (body : List ℕ) → k ≡ id → is_told_of k (told_reply o id body) ≡ true
 own_id None id k body e = eq-eqb id k (sym e)
 own_id (Some fault) id k body e = eq-eqb id k (sym e)
 
-other_id : (o : Option CutFault) (id k : ℕ) (body : List ℕ) → (id ≡ k → ⊥) → is_told_of k (told_reply o id body) ≡ false
+pub other_id : (o : Option CutFault) (id k : ℕ) (body : List ℕ) → (id ≡ k → ⊥) → is_told_of k (told_reply o id body) ≡ false
 other_id None id k body e = ne_eqb id k e
 other_id (Some fault) id k body e = ne_eqb id k e
 
-skip : (k : ℕ) (x : ClientTold) (xs : List ClientTold) → is_told_of k x ≡ false → told_of k (x ∷ xs) ≡ told_of k xs
+pub skip : (k : ℕ) (x : ClientTold) (xs : List ClientTold) → is_told_of k x ≡ false → told_of k (x ∷ xs) ≡ told_of k xs
 skip k x xs is = ap (λ (b : Bool). cond b (x ∷ told_of k xs) (told_of k xs)) is
 
 some_one : (k : ℕ) (x : ClientTold) (xs : List ClientTold) → is_told_of k x ≡ true → 0 < length (told_of k (x ∷ xs))

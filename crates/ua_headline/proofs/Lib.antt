@@ -9,8 +9,13 @@ mod Lasts
 mod Talking
 mod Heards
 mod HeardIds
+mod EachCall
+mod Answering
 mod Steps
 mod Settling
 mod Doing
 mod Examples
 mod Honest
+mod Calling
+mod Replied
+mod SessionCalls

@@ -55,7 +55,8 @@ length_asks : (place id : ℕ) (os : List Outgoing) → length (asks_at place id
 length_asks place id [] = refl
 length_asks place id (o ∷ os) = omega (arith, length_asks place (id + 1) os)
 
-next_asks : (asks : List Placed) (place id : ℕ) (os : List Outgoing) → next_id (asked_in (asks ++ asks_at place id os)) ≡ next_id (asked_in asks) + length os
+pub next_asks : (asks : List Placed) (place id : ℕ) (os : List Outgoing) → next_id (asked_in (asks ++ asks_at place id os)) ≡ next_id (asked_in asks)
+    + length os
 next_asks asks place id os = omega (arith, next-append asks (asks_at place id os), length_asks place id os)
 
 length_answers : (s : State) (times : List DateTime) (issued id : ℕ) (os : List Outgoing) → length (answers_to s times issued id os) ≡ length os

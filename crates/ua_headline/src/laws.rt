@@ -1,7 +1,11 @@
 //! The headline. The contract of its function, which only looks, is the law: a caller may rely on
 //! it.
 
-ghost use Rattle.std.specs.Prelude.{◌≡◌, ◌↔◌, ◌≤◌, ℕ, List, map, Option};
+ghost use Rattle.std.specs.Prelude.{◌≡◌, ◌↔◌, ◌≤◌, ◌++◌, ◌∷◌, [], ℕ, IsTrue, List, map, Option};
+ghost use Rattle.ua_builtin.specs.declared.date_time.DateTime.{DateTime};
+ghost use Rattle.ua_services.specs.Request.{request};
+ghost use Rattle.ua_services.specs.Response.{response};
+ghost use Rattle.ua_services.specs.declared.request.Request.{Request};
 ghost use Rattle.ua_frame.specs.declared.frame.Frame.{Frame};
 ghost use Rattle.ua_channel.specs.Asks.{Placed};
 ghost use Rattle.ua_channel.specs.Client.{ClientEnded, ClientGoes, ClientStands};
@@ -11,14 +15,21 @@ ghost use Rattle.ua_channel.specs.Received.{received};
 ghost use Rattle.ua_channel.specs.ServerStands.{ChannelStands, ClosedAt, Goes, RefusedAt};
 ghost use Rattle.ua_channel.specs.ServerStands.{bound_after, held_after, limits_of};
 ghost use Rattle.ua_channel.specs.ServerTold.{Told};
+ghost use Rattle.ua_channel_laws.specs.Outgoing.Outgoing.{CallWith};
 ghost use Rattle.ua_channel_laws.specs.Outgoing.{Outgoing};
+ghost use Rattle.ua_client.specs.Told.{told_of};
+ghost use Rattle.ua_server.specs.Answer.{answer};
+ghost use Rattle.ua_server.specs.Said.{first_time};
 ghost use Rattle.ua_server.specs.Served.{channel_in};
 ghost use Rattle.ua_server.specs.State.{State};
 ghost use Rattle.ua_server.specs.Stepping.{ServerStands};
 ghost use Rattle.ua_headline.specs.Clients.{Deed, IsLinked, turn_of, turns_of};
+ghost use Rattle.ua_headline.specs.EachCall.{body_answered, client_events, id_after, operations_of};
+ghost use Rattle.ua_headline.specs.EachCall.{reply_to_call, server_bytes};
 ghost use Rattle.ua_headline.specs.Example.{example_ends, example_turns_told, example_turns};
 ghost use Rattle.ua_headline.specs.Talk.{AreRoundsAccepted, AreFirstOf, CanOpen, Ends, GotOf, IsPrefix, TookOf};
-ghost use Rattle.ua_headline.specs.Talk.{both_opened, heard_in, rounds_in, sent_in, state_behind_turns, told_by_turns};
+ghost use Rattle.ua_headline.specs.Talk.{asks_in, both_opened, heard_in, rounds_in};
+ghost use Rattle.ua_headline.specs.Talk.{sent_in, state_behind_turns, told_by_turns};
 
 use ua_channel::ClientChannel;
 use ua_channel_laws::asking_laws::client_asks_earlier;
@@ -97,6 +108,33 @@ pub fn clients_do_turns(server: &Server, client: &ClientChannel)
         k.did.last.told ≡ heard_in e (map turn_of deeds) }
 {
     ends_connect();
+}
+
+/// By bytes alone, with any limits of both ends, any URL and any SecureChannelId: of what a server
+/// sends for what a client sent, by the definition of its answers, the client is told of each call
+/// just once, by the definition of its reading: under the RequestId of that call, the response of the
+/// services to its body, in the state in which the calls before it left them; or that the call was
+/// aborted, as the response is too large for the client.
+pub fn each_call_has_its_reply()
+    ensures whole { (e : Ends) (turns : List (List Outgoing)) (before after : List Outgoing) (body : List ℕ) →
+        CanOpen e → AreRoundsAccepted e (both_opened e) (rounds_in e turns) →
+        operations_of turns ≡ before ++ CallWith body ∷ after →
+        told_of (id_after before) (client_events e (asks_in e turns) (server_bytes e (sent_in e turns)))
+        ≡ reply_to_call e before body ∷ [] }
+    // Where a part of either is still on its way it is told that, or nothing yet.
+    ensures part { (e : Ends) (turns : List (List Outgoing)) (before after : List Outgoing) (body took got : List ℕ) →
+        CanOpen e → AreRoundsAccepted e (both_opened e) (rounds_in e turns) →
+        operations_of turns ≡ before ++ CallWith body ∷ after →
+        IsPrefix took (sent_in e turns) → IsPrefix got (server_bytes e took) →
+        IsPrefix (told_of (id_after before) (client_events e (asks_in e turns) got))
+        (reply_to_call e before body ∷ []) }
+    // A request that can be encoded is answered as that request.
+    ensures requests { (services : State × List DateTime) (m : Request) → IsTrue (request.encodable m) →
+        body_answered services (request.canonical m)
+        ≡ response.canonical (answer services.0 (first_time services.1) m).1 }
+{
+    ends_connect();
+    rounds_reach_both_ends();
 }
 
 /// There are such conversations: with the least limits, two calls with a renewal between them, sent

@@ -5,6 +5,8 @@
 //! defines its terms, on top of those of the layers.
 #![tactic(auto)]
 
+pub mod answering_laws;
+pub mod calling_laws;
 pub mod laws;
 mod records;
 
