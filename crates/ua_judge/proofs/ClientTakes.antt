@@ -129,7 +129,7 @@ takes_some moment piece n event.Open limits requests y asks octets told same fit
     (Opened h.channel h.token) fit refl h.goes
 takes_some moment piece n (event.Answered id message) limits requests y asks octets told same fit h =
     replies_so (is_misfit requests (Answered id (concat message))) requests y limits asks (octets ++ take n piece) told (Answered id (concat message)) same
-    fit refl h
+    fit refl h.0
 takes_some moment piece n (event.Aborted id code) limits requests y asks octets told same fit h = of_telling requests y asks (octets ++ take n piece) told
     (GaveUp id code) fit refl h
 takes_some moment piece n (event.Failed code peer) limits requests y asks octets told same fit h = ended_so requests y limits asks (octets ++ take n piece)

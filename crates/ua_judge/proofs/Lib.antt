@@ -8,3 +8,4 @@ pub mod Sending
 pub mod Begins
 pub mod EndsRead
 pub mod Firsts
+pub mod Guesses

@@ -1,5 +1,7 @@
 mod Ends
 mod HexParts
+mod Recordings
+mod PrintedSides
 mod LineTasks
 mod Lives
 mod Loops

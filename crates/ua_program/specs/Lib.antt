@@ -1,7 +1,9 @@
 pub mod AtOnce
 pub mod Digits
 pub mod Dissects
+pub mod Recorded
 pub mod Judges
+pub mod Printing
 pub mod Lines
 pub mod Refused
 pub mod Served

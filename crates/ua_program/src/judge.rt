@@ -1,10 +1,17 @@
 //! The output of `ua judge` for a record of both sides of a connection.
 
-ghost use Rattle.std.specs.Prelude.{◌≡◌, ◌++◌, ◌⊎◌, true, string_bytes, IfErr, IfOk, OnOk};
+ghost use Rattle.std.specs.Prelude.{◌≡◌, ◌++◌, ◌⊎◌, ◌||◌, ℕ, List, true, codes, string_bytes};
+ghost use Rattle.std.specs.Prelude.{IfErr, IfOk, OnOk};
+ghost use Rattle.ua_pair.specs.Dissecting.{StandsBehind};
+ghost use Rattle.ua_pair.specs.declared.options.DissectOptions.{DissectOptions};
 ghost use Rattle.ua_session.specs.declared.verdict.Verdict.TheVariants.{SomeBad};
-ghost use Rattle.ua_program.specs.Judges.{AreVerdicts, HasJudged, IsPlaceOf, code_of_verdict};
-ghost use Rattle.ua_program.specs.Judges.{colon_code_text, is_break, verdict_line, verdict_words};
+ghost use Rattle.ua_program.specs.Judges.{AreVerdicts, HasJudged, IsPlaceOf, PrintsJudged};
+ghost use Rattle.ua_program.specs.Judges.{code_of_verdict, colon_code_text, is_break, lines_behind, outcome_on};
+ghost use Rattle.ua_program.specs.Judges.{printed_options, verdict_line, verdict_words};
+ghost use Rattle.ua_program.specs.Printing.{PrinterStands, PrintersStand, PrintsMark, PrintsSide};
+ghost use Rattle.ua_program.specs.Printing.{AddsLastLines, AddsTurns, ArePrinted, EndsSideBehind};
 ghost use Rattle.ua_program.specs.Reasons.{StopsWriting};
+ghost use Rattle.ua_program.specs.Recorded.{StopsReadingRecord};
 
 use crate::arguments::JudgeRecord;
 use crate::output::{Stop, say};
@@ -30,7 +37,11 @@ struct Printer {
 
 impl Printer {
     /// Nothing is printed yet.
-    fn new(alloc: Global, asked: &JudgeRecord<'_>, side: Side, front: &'static str) -> Printer {
+    fn new(alloc: Global, asked: &JudgeRecord<'_>, side: Side, front: &'static str) -> Printer
+        ensures at { result.at ≡ 0 }
+        ensures stands { (octets : List ℕ)
+            → PrinterStands result (printed_options asked.now side) front.now octets }
+    {
         let options = DissectOptions {
             side,
             fields: asked.fields,
@@ -51,7 +62,11 @@ impl Printer {
         octets: &[u8],
         place: usize,
         out: &mut String,
-    ) -> Result<(), AllocError> {
+    ) -> Result<(), AllocError>
+        ensures { (options : DissectOptions) (front : List ℕ) → PrinterStands self.old options front octets.now
+            → OnOk result (PrintsSide self.old self.new options front octets.now place
+            (string_bytes out.old) (string_bytes out.new)) }
+    {
         let end = place.min(octets.len());
         if self.at >= end {
             return Ok(());
@@ -59,25 +74,93 @@ impl Printer {
         let mut lines = String::new(alloc);
         self.dissector.take(&octets[self.at..end], &mut lines)?;
         self.at = end;
-        push_behind(self.front, lines.as_str(), out)
+        push_behind(self.front, lines.as_str(), out)?;
+        Ok(())
     }
 
-    /// Appends the last line.
-    fn print_last(&self, alloc: Global, out: &mut String) -> Result<(), AllocError> {
+    /// Appends the last line of bytes that are printed.
+    fn print_last(&self, alloc: Global, out: &mut String) -> Result<(), AllocError>
+        ensures { (options : DissectOptions) (octets told : List ℕ)
+            → StandsBehind self.now.dissector options octets told
+            → OnOk result (EndsSideBehind options self.now.front.now octets (string_bytes out.old)
+            (string_bytes out.new)) }
+    {
         let mut lines = String::new(alloc);
         self.dissector.finish(&mut lines)?;
-        push_behind(self.front, lines.as_str(), out)
+        push_behind(self.front, lines.as_str(), out)?;
+        Ok(())
     }
 }
 
 /// Appends lines, each behind a front.
-fn push_behind(front: &str, lines: &str, out: &mut String) -> Result<(), AllocError> {
+fn push_behind(front: &str, lines: &str, out: &mut String) -> Result<(), AllocError>
+    ensures { OnOk result (string_bytes out.new ≡ string_bytes out.old ++ lines_behind front.now lines.now) }
+{
     for line in lines.lines() {
-        out.push_str(front)?;
-        out.push_str(line)?;
-        out.push_str("\n")?;
+        push_line_behind(front, line, out)?;
     }
     Ok(())
+}
+
+/// Appends a line behind a front.
+fn push_line_behind(front: &str, line: &str, out: &mut String) -> Result<(), AllocError>
+    ensures { OnOk result (string_bytes out.new
+        ≡ string_bytes out.old ++ (front.now ++ (line.now ++ codes "\n"))) }
+{
+    out.push_str(front)?;
+    out.push_str(line)?;
+    out.push_str("\n")?;
+    Ok(())
+}
+
+/// Both sides of a record, each printed as far as its place.
+#[derive(Drop)]
+struct Printers {
+    client: Printer,
+    server: Printer,
+}
+
+impl Printers {
+    /// Nothing is printed yet.
+    fn new(alloc: Global, asked: &JudgeRecord<'_>) -> Printers
+        ensures client { result.client.at ≡ 0 }
+        ensures server { result.server.at ≡ 0 }
+        ensures stand { (up down : List ℕ) → PrintersStand result asked.now up down }
+    {
+        Printers {
+            client: Printer::new(alloc, asked, Side::Client, "> "),
+            server: Printer::new(alloc, asked, Side::Server, "< "),
+        }
+    }
+
+    /// Appends the lines of the server's bytes up to a mark, and then those of the client's.
+    fn print_to(
+        &mut self,
+        alloc: Global,
+        turns: &Turns,
+        mark: Mark,
+        out: &mut String,
+    ) -> Result<(), AllocError>
+        ensures { (asked : JudgeRecord) → PrintersStand self.old asked turns.now.up.items turns.now.down.items
+            → OnOk result (PrintsMark self.old self.new asked turns.now.up.items turns.now.down.items mark
+            (string_bytes out.old) (string_bytes out.new)) }
+    {
+        let server = &mut self.server;
+        server.print_to(alloc, turns.down.as_slice(), mark.down, out)?;
+        let client = &mut self.client;
+        client.print_to(alloc, turns.up.as_slice(), mark.up, out)?;
+        Ok(())
+    }
+
+    /// Appends the last line of the server's bytes, and that of the client's, which are all printed.
+    fn print_last(&self, alloc: Global, out: &mut String) -> Result<(), AllocError>
+        ensures { (asked : JudgeRecord) (up down : List ℕ) → ArePrinted self.now asked up down
+            → OnOk result (AddsLastLines asked up down (string_bytes out.old) (string_bytes out.new)) }
+    {
+        self.server.print_last(alloc, out)?;
+        self.client.print_last(alloc, out)?;
+        Ok(())
+    }
 }
 
 /// Appends the lines of both sides, in the order in which their bytes were sent.
@@ -86,17 +169,21 @@ fn push_turns(
     asked: &JudgeRecord<'_>,
     turns: &Turns,
     out: &mut String,
-) -> Result<(), AllocError> {
-    let mut client = Printer::new(alloc, asked, Side::Client, "> ");
-    let mut server = Printer::new(alloc, asked, Side::Server, "< ");
+) -> Result<(), AllocError>
+    ensures { OnOk result (AddsTurns asked.now turns.now.up.items turns.now.down.items turns.now.marks.items
+        (string_bytes out.old) (string_bytes out.new)) }
+{
+    let mut printers = Printers::new(alloc, asked);
     for mark in &turns.marks {
-        server.print_to(alloc, turns.down.as_slice(), mark.down, out)?;
-        client.print_to(alloc, turns.up.as_slice(), mark.up, out)?;
+        printers.print_to(alloc, turns, *mark, out)?;
     }
-    server.print_to(alloc, turns.down.as_slice(), turns.down.len(), out)?;
-    client.print_to(alloc, turns.up.as_slice(), turns.up.len(), out)?;
-    server.print_last(alloc, out)?;
-    client.print_last(alloc, out)
+    let all = Mark {
+        up: turns.up.len(),
+        down: turns.down.len(),
+    };
+    printers.print_to(alloc, turns, all, out)?;
+    printers.print_last(alloc, out)?;
+    Ok(())
 }
 
 /// Whether a side broke the protocol.
@@ -187,7 +274,8 @@ fn push_verdicts(
     marks: &[Mark],
     out: &mut String,
 ) -> Result<bool, AllocError>
-    ensures { OnOk result (AreVerdicts names up.now down.now marks.now (string_bytes out.old) (string_bytes out.new)) }
+    ensures { IfOk result (λ broken. AreVerdicts names up.now down.now marks.now broken
+        (string_bytes out.old) (string_bytes out.new)) }
 {
     let client = judge_up(alloc, up, down)?;
     let server = judge_down(alloc, up, down, marks)?;
@@ -199,13 +287,16 @@ fn push_verdicts(
 }
 
 /// Whether one of the sides broke the protocol.
-fn are_broken(client: &Judged, server: &Judged) -> bool {
+fn are_broken(client: &Judged, server: &Judged) -> bool
+    ensures { result ≡ (is_break client.now || is_break server.now) }
+{
     is_break(client) || is_break(server)
 }
 
 /// The verdict that counts for the status.
 fn status_of(broken: bool, strict: bool) -> Verdict
-    ensures { result ≡ SomeBad → strict ≡ true }
+    ensures outcome { result ≡ outcome_on broken strict }
+    ensures strict { result ≡ SomeBad → strict ≡ true }
 {
     if broken && strict {
         Verdict::SomeBad
@@ -222,8 +313,12 @@ pub fn judge_record<'a, R: Files + AllocGlobal, I: Read, O: Write>(
     out: &mut O,
 ) -> Result<Verdict, Stop<'a>>
     ensures strict { IfOk result (λ verdict. verdict ≡ SomeBad → asked.now.strict ≡ true) }
-    ensures judged { OnOk result (HasJudged (O.contents out.old) (O.contents out.new)) }
+    ensures judged { IfOk result
+        (λ outcome. PrintsJudged asked.now outcome (O.contents out.old) (O.contents out.new)) }
+    ensures some { OnOk result (HasJudged (O.contents out.old) (O.contents out.new)) }
     ensures stopped { IfErr result (λ stop. StopsWriting stop ⊎ (out.new ≡ out.old)) }
+    ensures reasons { IfErr result
+        (λ stop. StopsWriting stop ⊎ StopsReadingRecord asked.now.up asked.now.down stop) }
 {
     let turns = read_turns(rt, asked, input)?;
     let mut text = String::new(rt.alloc());

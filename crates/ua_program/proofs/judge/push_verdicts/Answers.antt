@@ -16,4 +16,5 @@ returns c = record {
   new_is =
       c.in_ok-push_line-2.ensures
       ∙ ap (λ (t : List ℕ). t ++ verdict_line (codes "server") c.args.names c.place_of-server_place.result c.in_ok-server.server) c.in_ok-push_line.ensures;
+  broken_is = c.are_broken.ensures;
 }
