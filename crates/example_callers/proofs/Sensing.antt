@@ -297,8 +297,7 @@ on_step P Q (sensor_fault.Set f) h more = tt
 on_step P Q (sensor_fault.Step f) h more = more f h
 
 -- a step that stood fails for memory alone
-pub for_memory : (limits : Limits) (channel number : ℕ) (moment : DateTime) (piece : List ℕ) (y : ServerChannel) (octets : List ℕ) (told : List Told)
-    (now later : State) (f : StepFault)
-    → StepNow limits channel number moment piece (Err f) y octets told now later → f ≡ step_fault.OutOfMemory
-for_memory limits channel number moment piece y octets told now later step_fault.OutOfMemory h = refl
-for_memory limits channel number moment piece y octets told now later step_fault.Closed h = absurd h
+pub for_memory : (x y : ServerChannel) (moment : DateTime) (piece octets : List ℕ) (told : List Told) (now later : State) (f : StepFault)
+    → StepNow x moment piece (Err f) y octets told now later → f ≡ step_fault.OutOfMemory
+for_memory x y moment piece octets told now later step_fault.OutOfMemory h = refl
+for_memory x y moment piece octets told now later step_fault.Closed h = absurd h

@@ -2,7 +2,7 @@
 //! of them over one node table.
 
 ghost use Rattle.std.specs.Prelude.{◌≡◌, ◌++◌, ◌∷◌, [], ℕ, List, None, Some, Ok, Err, IfErr, IfOk, OnErr, OnOk};
-ghost use Rattle.ua_channel.specs.ServerStands.{limits_of, channel_of, next_of, Goes};
+ghost use Rattle.ua_channel.specs.ServerStands.{limits_of, channel_of, Goes};
 ghost use Rattle.ua_channel.specs.ServerTold.{Told};
 ghost use Rattle.ua_nodes.specs.Set.{after_set, set_refusal};
 ghost use Rattle.ua_nodes.specs.Table.{node_at};
@@ -51,8 +51,8 @@ pub fn set_and_step(
     moment: DateTime,
 ) -> Result<Step, SensorFault>
     ensures steps { (octets : List ℕ) (told : List Told) → Goes (channel_at connection.old) octets told
-        → IfOk result (λ step. StepNow (limits_of (channel_at connection.old)) (channel_of (channel_at connection.old))
-        (next_of (channel_at connection.old)) moment piece.now (Ok step) (channel_at connection.new) octets told
+        → IfOk result
+        (λ step. StepNow (channel_at connection.old) moment piece.now (Ok step) (channel_at connection.new) octets told
         (with_own_session connection.old (with_nodes services.old (after_set sensor.now reading services.old.nodes)))
         (with_own_session connection.new services.new)) }
     // The same over the events of the connection, of which the reading is one.
@@ -73,8 +73,8 @@ pub fn set_and_step(
     ensures failed { (octets : List ℕ) (told : List Told) → Goes (channel_at connection.old) octets told
         → IfErr result
         (IfStepFault
-        (λ fault. StepNow (limits_of (channel_at connection.old)) (channel_of (channel_at connection.old))
-        (next_of (channel_at connection.old)) moment piece.now (Err fault) (channel_at connection.new) octets told
+        (λ fault. StepNow (channel_at connection.old) moment piece.now (Err fault) (channel_at connection.new) octets
+        told
         (with_own_session connection.old (with_nodes services.old (after_set sensor.now reading services.old.nodes)))
         (with_own_session connection.new services.new))) }
 {
@@ -175,8 +175,7 @@ pub fn take_setpoints(
     setpoints: &mut Vec<WriteValue>,
 ) -> Result<Step, SetpointFault>
     ensures steps { (octets : List ℕ) (told : List Told) → Goes (channel_at connection.old) octets told
-        → StepNow (limits_of (channel_at connection.old)) (channel_of (channel_at connection.old))
-        (next_of (channel_at connection.old)) moment piece.now (step_in result) (channel_at connection.new) octets
+        → StepNow (channel_at connection.old) moment piece.now (step_in result) (channel_at connection.new) octets
         told (with_own_session connection.old services.old) (with_own_session connection.new services.new) }
     ensures stores { (octets : List ℕ) (told : List Told) → Goes (channel_at connection.old) octets told
         → StepStores piece.now (step_in result) written.new (channel_at connection.new) octets told

@@ -1,60 +1,53 @@
 //! Bytes that a server serves.
 
-ghost use Rattle.std.specs.Prelude.{◌≡◌, ◌<◌, ◌++◌, [], ℕ, List, None, Ok, Err, IfErr, IfOk, OnErr, OnOk, length};
-ghost use Rattle.ua_channel.specs.ServerStands.{IsDone};
-ghost use Rattle.ua_loopback.specs.Beginning.{Beginning};
-ghost use Rattle.ua_loopback.specs.Kept.{EndsAtStage, HasTakenAll};
-ghost use Rattle.ua_loopback.specs.Says.{services_after, server_output};
+ghost use Rattle.std.specs.Prelude.{◌≡◌, ◌<◌, [], ℕ, List, Ok, Err, length};
+ghost use Rattle.ua_builtin.specs.declared.date_time.DateTime.{DateTime};
+ghost use Rattle.ua_channel.specs.ServerStands.{IsDone, channel_of, limits_of};
+ghost use Rattle.ua_channel.specs.ServerTold.{Told};
 ghost use Rattle.ua_server.specs.Served.{channel_in};
-ghost use Rattle.ua_server.specs.State.{begun};
-ghost use Rattle.ua_server.specs.declared.step.StepFault.TheVariants.{Closed, OutOfMemory};
-ghost use Rattle.example_callers.specs.Serve.{AnswersNewBytes, BreaksOffServing, stage_of};
+ghost use Rattle.ua_server.specs.ServingParts.{Asked};
+ghost use Rattle.ua_server.specs.State.{State, begun};
+ghost use Rattle.ua_server.specs.Stepping.{ServerStands};
+ghost use Rattle.ua_server.specs.declared.step.StepFault.TheVariants.{Closed};
+ghost use Rattle.example_callers.specs.Serve.{ServesBytes, ServesConnection};
 
 use std::alloc::Global;
 use ua_builtin::DateTime;
+use ua_channel::Moments;
 use ua_frame::Limits;
 use ua_server::{End, Server, Services, StepFault};
 
 /// Serves bytes that came after others, all of which a server took: it reads or writes its nodes as
-/// they ask, and adds all bytes to be sent back to `out`. Returns how the connection ended, if it
-/// did; what came after its end is passed over.
+/// they ask, and adds all bytes to be sent back to `out`. Each answer has a timestamp of its own.
+/// Returns how the connection ended, if it did; what came after its end is passed over.
 ///
-/// Each clause but the last applies to every server that began so, took just these bytes before,
-/// and answered all of them at this timestamp.
-pub fn serve_octets(
+/// The clause `serves` applies to every server that took just these bytes before, whatever the
+/// timestamps of its answers were.
+pub fn serve_octets<M: Moments>(
     server: &mut Server,
     services: &mut Services,
     octets: &[u8],
-    moment: DateTime,
+    moments: &mut M,
     out: &mut Vec<u8>,
 ) -> Result<Option<End>, StepFault>
-    // Bytes in: while the connection goes on, the server took all of them.
-    ensures takes { (b : Beginning) (before : List ℕ) → HasTakenAll b server.old services.old before → moment ≡ b.moment
-        → result ≡ Ok None → HasTakenAll b server.new services.new (before ++ octets.now) }
-    // Nodes changed: the services are as all bytes leave them.
-    ensures leaves { (b : Beginning) (before : List ℕ) → HasTakenAll b server.old services.old before
-        → moment ≡ b.moment
-        → OnOk result (services.new ≡ services_after b (before ++ octets.now)) }
-    // Bytes out: what is added is the server's output for them.
-    ensures answers { (b : Beginning) (before : List ℕ) → HasTakenAll b server.old services.old before
-        → moment ≡ b.moment
-        → OnOk result (AnswersNewBytes b before (before ++ octets.now) out.old.items out.new.items) }
-    ensures ends { (b : Beginning) (before : List ℕ) → HasTakenAll b server.old services.old before → moment ≡ b.moment
-        → IfOk result (λ end. EndsAtStage (stage_of end) b (before ++ octets.now)) }
-    // If an allocation fails, the services are as a prefix of the bytes leaves them, and what is
-    // added is the server's output for a prefix of that.
-    ensures breaks { (b : Beginning) (before : List ℕ) → HasTakenAll b server.old services.old before
-        → moment ≡ b.moment
-        → OnErr result (BreaksOffServing b before (before ++ octets.now) out.old.items out.new.items services.new) }
-    ensures memory { (b : Beginning) (before : List ℕ) → HasTakenAll b server.old services.old before
-        → moment ≡ b.moment
-        → IfErr result (λ fault. fault ≡ OutOfMemory) }
+    // Bytes in: while the connection goes on, the server took all of them. Nodes changed: the
+    // services are as all bytes leave them. Bytes out: what is added is the server's output for
+    // them, each answer at the next of the timestamps given. If an allocation fails, this holds of
+    // prefixes.
+    ensures serves { Asked M.gives moments.old moments.new (λ ticks. (first : State) (before : List ℕ)
+        (told : List Told) (times : List DateTime)
+        → ServerStands (channel_in server.old) before told first times services.old
+        → ServesBytes ticks (limits_of (channel_in server.old)) (channel_of (channel_in server.old)) first before told
+        times octets.now out.old.items result (channel_in server.new) out.new.items services.new) }
     // A server that ended takes nothing more.
     ensures closed { IsDone (channel_in server.old) → 0 < length octets.now → (result ≡ Err Closed)
         × (out.new ≡ out.old) × (services.new ≡ services.old) }
 {
     let mut at = 0;
     while at < octets.len() {
+        let moment = DateTime {
+            ticks: moments.next(),
+        };
         let step = match server.step(services, &octets[at..], moment) {
             Ok(step) => step,
             Err(fault) => return Err(fault),
@@ -72,33 +65,19 @@ pub fn serve_octets(
 
 /// Serves a connection that a client begins: bytes that came over it. The bytes to be sent back are
 /// added to `out`. Returns how the connection ended, if it did.
-pub fn serve_connection(
+pub fn serve_connection<M: Moments>(
     alloc: Global,
     limits: Limits,
     channel_id: u32,
     services: &mut Services,
     octets: &[u8],
-    moment: DateTime,
+    moments: &mut M,
     out: &mut Vec<u8>,
 ) -> Result<Option<End>, StepFault>
-    ensures leaves { OnOk result
-        (services.new
-        ≡ services_after (record { limits = limits; channel = channel_id; first = begun services.old; moment = moment })
-        octets.now) }
-    ensures answers { OnOk result
-        (out.new.items ≡ out.old.items
-        ++ server_output (record { limits = limits; channel = channel_id; first = begun services.old; moment = moment })
-        octets.now) }
-    ensures ends { IfOk result
-        (λ end. EndsAtStage (stage_of end)
-        (record { limits = limits; channel = channel_id; first = begun services.old; moment = moment }) octets.now) }
-    ensures breaks { OnErr result
-        (BreaksOffServing
-        (record { limits = limits; channel = channel_id; first = begun services.old; moment = moment }) []
-        octets.now out.old.items out.new.items services.new) }
-    ensures memory { IfErr result (λ fault. fault ≡ OutOfMemory) }
+    ensures { Asked M.gives moments.old moments.new (λ ticks. ServesConnection ticks limits channel_id
+        (begun services.old) octets.now out.old.items result out.new.items services.new) }
 {
     services.begin();
     let mut server = Server::new(alloc, limits, channel_id);
-    serve_octets(&mut server, services, octets, moment, out)
+    serve_octets(&mut server, services, octets, moments, out)
 }

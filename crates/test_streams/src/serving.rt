@@ -99,6 +99,11 @@ impl Serving {
             }
             "held" => self.tell_held(told),
             "serve-octets" => self.serve_octets(given, words, told),
+            "serve-octets-at" => {
+                let (word, words) = front(words);
+                let moments = ListMoments::new(moments_of(word, told));
+                self.serve_octets_at(given, moments, words, told);
+            }
             _ => self.sweep(given, kind, words, told),
         }
     }
@@ -233,14 +238,32 @@ impl Serving {
         }
     }
 
-    /// How bytes end that are served from the beginning of a connection, and what is sent back.
+    /// How bytes end that are served from the beginning of a connection, each answer at the time
+    /// given.
     fn serve_octets(&mut self, given: &Given, words: &str, told: &mut Told) {
+        let mut ticks = Vec::new(told.alloc());
+        if ticks.push(given.moment.ticks).is_err() {
+            told.refused();
+        }
+        self.serve_octets_at(given, ListMoments::new(ticks), words, told);
+    }
+
+    /// How bytes end that are served from the beginning of a connection, with these times, and what
+    /// is sent back.
+    fn serve_octets_at(
+        &mut self,
+        given: &Given,
+        moments: ListMoments,
+        words: &str,
+        told: &mut Told,
+    ) {
         let octets = given.octets(words, told);
         let (Some(services), Some(limits)) = (&mut self.services, self.limits) else {
             told.fail("no row");
             return;
         };
         let (alloc, channel) = (told.alloc(), self.channel);
+        let mut moments = moments;
         let mut out = Vec::new(alloc);
         match serve_connection(
             alloc,
@@ -248,7 +271,7 @@ impl Serving {
             channel,
             services,
             octets.as_slice(),
-            given.moment,
+            &mut moments,
             &mut out,
         ) {
             Ok(Some(end)) => tell_end(end, told),

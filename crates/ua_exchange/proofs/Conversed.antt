@@ -84,7 +84,7 @@ module _ (first : State) (moment : DateTime) (turns : List Turn) (t : Conversati
   down-all =
       k.down
       ∙ (said_by_run (beginning first moment) t.up.items handed-all.frames [] Over handed-all.run
-      ∙ ap (λ (ts : List Told). output_of channel first ts Over (answer_times ts moment)) handed-all.told_is)
+      ∙ ap (λ (ts : List Told). output_of channel first ts Over (answer_times ts (λ (n : ℕ). moment))) handed-all.told_is)
 
   pub replies-all : map (λ (r : Reply). Some r) t.replies.items ≡ turns_replies first moment turns
   unfolding turns_replies

@@ -1,6 +1,6 @@
 -- How the first renewal is found for which too many tokens are held.
 use Rattle.std.proofs.Common.{◌≡◌, ℕ, ◌+◌, ◌<◌, ◌≤◌, true, false, List, [], ◌∷◌, ◌++◌, get_or, length, take, drop, sym, ◌∙◌, ap, subst, arith, append_assoc}
-use Rattle.std.proofs.lemmas.List.{length-take-le, take-append-drop, take_all, take_more}
+use Rattle.std.proofs.lemmas.List.{length-take-le, take-append-drop, take_more}
 use Rattle.ua_frame.proofs.Afters.{AllAfter-nil, AllAfter-push}
 use Rattle.ua_exchange.specs.inside.Counting.{is_crowded}
 use Rattle.ua_exchange.specs.declared.turn.Turn.{Turn}
@@ -49,6 +49,3 @@ module _ (turns : List Turn) (index renewals calls : ℕ) (so : CountedSoFar tur
       have_room = so.have_room;
       crowded = crowded;
     }
-
-  pub room-all : length turns ≤ index → HaveRoom turns
-  room-all enough = subst HaveRoom (take_all index turns enough) so.have_room

@@ -16,7 +16,7 @@ use Rattle.ua_server.specs.Said.{Course, state_after, course_after, reply_with, 
 use Rattle.ua_server.specs.State.{State}
 use Rattle.ua_loopback.specs.Says.{answer_times}
 use Rattle.ua_loopback.proofs.Replying.{answered_is}
-use Rattle.ua_loopback.proofs.Saying.{left_on, said_on, said_over}
+use Rattle.ua_loopback.proofs.Saying.{later_times, left_on, said_on, said_over}
 use Rattle.ua_exchange.specs.Exchanged.{all_said}
 use Rattle.ua_exchange.specs.Programs.{exchange_ack, agreement, beginning, channel}
 use Rattle.ua_exchange.specs.Reading.{output_behind_turns}
@@ -33,7 +33,7 @@ course_behind first moment turns number moments =
 
 -- the number of its next chunk
 abbrev pub NumberIs : State → DateTime → List Turn → ℕ → Type 0
-NumberIs first moment turns number = state_after channel first (asking_told turns) (answer_times (asking_told turns) moment)
+NumberIs first moment turns number = state_after channel first (asking_told turns) (answer_times (asking_told turns) (λ (n : ℕ). moment))
     ≡ course_behind first moment turns number []
 
 module _ (first : State) (moment : DateTime) where
@@ -52,21 +52,23 @@ module _ (first : State) (moment : DateTime) where
   module _ (turns : List Turn) (number : ℕ) (is : NumberIs first moment turns number) where
     -- where it says the answer to a turn more
     abbrev here : Turn → Course
-    here t = course_behind first moment turns number (answer_times (told_behind turns t) moment)
+    here t = course_behind first moment turns number (later_times (asking_told turns) (told_behind turns t) (λ (n : ℕ). moment))
 
-    left-push : (t : Turn) → state_after channel first (asking_told (turns ++ t ∷ [])) (answer_times (asking_told (turns ++ t ∷ [])) moment)
+    left-push : (t : Turn) → state_after channel first (asking_told (turns ++ t ∷ [])) (answer_times (asking_told (turns ++ t ∷ [])) (λ (n : ℕ). moment))
         ≡ course_after channel (here t) (told_behind turns t)
     left-push t =
-        ap (λ (ts : List Told). state_after channel first ts (answer_times ts moment)) (told-push turns t)
+        ap (λ (ts : List Told). state_after channel first ts (answer_times ts (λ (n : ℕ). moment))) (told-push turns t)
         ∙ (left_on (beginning first moment) (asking_told turns) (told_behind turns t)
-        ∙ ap (λ (k : Course). course_after channel (with_more k (answer_times (told_behind turns t) moment)) (told_behind turns t)) is)
+        ∙ ap (λ (k : Course). course_after channel (with_more k (later_times (asking_told turns) (told_behind turns t) (λ (n : ℕ). moment)))
+        (told_behind turns t)) is)
 
     said-push : (t : Turn) → output_behind_turns first moment (turns ++ t ∷ []) ≡ output_behind_turns first moment turns ++ said_of channel (here t)
         (told_behind turns t)
     said-push t =
-        ap (λ (ts : List Told). output_of channel first ts Going (answer_times ts moment)) (told-push turns t)
+        ap (λ (ts : List Told). output_of channel first ts Going (answer_times ts (λ (n : ℕ). moment))) (told-push turns t)
         ∙ (said_on (beginning first moment) (asking_told turns) (told_behind turns t)
-        ∙ ap (λ (k : Course). output_behind_turns first moment turns ++ said_of channel (with_more k (answer_times (told_behind turns t) moment))
+        ∙ ap (λ (k : Course). output_behind_turns first moment turns
+        ++ said_of channel (with_more k (later_times (asking_told turns) (told_behind turns t) (λ (n : ℕ). moment)))
         (told_behind turns t)) is)
 
     -- the reply to a request

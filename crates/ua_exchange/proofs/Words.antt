@@ -42,8 +42,10 @@ told-push turns t =
     ∙ sym (append_assoc opening (turns_told 1 2 (served_turns turns)) (told_behind turns t))
 
 pub state-push : (s : State) (moment : DateTime) (turns : List Turn) (t : Turn)
-    → state_behind s moment (turns ++ t ∷ []) ≡ turn_state (state_behind s moment turns) moment (served_turn t)
-state-push s moment turns t = ap (turns_state s moment) (served-push turns t) ∙ state_push s moment (served_turns turns) (served_turn t)
+    → state_behind s moment (turns ++ t ∷ [])
+    ≡ turn_state (state_behind s moment turns) (λ (n : ℕ). moment) (ids_behind 1 (served_turns turns)) (served_turn t)
+state-push s moment turns t = ap (turns_state s (λ (n : ℕ). moment) 1) (served-push turns t)
+    ∙ state_push s (λ (n : ℕ). moment) 1 (served_turns turns) (served_turn t)
 
 -- ---- counts
 

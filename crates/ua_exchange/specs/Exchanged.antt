@@ -16,7 +16,7 @@ use Rattle.ua_exchange.specs.declared.turn.Turn.{Turn}
 -- all that a server in this state sends to a client with these operations, with this time for each
 -- answer
 abbrev pub all_said : State → DateTime → List Turn → List ℕ
-all_said first moment turns = output_of channel first (all_told turns) Over (answer_times (all_told turns) moment)
+all_said first moment turns = output_of channel first (all_told turns) Over (answer_times (all_told turns) (λ (n : ℕ). moment))
 
 -- the same for a server over these nodes, when the connection begins
 abbrev pub down_octets : Nodes → DateTime → List Turn → List ℕ

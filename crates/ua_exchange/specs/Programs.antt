@@ -61,7 +61,7 @@ begun_over nodes = fresh nodes endpoint
 
 -- how it begins over services in a state, with one time for each answer
 abbrev pub beginning : State → DateTime → Beginning
-beginning first moment = record { limits = program_limits; channel = channel; first = first; moment = moment }
+beginning first moment = record { limits = program_limits; channel = channel; first = first; moments = λ (n : ℕ). moment }
 
 -- the most bytes that either end holds of what is incomplete: 65535 of a frame, and 1048576 of each
 -- of 4 unfinished messages

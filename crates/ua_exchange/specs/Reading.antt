@@ -25,7 +25,7 @@ use Rattle.ua_exchange.specs.declared.turn.Turn.TheVariants.{Ask, Renew}
 
 -- up to and including the answers to these operations
 abbrev pub output_behind_turns : State → DateTime → List Turn → List ℕ
-output_behind_turns first moment turns = output_of channel first (asking_told turns) Going (answer_times (asking_told turns) moment)
+output_behind_turns first moment turns = output_of channel first (asking_told turns) Going (answer_times (asking_told turns) (λ (n : ℕ). moment))
 
 -- ---- what the client is told
 

@@ -68,7 +68,7 @@ no_asks = refl
 module _ (b : Beginning) (url : Option (List ℕ)) (x : ClientChannel) (octets : List ℕ) (moment : DateTime) (o : IsOpened x octets)
     (can : CanOpenTo b (client_limits x) url moment) (front : Extends octets (opening_answer b (client_limits x) url)) where
   abbrev opn : Frame
-  opn = opened_frame b.channel 1 1 0 1 3600000 b.moment
+  opn = opened_frame b.channel 1 1 0 1 3600000 (b.moments 0)
 
   abbrev acked : List ℕ
   acked = frame_octets (ack_frame (ack_to (hello_to (client_limits x) url) b.limits))
@@ -80,14 +80,14 @@ module _ (b : Beginning) (url : Option (List ℕ)) (x : ClientChannel) (octets :
   sized : IsSized opn
   sized = omega (
     arith,
-    opening_size b.channel 1 1 ((message 449 open_response).canonical (open_response_of b.moment 0 b.channel 1 3600000)),
-    open_response_length b.moment 0 b.channel 1 3600000,
+    opening_size b.channel 1 1 ((message 449 open_response).canonical (open_response_of (b.moments 0) 0 b.channel 1 3600000)),
+    open_response_length (b.moments 0) 0 b.channel 1 3600000,
   )
 
   read : ClientReads (client_limits x) [] (opening_answer b (client_limits x) url)
       (heard.Agreed (ack_to (hello_to (client_limits x) url) b.limits) ∷ (heard.Opened b.channel 1 ∷ []))
       (opened_at (ack_to (hello_to (client_limits x) url) b.limits) b.channel 1 (next_number 1))
-  read = answer_read b (client_limits x) url can.ack_fits can.on can.answered
+  read = answer_read b (client_limits x) url can.ack_fits can.on (can.answered 0)
 
   frames_are : read.frames ≡ agrees.frames ++ opn ∷ []
   frames_are =

@@ -25,20 +25,21 @@ use Rattle.ua_client.specs.declared.fault.ClientFault.TheVariants as fault
 use Rattle.ua_client.specs.declared.fault.ClientFault.TheVariants.{OutOfMemory}
 use Rattle.ua_client.specs.declared.reply.Reply.{Reply}
 use Rattle.ua_client.proofs.Settled.{NonePending}
+use Rattle.ua_server.specs.Said.{used_in}
 use Rattle.ua_loopback.specs.Accepted.{IsTurnFault, tokens_held, turn_refusal_under}
 use Rattle.ua_loopback.specs.Beginning.{Beginning}
 use Rattle.ua_loopback.specs.Faults.{FailsBehind, IsOutside}
 use Rattle.ua_loopback.specs.Replies.{HaveMisanswer, lane_back_by_token, requests_replies, turn_state}
 use Rattle.ua_loopback.specs.Says.{services_after, server_output}
 use Rattle.ua_loopback.specs.Sends.{closing_behind}
-use Rattle.ua_loopback.specs.Talking.{IsBehindFirst, IsLineTo, IsSentOver, IsTalking, Reads, SoFar, StopsOver, acked_in}
+use Rattle.ua_loopback.specs.Talking.{IsBehindFirst, IsLineTo, IsSentOver, IsTalking, Reads, SoFar, StopsOver, acked_in, answers_in}
 use Rattle.ua_loopback.specs.Talking.{closed_octets, id_in, newest_in, octets_of_turn, opening, state_in, told_so_far, with_turn}
 use Rattle.ua_loopback.specs.Turns.{turn_told}
 use Rattle.ua_loopback.specs.inside.Talking.{CanOpenTo}
 use Rattle.ua_loopback.proofs.Begun.{SettlesOpened, opened_ready, opened_talk, settled_there}
 use Rattle.ua_loopback.proofs.Faults.{calls_fail, calls_stop, close_fails, close_stops, open_fails, open_stops, renewal_fails, renewal_stops, sent_over}
 use Rattle.ua_loopback.proofs.OneTurn.{calls_refused, calls_replied, calls_sent, calls_talk, closes_left, closes_read, closes_silent}
-use Rattle.ua_loopback.proofs.OneTurn.{closing_is, first_talk, renewing_not, renewing_sent, renewing_talks, turn_left, turn_read}
+use Rattle.ua_loopback.proofs.OneTurn.{closing_is, first_talk, renewing_not, renewing_sent, renewing_talks, turn_left, turn_read, used_so_far}
 use Rattle.ua_loopback.proofs.Sounds.{always_answered}
 use Rattle.ua_loopback.proofs.Staying.{ToldBehind}
 
@@ -94,7 +95,7 @@ module _ (t : SoFar) (moment : DateTime) (turn : Option (List Request)) (y : Cli
   pub reads_turn : Reads t.server (with_turn t moment turn).octets (told_so_far t ++ turn_told (newest_in t) (id_in t) turn)
   reads_turn = turn_read t moment turn k.site (connection_of y) after k.talks
 
-  pub leaves_turn : services_after t.server (with_turn t moment turn).octets ≡ turn_state (state_in t) t.server.moment turn
+  pub leaves_turn : services_after t.server (with_turn t moment turn).octets ≡ turn_state (state_in t) t.server.moments (answers_in t) turn
   leaves_turn = turn_left t moment turn k.site (connection_of y) after k.talks
 
 -- a client may be called behind a fault that is a reason against a turn
@@ -143,17 +144,17 @@ module _ (t : SoFar) (x : Client) (before : Option Traffic) (k : IsTalking t x b
 
     pub asks_replied : (result : Result A ClientFault) → CallsAll view requests (connection_of x) (connection_of y) before after result
         → IfOk result (λ found. map (λ (r : Reply). Some r) (view found) ≡ requests_replies (lane_back_by_token t.server t.limits t.url (newest_in t))
-        (state_in t) t.server.moment requests)
+        (state_in t) t.server.moments (answers_in t) requests)
     asks_replied (Err f) c = tt
     asks_replied (Ok found) c =
-        calls_replied t k.site (connection_of x) before k.talks (connection_of y) after c.sent c.moves c.same law t.server.moment requests (view found)
+        calls_replied t k.site (connection_of x) before k.talks (connection_of y) after c.sent c.moves c.same law (t.server.moments 0) requests (view found)
         (c.answers k.site stands_there)
 
     pub asks_refused : (result : Result A ClientFault) → CallsAll view requests (connection_of x) (connection_of y) before after result
         → IfErr result (λ f. IsTurnFault f → turn_refusal_under (acked_in t) t.turns (Some requests) ≡ Some f)
     asks_refused (Ok found) c = tt
     asks_refused (Err f) c = λ is.
-        calls_refused t k.site (connection_of x) before k.talks (connection_of y) after c.sent c.moves c.same law t.server.moment requests f is
+        calls_refused t k.site (connection_of x) before k.talks (connection_of y) after c.sent c.moves c.same law (t.server.moments 0) requests f is
         (c.answers k.site stands_there)
 
     pub asks_first : (moment : DateTime) (result : Result A ClientFault) → CallsAll view requests (connection_of x) (connection_of y) before after result
@@ -174,14 +175,15 @@ module _ (t : SoFar) (x : Client) (before : Option Traffic) (k : IsTalking t x b
         }
 
     pub asks_fails : ToldBehind → (result : Result A ClientFault) → CallsAll view requests (connection_of x) (connection_of y) before after result
-        → IfErr result (λ f. FailsBehind (HaveMisanswer (state_in t) t.server.moment requests) f)
+        → IfErr result (λ f. FailsBehind (HaveMisanswer (state_in t) t.server.moments (answers_in t) requests) f)
     asks_fails never_before (Ok found) c = tt
     asks_fails never_before (Err f) c =
-        subst (λ (s : State). FailsBehind (HaveMisanswer s t.server.moment requests) f) k.talks.state_is
+        subst (λ (n : ℕ). FailsBehind (HaveMisanswer (state_in t) t.server.moments n requests) f) (used_so_far t)
+        (subst (λ (s : State). FailsBehind (HaveMisanswer s t.server.moments (used_in (told_so_far t)) requests) f) k.talks.state_is
         (calls_fail t.server t.limits t.url t.octets (told_so_far t) (newest_in t) (id_in t) (tokens_held 1 t.turns) k.site
         (connection_of x) before k.talks.talking
         (connection_of y) after c.sent c.moves c.same law never_before
-        requests f (c.answers k.site stands_there) A c.stops)
+        requests f (c.answers k.site stands_there) A c.stops))
 
     pub asks_answered : ToldBehind → (result : Result A ClientFault) → CallsAll view requests (connection_of x) (connection_of y) before after result
         → IsSoundState t.server.first
@@ -205,7 +207,7 @@ module _ (t : SoFar) (x : Client) (before : Option Traffic) (k : IsTalking t x b
   module _ (requests : List Request) (y : Client) (after : Option Traffic) (law : NonePending) (never_before : ToldBehind) (f : CallsFault)
       (had have : List Reply)
       (c : CallsInto {A = Unit {0}} requests (connection_of x) (connection_of y) before after (Err f) had have) where
-    pub into_fails : FailsBehind (HaveMisanswer (state_in t) t.server.moment requests) f.fault
+    pub into_fails : FailsBehind (HaveMisanswer (state_in t) t.server.moments (answers_in t) requests) f.fault
     into_fails = asks_fails (λ (done : Unit {0}). c.added) requests y after law never_before (Err f.fault)
         (into_all requests (connection_of x) (connection_of y) before after (Err f) had have c)
 

@@ -36,10 +36,11 @@ use Rattle.ua_loopback.specs.Faults.{BehindRefused, FailsBehind}
 use Rattle.ua_loopback.specs.Replies.{lane_back_by_token, turn_replies, replies_to_turns, turns_state}
 use Rattle.ua_loopback.specs.Sends.{closing_behind, turns_octets}
 use Rattle.ua_loopback.specs.Says.{end_by, services_after, server_output}
-use Rattle.ua_loopback.specs.Talking.{IsLineTo, IsTalking, SoFar, StopsOver, TalksAt, acked_in, closed_octets, octets_of_turn, state_in, newest_in, with_turn}
+use Rattle.ua_loopback.specs.Talking.{IsLineTo, IsTalking, SoFar, StopsOver, TalksAt, acked_in, answers_in, closed_octets, octets_of_turn}
+use Rattle.ua_loopback.specs.Talking.{newest_in, state_in, with_turn}
 use Rattle.ua_loopback.specs.inside.Talking.{CanOpenTo, HasMisanswer, HaveMisanswers, StaysAfterTurns, StaysBefore}
 use Rattle.ua_loopback.specs.inside.Talking.{StaysBehindTurn, StaysTalking, Talked, HasOpenedTo, WentBefore}
-use Rattle.ua_loopback.specs.Turns.{conversation_told}
+use Rattle.ua_loopback.specs.Turns.{conversation_told, ids_behind}
 use Rattle.ua_loopback.proofs.Begun.{SettlesOpened, went_first}
 use Rattle.ua_loopback.proofs.Faults.{fails_by, misanswers_in, sent_both, sent_over}
 use Rattle.ua_loopback.proofs.OneTurn.{calls_refused, calls_replied, calls_sent, calls_talk, closes_read, closes_silent, closing_is, first_at}
@@ -115,14 +116,14 @@ module _ (b : Beginning) (limits : Limits) (url : Option (List ℕ)) (moment : D
 
   -- the replies with it
   more_replied : (turn : Option (List Request)) (added : List Reply) → have ≡ had ++ added
-      → map (λ (r : Reply). Some r) added ≡ turn_replies (lane_back_by_token b limits url (newest_in talk)) (state_in talk) b.moment turn
-      → map (λ (r : Reply). Some r) have ≡ replies_to_turns b limits url b.first 1 (turns ++ turn ∷ [])
+      → map (λ (r : Reply). Some r) added ≡ turn_replies (lane_back_by_token b limits url (newest_in talk)) (state_in talk) b.moments (answers_in talk) turn
+      → map (λ (r : Reply). Some r) have ≡ replies_to_turns b limits url b.first 1 1 (turns ++ turn ∷ [])
   more_replied turn added have_is replied =
       ap (λ (rs : List Reply). map (λ (r : Reply). Some r) rs) have_is
       ∙ (some-append had added
       ∙ (ap (λ (os : List (Option Reply)). os ++ map (λ (r : Reply). Some r) added) s.replied
-      ∙ (ap (λ (os : List (Option Reply)). replies_to_turns b limits url b.first 1 turns ++ os) replied
-      ∙ sym (replies_push b limits url b.first 1 turns turn))))
+      ∙ (ap (λ (os : List (Option Reply)). replies_to_turns b limits url b.first 1 1 turns ++ os) replied
+      ∙ sym (replies_push b limits url b.first 1 1 turns turn))))
 
   -- where both ends are behind it
   talks_on : (turn : Option (List Request)) (u : ClientPlace) (sent : List ℕ) → sent ≡ octets_of_turn talk moment turn
@@ -283,11 +284,11 @@ module _ (b : Beginning) (limits : Limits) (url : Option (List ℕ)) (moment : D
 pub asked_fails : (b : Beginning) (limits : Limits) (url : Option (List ℕ)) (moment : DateTime) (opened : ClientPlace) (turns : List (Option (List Request)))
     (x : Client) (first now : Option Traffic) (had : List Reply) → StaysTalking b limits url moment opened turns (connection_of x) first now had
     → IsReady x → (t asked : Option (List Request)) → t ≡ asked → (f : ClientFault)
-    → ((talk : SoFar) → IsTalking talk x now → FailsBehind (HasMisanswer (state_in talk) talk.server.moment asked) f)
-    → FailsBehind (HasMisanswer (turns_state b.first b.moment turns) b.moment t) f
+    → ((talk : SoFar) → IsTalking talk x now → FailsBehind (HasMisanswer (state_in talk) talk.server.moments (answers_in talk) asked) f)
+    → FailsBehind (HasMisanswer (turns_state b.first b.moments 1 turns) b.moments (ids_behind 1 turns) t) f
 asked_fails b limits url moment opened turns x first now had s ready t asked is f fails =
     let talk : SoFar = record { server = b; limits = limits; url = url; turns = turns; octets = opening_octets limits url moment ++ s.stays.sent } in
-    subst (λ (o : Option (List Request)). FailsBehind (HasMisanswer (turns_state b.first b.moment turns) b.moment o) f) (sym is)
+    subst (λ (o : Option (List Request)). FailsBehind (HasMisanswer (turns_state b.first b.moments 1 turns) b.moments (ids_behind 1 turns) o) f) (sym is)
     (fails talk (record { ready = ready; site = s.stays.site; talks = s.talks }))
 
 -- and what the server makes of all that was sent
@@ -472,10 +473,10 @@ module _ {A : Type 0} (turn_of : A → Option (List Request)) where
       → index < length turns → t ≡ get_or turns index t
       → ((b : Beginning) (limits : Limits) (url : Option (List ℕ)) (opened : ClientPlace) (done : List (Option (List Request))) (first : Option Traffic)
       → StaysTalking b limits url moment opened done (connection_of y) first now have
-      → FailsBehind (HasMisanswer (turns_state b.first b.moment done) b.moment (turn_of t)) f)
+      → FailsBehind (HasMisanswer (turns_state b.first b.moments 1 done) b.moments (ids_behind 1 done) (turn_of t)) f)
       → (b : Beginning) (limits : Limits) (url : Option (List ℕ)) (opened : ClientPlace) (first : Option Traffic)
       → StaysTalking b limits url moment opened [] (connection_of x) first before had
-      → FailsBehind (HaveMisanswers b.first b.moment (map turn_of turns)) f
+      → FailsBehind (HaveMisanswers b.first b.moments 1 (map turn_of turns)) f
   fails_next moment turns index x y before now had have t f so less is fails b limits url opened first s =
       let done : List (Option (List Request)) = map turn_of (take index turns) in
       let rest : List (Option (List Request)) = map turn_of (drop (index + 1) turns) in
@@ -483,9 +484,10 @@ module _ {A : Type 0} (turn_of : A → Option (List Request)) where
       ap (map turn_of) (sym (take-append-drop (index + 1) turns))
       ∙ (map-append turn_of (take (index + 1) turns) (drop (index + 1) turns)
       ∙ (ap (λ (ts : List (Option (List Request))). ts ++ rest) (turns_on turns index t less is) ∙ append_assoc done (turn_of t ∷ []) rest)) in
-      fails_by (HasMisanswer (turns_state b.first b.moment done) b.moment (turn_of t)) (HaveMisanswers b.first b.moment (map turn_of turns)) f
-      (λ h. subst (λ (ts : List (Option (List Request))). HaveMisanswers b.first b.moment ts) (sym parts)
-      (misanswers_in b.first b.moment done (turn_of t) rest h))
+      fails_by (HasMisanswer (turns_state b.first b.moments 1 done) b.moments (ids_behind 1 done) (turn_of t))
+      (HaveMisanswers b.first b.moments 1 (map turn_of turns)) f
+      (λ h. subst (λ (ts : List (Option (List Request))). HaveMisanswers b.first b.moments 1 ts) (sym parts)
+      (misanswers_in b.first b.moments 1 done (turn_of t) rest h))
       (fails b limits url opened done first (so.stays b limits url opened first s))
 
   pub taken_all : (moment : DateTime) (turns : List A) (index : ℕ) (x y : Client) (before now : Option Traffic) (had have : List Reply)

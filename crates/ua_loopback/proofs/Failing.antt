@@ -83,12 +83,12 @@ some_failures f old new none is line =
 
 pub fails_on : (r told : Result (Unit {0}) ClientFault) (far : Stage) (b : Beginning) (limits : Limits) (channel : ℕ) (services : State) (url : Option (List ℕ))
     (moment : DateTime) (turns : List (Option (List Request))) (place : ℕ) (old new : Served) (replies : List Reply)
-    → told ≡ outcome_at far r → b ≡ record { limits = limits; channel = channel; first = services; moment = moment }
-    → CanOpenTo (record { limits = limits; channel = channel; first = services; moment = moment }) limits url moment → IsSoundState services
+    → told ≡ outcome_at far r → b ≡ record { limits = limits; channel = channel; first = services; moments = λ (n : ℕ). moment }
+    → CanOpenTo (record { limits = limits; channel = channel; first = services; moments = λ (n : ℕ). moment }) limits url moment → IsSoundState services
     → old.up ≡ [] → old.read ≡ 0 → old.failures ≡ 0 → new.failures ≡ failures_behind old.failures r → (0 < new.failures → IsOver far) → EndsAtStage far b new.up
     → length (server_output b new.up) < most_reads
     → IfErr r (λ f. (b' : Beginning) → CanOpenTo b' limits url moment → IsLineTo b' [] [] (Some (traffic_of b old)) → url_length url ≤ 4095
-    → FailsBehind (HaveMisanswers b'.first b'.moment turns) f)
+    → FailsBehind (HaveMisanswers b'.first b'.moments 1 turns) f)
     → IfErr r (λ f. (b' : Beginning) → CanOpenTo b' limits url moment → IsLineTo b' [] [] (Some (traffic_of b old)) → url_length url ≤ 4095
     → StopsOver f b' [] (Some (traffic_of b old)) (Some (traffic_of b new)))
     → IfErr r (λ f. IsTurnFault f → (b' : Beginning) → CanOpenTo b' limits url moment → IsLineTo b' [] [] (Some (traffic_of b old))
@@ -100,7 +100,7 @@ fails_on (Ok found) told far b limits channel services url moment turns place ol
 fails_on (Err f) told far b limits channel services url moment turns place old new replies told_is is able sound none nothing_read no_failure failed over ends
     few t u before =
     subst (λ (r : Result (Unit {0}) ClientFault). IfErr r (λ g. url_length url ≤ 4095 → FailsAtStage far g)) (sym told_is) (λ short.
-    let begun : Beginning = record { limits = limits; channel = channel; first = services; moment = moment } in
+    let begun : Beginning = record { limits = limits; channel = channel; first = services; moments = λ (n : ℕ). moment } in
     let can : CanOpenTo b limits url moment = subst (λ (d : Beginning). CanOpenTo d limits url moment) (sym is) able in
     let line : IsLineTo b [] [] (Some (traffic_of b old)) = line_begins b old none nothing_read in
     let stops = u b can line short in
@@ -108,7 +108,7 @@ fails_on (Err f) told far b limits channel services url moment turns place old n
     let sound_first : IsSoundState b.first = subst (λ (d : Beginning). IsSoundState d.first) (sym is) sound in
     let waits : IsTurnFault f → end_by b new.up ≡ Going = λ reason. waits_refused b limits url moment turns place old new replies none
     (before reason b can line) in
-    fails_at (HaveMisanswers b.first b.moment turns) far f b new.up (turns_answered b.first b.moment turns sound_first can.answered) (t b can line short)
+    fails_at (HaveMisanswers b.first b.moments 1 turns) far f b new.up (turns_answered b.first b.moments 1 turns sound_first can.answered) (t b can line short)
     (subst (StopsAfter f b) up_is stops.2) waits ends (λ line_failed. over (some_failures f old.failures new.failures no_failure failed line_failed)) few)
 
 -- ---- what holds of what the client came to, and what is told of it

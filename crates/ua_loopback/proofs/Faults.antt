@@ -27,7 +27,7 @@ use Rattle.ua_channel_laws.proofs.Following.{client_not_failed, client_told}
 use Rattle.ua_channel_laws.proofs.ReadOn.{same_told}
 use Rattle.ua_channel_laws.proofs.ServerReadsMessages.{reads_hello}
 use Rattle.ua_services.specs.declared.request.Request.{Request}
-use Rattle.ua_server.specs.Said.{output_of}
+use Rattle.ua_server.specs.Said.{output_of, used_in}
 use Rattle.ua_server.specs.State.{State}
 use Rattle.ua_client.specs.Calls.{BreaksAt, BrokenAll, ClientGoesOn, Rounds, all_of, asked_at, refusal_at, sent_at}
 use Rattle.ua_client.specs.Carried.{Carries, IsAtEnd, IsPart}
@@ -47,17 +47,17 @@ use Rattle.ua_client.proofs.Settled.{NonePending}
 use Rattle.ua_loopback.specs.Accepted.{acknowledged, held_behind_calls}
 use Rattle.ua_loopback.specs.Beginning.{Beginning}
 use Rattle.ua_loopback.specs.Faults.{FailsBehind, IsOutside, StopsAfter}
-use Rattle.ua_loopback.specs.Replies.{HaveMisanswer, turn_state, turns_state}
+use Rattle.ua_loopback.specs.Replies.{HaveMisanswer, state_behind_requests, turn_state, turns_state}
 use Rattle.ua_loopback.specs.Says.{end_by, server_output, answer_times, state_told}
 use Rattle.ua_loopback.specs.Talking.{AreTalking, IsLineTo, IsSentOver, StopsOver}
 use Rattle.ua_loopback.specs.Together.{opening_answer}
-use Rattle.ua_loopback.specs.Turns.{calls_told}
+use Rattle.ua_loopback.specs.Turns.{calls_told, id_behind_turn, ids_behind}
 use Rattle.ua_loopback.specs.inside.Talking.{CanOpenTo, HasMisanswer, HaveMisanswers}
 use Rattle.ua_loopback.proofs.Ending.{all_last}
 use Rattle.ua_loopback.proofs.Opened.{answer_read, opening_said}
 use Rattle.ua_loopback.proofs.Reaching.{opening_read, requests_read, writable}
 use Rattle.ua_loopback.proofs.Renewed.{renewal_heard, server_renewed}
-use Rattle.ua_loopback.proofs.Replying.{AreWritable, misanswered_among, misanswered_behind, state_calls}
+use Rattle.ua_loopback.proofs.Replying.{AreWritable, misanswered_among, misanswered_behind, state_calls, used_behind}
 use Rattle.ua_loopback.proofs.Rounds.{AreSome, Behind, all_front, refused_there, rounds_served, some_in}
 use Rattle.ua_loopback.proofs.Saying.{closing_waits, end_is, front_waits, said_by_run, said_further}
 use Rattle.ua_loopback.proofs.Staying.{ToldBehind, asked_fails_not, asked_misanswered, asked_misses_not}
@@ -238,16 +238,20 @@ module _ (b : Beginning) (limits : Limits) (url : Option (List ℕ)) (octets : L
           first.served group) ∙ judged)
 
       misanswers : ClientGoesOn (channel_of_connection y) (asked_at behind group) (behind.octets ++ taken_then) behind.told (IsMisanswered group (id_at behind))
-          → HaveMisanswer (state_told b told) b.moment (all ++ group)
+          → HaveMisanswer (state_told b told) b.moments (used_in told) (all ++ group)
       misanswers h =
           let there = asked_misanswered b url (octets ++ sent_before) told_here first.served.at_server first.channel behind first.served.at_client group
           first.served.on first.served.serving some_here judged
           (channel_of_connection y) same_here (behind.octets ++ taken_then) never_before first.served.serving.together.stands h front_asked fits in
           let state_is = state_calls b told token id all (writable (acknowledged b.limits limits url) id all first.judged) in
-          misanswered_behind (state_told b told) b.moment all group (subst (λ (s : State). HaveMisanswer s b.moment group) state_is there)
+          misanswered_behind (state_told b told) b.moments (used_in told) all group
+          (subst (λ (n : ℕ). HaveMisanswer (state_behind_requests (state_told b told) b.moments (used_in told) all) b.moments n group)
+          (used_behind told token id all)
+          (subst (λ (s : State). HaveMisanswer s b.moments (used_in told_here) group) state_is there))
 
     pub group_fails : (A : Type 0) (f : ClientFault) → BreaksAt group behind y sent_then taken_then f
-        → StopsByTraffic {A = A} most_reads most_reads moves.got y after (Err f) → FailsBehind (HaveMisanswer (state_told b told) b.moment (all ++ group)) f
+        → StopsByTraffic {A = A} most_reads most_reads moves.got y after (Err f)
+        → FailsBehind (HaveMisanswer (state_told b told) b.moments (used_in told) (all ++ group)) f
     group_fails A (fault.Peer code) h stops = absurd (fails_not h.0.0 h.0.1 (behind.told ++ h.1.0) (peers code.code) h.1.1)
     group_fails A (fault.Refused code) h stops = absurd (fails_not h.0.0 h.0.1 (behind.told ++ h.1.0) (ours code.code) h.1.1)
     group_fails A fault.Ended h stops = absurd (misses_not h.0.0 h.0.1 h.1 stops.0 stops.1)
@@ -289,13 +293,13 @@ module _ (b : Beginning) (limits : Limits) (url : Option (List ℕ)) (octets : L
 
   pub calls_fail : NonePending → ToldBehind → (requests : List Request) (f : ClientFault) → BrokenAll requests site y sent moves.taken f → (A : Type 0)
       → StopsByTraffic {A = A} most_reads most_reads moves.got y after (Err f)
-      → FailsBehind (HaveMisanswer (state_told b told) b.moment requests) f
+      → FailsBehind (HaveMisanswer (state_told b told) b.moments (used_in told) requests) f
   calls_fail law never_before requests f q A stops =
       let asked : List Request = all_of q.groups ++ q.group in
       let parts : asked ++ q.others ≡ requests = append_assoc (all_of q.groups) q.group q.others ∙ sym q.parts in
-      fails_by (HaveMisanswer (state_told b told) b.moment asked) (HaveMisanswer (state_told b told) b.moment requests) f
-      (λ h. subst (λ (ms : List Request). HaveMisanswer (state_told b told) b.moment ms) parts
-      (misanswered_among (state_told b told) b.moment asked q.others h))
+      fails_by (HaveMisanswer (state_told b told) b.moments (used_in told) asked) (HaveMisanswer (state_told b told) b.moments (used_in told) requests) f
+      (λ h. subst (λ (ms : List Request). HaveMisanswer (state_told b told) b.moments (used_in told) ms) parts
+      (misanswered_among (state_told b told) b.moments (used_in told) asked q.others h))
       (group_fails law never_before q.groups q.group q.behind q.sent_before q.sent_then q.taken_before q.taken_then q.replies q.rounds
       (some_in (q.groups ++ q.group ∷ []) q.sized) q.sent_parts q.taken_parts A f q.breaks stops)
 
@@ -307,7 +311,7 @@ module _ (b : Beginning) (limits : Limits) (url : Option (List ℕ)) (octets : L
 
   -- ---- a renewal
 
-  module _ (moment : DateTime) (dated : IsTrue (date_time.encodable moment)) (answered : IsTrue (date_time.encodable b.moment)) where
+  module _ (moment : DateTime) (dated : IsTrue (date_time.encodable moment)) (answered : (n : ℕ) → IsTrue (date_time.encodable (b.moments n))) where
     abbrev s : AtServer
     s = t.served.at_server
 
@@ -398,7 +402,7 @@ module _ (b : Beginning) (limits : Limits) (url : Option (List ℕ)) (octets : L
 -- ---- the opening
 
 -- what a server says of the HEL alone
-said_first : (b : Beginning) (g : Agreement) → output_of b.channel b.first (Agreed g ∷ []) Going (answer_times (Agreed g ∷ []) b.moment)
+said_first : (b : Beginning) (g : Agreement) → output_of b.channel b.first (Agreed g ∷ []) Going (answer_times (Agreed g ∷ []) b.moments)
     ≡ frame_octets (ack_frame g.ack)
 unfolding output_of
 said_first b g = append-nil (frame_octets (ack_frame g.ack) ++ []) ∙ append-nil (frame_octets (ack_frame g.ack))
@@ -452,12 +456,12 @@ module _ (b : Beginning) (limits : Limits) (url : Option (List ℕ)) (moment : D
   said_hello =
       let r = reads_hello b.limits b.channel limits url able.hello_fits short in
       said_by_run b hello r.frames [] Going r.run
-      ∙ (ap (λ (t : List Told). output_of b.channel b.first t Going (answer_times t b.moment)) r.told_is
+      ∙ (ap (λ (t : List Told). output_of b.channel b.first t Going (answer_times t b.moments)) r.told_is
       ∙ said_first b (agreement_of b.limits (hello_to limits url)))
 
   reads_all : ClientReads (client_limits x) [] (opening_answer b limits url) all_heard now_open
   reads_all = subst (λ (l : Limits). ClientReads l [] (opening_answer b limits url) all_heard now_open) (sym limits_are)
-      (answer_read b limits url able.ack_fits able.on able.answered)
+      (answer_read b limits url able.ack_fits able.on (able.answered 0))
 
   -- what it took is a front of the whole answer
   front_all : ((sent ≡ hello) ⊎ (sent ≡ hello ++ opening)) → Extends taken (opening_answer b limits url)
@@ -615,8 +619,8 @@ close_stops b A s moment octets sent told f reads h = record {
 -- ---- turns
 
 -- the answers to a turn are answers to turns of which it is one
-pub misanswers_in : (s : State) (moment : DateTime) (before : List (Option (List Request))) (turn : Option (List Request))
-    (behind : List (Option (List Request))) → HasMisanswer (turns_state s moment before) moment turn
-    → HaveMisanswers s moment (before ++ turn ∷ behind)
-misanswers_in s moment [] turn behind h = inl h
-misanswers_in s moment (t ∷ before) turn behind h = inr (misanswers_in (turn_state s moment t) moment before turn behind h)
+pub misanswers_in : (s : State) (f : ℕ → DateTime) (n : ℕ) (before : List (Option (List Request))) (turn : Option (List Request))
+    (behind : List (Option (List Request))) → HasMisanswer (turns_state s f n before) f (ids_behind n before) turn
+    → HaveMisanswers s f n (before ++ turn ∷ behind)
+misanswers_in s f n [] turn behind h = inl h
+misanswers_in s f n (t ∷ before) turn behind h = inr (misanswers_in (turn_state s f n t) f (id_behind_turn n t) before turn behind h)

@@ -1,5 +1,7 @@
 -- A client over a line to a server, behind one turn more.
-use Rattle.std.proofs.Common.{◌≡◌, ℕ, ◌+◌, ◌<◌, IsTrue, List, [], ◌∷◌, ◌++◌, Option, Some, None, Ok, Err, map, sym, ◌∙◌, ap, subst, append_assoc, arith}
+use Rattle.std.proofs.Common.{◌≡◌, ℕ, ◌+◌, ◌<◌, IsTrue, List, [], ◌∷◌, ◌++◌, Option, Some, None, Ok, Err}
+use Rattle.std.proofs.Common.{map, sym, ◌∙◌, ap, subst, add-zero, append_assoc, arith, length, refl}
+use Rattle.std.proofs.lemmas.List.{length-map}
 use Rattle.ua_builtin.specs.DateTime.{date_time}
 use Rattle.ua_builtin.specs.Reasons.{first_reason}
 use Rattle.ua_builtin.specs.declared.date_time.DateTime.{DateTime}
@@ -11,13 +13,16 @@ use Rattle.ua_channel.specs.ClientAsks.{call_lane}
 use Rattle.ua_channel.specs.Line.{Traffic}
 use Rattle.ua_channel_laws.specs.ServerReads.{ServerCloses}
 use Rattle.ua_channel.specs.ServerTold.{Told, Closed}
+use Rattle.ua_services.specs.Request.{request}
 use Rattle.ua_services.specs.declared.request.Request.{Request}
-use Rattle.ua_server.specs.Said.{output_of}
+use Rattle.ua_server.specs.Said.{output_of, used_in}
 use Rattle.ua_server.specs.State.{State}
+use Rattle.ua_server.proofs.SaidInParts.{used_in-append}
 use Rattle.ua_client.specs.Calls.{AnsweredAll, BrokenAll, all_of}
 use Rattle.ua_client.specs.Client.{closing_at, closing_by}
 use Rattle.ua_client.specs.Hearing.{MovesConnection, channel_of_connection}
 use Rattle.ua_client.specs.Renewing.{Renews}
+use Rattle.ua_client.specs.Sent.{bodies_of}
 use Rattle.ua_client.specs.ClientPlace.{ClientPlace, StandsAt, id_at}
 use Rattle.ua_client.specs.declared.connection.Connection.{Connection}
 use Rattle.ua_client.specs.declared.fault.ClientFault.{ClientFault}
@@ -28,12 +33,12 @@ use Rattle.ua_loopback.specs.Beginning.{Beginning}
 use Rattle.ua_loopback.specs.Replies.{lane_back_by_token, requests_replies, turn_state}
 use Rattle.ua_loopback.specs.Says.{services_after, server_output, answer_times, state_told}
 use Rattle.ua_loopback.specs.Sends.{closing_behind, turn_number, turn_octets}
-use Rattle.ua_loopback.specs.Talking.{AreTalking, Reads, SoFar, TalksAt, acked_in, closed_octets, id_in}
+use Rattle.ua_loopback.specs.Talking.{AreTalking, Reads, SoFar, TalksAt, acked_in, answers_in, closed_octets, id_in}
 use Rattle.ua_loopback.specs.Talking.{octets_of_turn, state_in, newest_in, told_so_far, with_turn}
-use Rattle.ua_loopback.specs.Turns.{id_behind_turn, opening_told, token_behind_turn, turn_told, turns_told}
+use Rattle.ua_loopback.specs.Turns.{id_behind_turn, ids_behind, opening_told, token_behind_turn, turn_told, turns_told}
 use Rattle.ua_loopback.proofs.Pushes.{held_push, ids_push, number_push, state_push, told_push, tokens_push}
 use Rattle.ua_loopback.proofs.Reaching.{closing_read}
-use Rattle.ua_loopback.proofs.Replying.{state_closed, state_renewal}
+use Rattle.ua_loopback.proofs.Replying.{calls_used, state_closed, state_renewal}
 use Rattle.ua_loopback.proofs.Rounds.{Behind, closing_there}
 use Rattle.ua_loopback.proofs.Saying.{left_by_run, said_by_run, said_over}
 use Rattle.ua_loopback.proofs.Staying.{said_there}
@@ -60,6 +65,24 @@ talk_left t site x now s =
     let r = s.talking.served.serving.together.server_reads in
     left_by_run t.server t.octets r.frames [] Going r.run ∙ (ap (λ (ts : List Told). state_told t.server ts) r.told_is ∙ s.state_is)
 
+-- so many answers were made to that
+turn_used : (n token id : ℕ) (turn : Option (List Request)) → n + used_in (turn_told token id turn) ≡ id_behind_turn n turn
+turn_used n token id (Some requests) = ap (λ (k : ℕ). n + k) (calls_used token id (bodies_of requests) ∙ length-map requests request.canonical)
+turn_used n token id None = refl
+
+turns_used : (n token id : ℕ) (turns : List (Option (List Request))) → n + used_in (turns_told token id turns) ≡ ids_behind n turns
+turns_used n token id [] = add-zero n
+turns_used n token id (t ∷ turns) =
+    let later : ℕ = used_in (turns_told (token_behind_turn token t) (id_behind_turn id t) turns) in
+    let parts = used_in-append (turn_told token id t) (turns_told (token_behind_turn token t) (id_behind_turn id t) turns) in
+    let one = turn_used n token id t in
+    let here : n + used_in (turns_told token id (t ∷ turns)) ≡ id_behind_turn n t + later = omega (arith, parts, one) in
+    here ∙ turns_used (id_behind_turn n t) (token_behind_turn token t) (id_behind_turn id t) turns
+
+pub used_so_far : (t : SoFar) → used_in (told_so_far t) ≡ answers_in t
+used_so_far t =
+    used_in-append (opening_told t.server.limits t.limits t.url) (turns_told 1 2 t.turns) ∙ turns_used 1 1 2 t.turns
+
 -- ---- the same behind a turn
 
 module _ (t : SoFar) (moment : DateTime) (turn : Option (List Request)) (site : ClientPlace) (y : Connection) (after : Option Traffic)
@@ -68,8 +91,8 @@ module _ (t : SoFar) (moment : DateTime) (turn : Option (List Request)) (site : 
   turn_read = subst (λ (ts : List Told). Reads t.server (with_turn t moment turn).octets ts) (told_more t moment turn)
       (talk_read (with_turn t moment turn) site y after s)
 
-  pub turn_left : services_after t.server (with_turn t moment turn).octets ≡ turn_state (state_in t) t.server.moment turn
-  turn_left = talk_left (with_turn t moment turn) site y after s ∙ state_push t.server.first t.server.moment t.turns turn
+  pub turn_left : services_after t.server (with_turn t moment turn).octets ≡ turn_state (state_in t) t.server.moments (answers_in t) turn
+  turn_left = talk_left (with_turn t moment turn) site y after s ∙ state_push t.server.first t.server.moments 1 t.turns turn
 
 -- ---- one turn more
 
@@ -93,7 +116,8 @@ module _ (t : SoFar) (site : ClientPlace) (x : Connection) (before : Option Traf
       → AreTalking b t.limits t.url (t.octets ++ sent) (told_so_far t ++ turn_told (newest_in t) (id_in t) turn) (token_behind_turn (newest_in t) turn)
       (id_behind_turn (id_in t) turn) (held_behind held turn) u y after
       → u.number ≡ turn_number lane site.number turn → first_reason (turn_reasons_under (acked_in t) held (id_in t) turn) ≡ None
-      → state_told b (told_so_far t ++ turn_told (newest_in t) (id_in t) turn) ≡ turn_state (state_told b (told_so_far t)) b.moment turn
+      → state_told b (told_so_far t ++ turn_told (newest_in t) (id_in t) turn) ≡ turn_state (state_told b (told_so_far t)) b.moments (used_in (told_so_far t))
+      turn
       → TalksAt (with_turn t moment turn) u y after
   more_talking same moment turn u sent_is talking number_is judged state = record {
     url_is = sym same.url ∙ s.url_is;
@@ -102,7 +126,9 @@ module _ (t : SoFar) (site : ClientPlace) (x : Connection) (before : Option Traf
     number_is = number_is ∙ (ap (λ (n : ℕ). turn_number lane n turn) s.number_is ∙ sym (number_push (acked_in t) b.channel 1 2 t.turns turn));
     state_is =
         ap (λ (ts : List Told). state_told b ts) (told_more t moment turn)
-        ∙ (state ∙ (ap (λ (st : State). turn_state st b.moment turn) s.state_is ∙ sym (state_push b.first b.moment t.turns turn)));
+        ∙ (state
+        ∙ (ap (λ (st : State). turn_state st b.moments (used_in (told_so_far t)) turn) s.state_is
+        ∙ (ap (λ (n : ℕ). turn_state (state_in t) b.moments n turn) (used_so_far t) ∙ sym (state_push b.first b.moments 1 t.turns turn))));
     talking =
         talking_as b t.limits t.url (t.octets ++ sent) (t.octets ++ octets_of_turn t moment turn) (told_so_far t ++ turn_told (newest_in t) (id_in t) turn)
         (told_so_far (with_turn t moment turn)) (token_behind_turn (newest_in t) turn) (newest_in (with_turn t moment turn))
@@ -129,9 +155,13 @@ module _ (t : SoFar) (site : ClientPlace) (x : Connection) (before : Option Traf
           at
           octets_are there)
 
-      asked_replies : map (λ (r : Reply). Some r) replies ≡ requests_replies (lane_back_by_token b t.limits t.url (newest_in t)) (state_in t) b.moment requests
-      asked_replies = there.replies_are ∙ ap (λ (st : State). requests_replies (lane_back_by_token b t.limits t.url (newest_in t)) st b.moment requests)
+      asked_replies : map (λ (r : Reply). Some r) replies ≡ requests_replies (lane_back_by_token b t.limits t.url (newest_in t)) (state_in t) b.moments
+          (answers_in t) requests
+      asked_replies =
+          there.replies_are
+          ∙ (ap (λ (st : State). requests_replies (lane_back_by_token b t.limits t.url (newest_in t)) st b.moments (used_in (told_so_far t)) requests)
           s.state_is
+          ∙ ap (λ (n : ℕ). requests_replies (lane_back_by_token b t.limits t.url (newest_in t)) (state_in t) b.moments n requests) (used_so_far t))
 
     -- all of them
     module _ (law : NonePending) (moment : DateTime) (requests : List Request) (replies : List Reply)
@@ -148,7 +178,7 @@ module _ (t : SoFar) (site : ClientPlace) (x : Connection) (before : Option Traf
       calls_talk = asked_more moment requests replies q.behind q.at (rounds_octets q.rounds) there
 
       pub calls_replied : map (λ (r : Reply). Some r) replies ≡ requests_replies (lane_back_by_token b t.limits t.url (newest_in t))
-          (state_in t) b.moment requests
+          (state_in t) b.moments (answers_in t) requests
       calls_replied = asked_replies moment requests replies q.behind q.at (rounds_octets q.rounds) there
 
     -- or the first of them, up to one that is refused
@@ -175,8 +205,8 @@ module _ (t : SoFar) (site : ClientPlace) (x : Connection) (before : Option Traf
       pub first_sent : sent ≡ octets_of_turn t moment (Some (all_of q.groups))
       first_sent = asked_sent moment (all_of q.groups) q.replies q.behind first_at first_octets first_there
 
-      pub first_replied : map (λ (r : Reply). Some r) q.replies ≡ requests_replies (lane_back_by_token b t.limits t.url (newest_in t)) (state_in t) b.moment
-          (all_of q.groups)
+      pub first_replied : map (λ (r : Reply). Some r) q.replies ≡ requests_replies (lane_back_by_token b t.limits t.url (newest_in t)) (state_in t) b.moments
+          (answers_in t) (all_of q.groups)
       first_replied = asked_replies moment (all_of q.groups) q.replies q.behind first_at first_octets first_there
 
       pub first_talk : TalksAt (with_turn t moment (Some (all_of q.groups))) q.behind y after
@@ -216,12 +246,12 @@ module _ (t : SoFar) (site : ClientPlace) (x : Connection) (before : Option Traf
 -- ---- the CLO
 
 module _ (b : Beginning) (octets more : List ℕ) (told : List Told) (q : ServerCloses b.limits b.channel more (told ++ Closed ∷ []))
-    (here : server_output b octets ≡ output_of b.channel b.first told Going (answer_times told b.moment)) where
+    (here : server_output b octets ≡ output_of b.channel b.first told Going (answer_times told b.moments)) where
   -- a CLO is not answered
   closing_said : server_output b more ≡ server_output b octets
   closing_said =
       said_by_run b more q.frames [] Over q.run
-      ∙ (ap (λ (k : List Told). output_of b.channel b.first k Over (answer_times k b.moment)) q.told_is ∙ (said_over b told ∙ sym here))
+      ∙ (ap (λ (k : List Told). output_of b.channel b.first k Over (answer_times k b.moments)) q.told_is ∙ (said_over b told ∙ sym here))
 
 module _ (t : SoFar) (site : ClientPlace) (x : Connection) (now : Option Traffic) (s : TalksAt t site x now) (moment : DateTime) where
   pub closing_is : closing_at site moment ≡ closing_behind (acked_in t) t.server.channel moment t.turns

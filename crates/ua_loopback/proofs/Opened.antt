@@ -32,12 +32,12 @@ use Rattle.ua_loopback.proofs.Saying.{said_by_run}
 
 -- what a server says of an agreement and the first token
 said_first_two : (b : Beginning) (g : Agreement) → output_of b.channel b.first (Agreed g ∷ (Opened 1 0 1 3600000 ∷ [])) Going
-    (answer_times (Agreed g ∷ (Opened 1 0 1 3600000 ∷ [])) b.moment)
-    ≡ frame_octets (ack_frame g.ack) ++ frame_octets (opened_frame b.channel 1 1 0 1 3600000 b.moment)
+    (answer_times (Agreed g ∷ (Opened 1 0 1 3600000 ∷ [])) b.moments)
+    ≡ frame_octets (ack_frame g.ack) ++ frame_octets (opened_frame b.channel 1 1 0 1 3600000 (b.moments 0))
 unfolding output_of
 said_first_two b g =
     let acked = frame_octets (ack_frame g.ack) in
-    let opened = frame_octets (opened_frame b.channel 1 1 0 1 3600000 b.moment) in
+    let opened = frame_octets (opened_frame b.channel 1 1 0 1 3600000 (b.moments 0)) in
     append-nil (acked ++ (opened ++ [])) ∙ ap (λ (o : List ℕ). acked ++ o) (append-nil opened)
 
 module _ (b : Beginning) (client : Limits) (url : Option (List ℕ)) (moment : DateTime) (fits : IsTrue (hello.encodable (hello_to client url)))
@@ -49,14 +49,14 @@ module _ (b : Beginning) (client : Limits) (url : Option (List ℕ)) (moment : D
   opening_said =
       let r = opening_read b.limits b.channel client url moment fits short dated in
       said_by_run b (opening_octets client url moment) r.frames [] Going r.run
-      ∙ (ap (λ (t : List Told). output_of b.channel b.first t Going (answer_times t b.moment)) r.told_is
+      ∙ (ap (λ (t : List Told). output_of b.channel b.first t Going (answer_times t b.moments)) r.told_is
       ∙ said_first_two b (agreement_of b.limits (hello_to client url)))
 
 -- what is left behind them
 left_first_two : (b : Beginning) (g : Agreement)
-    → ((state_after b.channel b.first (Agreed g ∷ (Opened 1 0 1 3600000 ∷ [])) (answer_times (Agreed g ∷ (Opened 1 0 1 3600000 ∷ [])) b.moment)).agreement
+    → ((state_after b.channel b.first (Agreed g ∷ (Opened 1 0 1 3600000 ∷ [])) (answer_times (Agreed g ∷ (Opened 1 0 1 3600000 ∷ [])) b.moments)).agreement
     ≡ Some g)
-    × ((state_after b.channel b.first (Agreed g ∷ (Opened 1 0 1 3600000 ∷ [])) (answer_times (Agreed g ∷ (Opened 1 0 1 3600000 ∷ [])) b.moment)).number
+    × ((state_after b.channel b.first (Agreed g ∷ (Opened 1 0 1 3600000 ∷ [])) (answer_times (Agreed g ∷ (Opened 1 0 1 3600000 ∷ [])) b.moments)).number
     ≡ next_number 1)
 unfolding state_after
 left_first_two b g = (refl, refl)
@@ -68,12 +68,12 @@ state_first_two b g = refl
 
 -- a client reads that
 pub answer_read : (b : Beginning) (client : Limits) (url : Option (List ℕ)) → IsTrue (ack.encodable (ack_to (hello_to client url) b.limits))
-    → b.channel < 2 ^ 32 → IsTrue (date_time.encodable b.moment)
+    → b.channel < 2 ^ 32 → IsTrue (date_time.encodable (b.moments 0))
     → ClientReads client [] (opening_answer b client url) (heard.Agreed (ack_to (hello_to client url) b.limits) ∷ (heard.Opened b.channel 1 ∷ []))
     (opened_at (ack_to (hello_to client url) b.limits) b.channel 1 (next_number 1))
 answer_read b client url fits on dated =
     reads_opened client (frame_octets (ack_frame (ack_to (hello_to client url) b.limits))) (heard.Agreed (ack_to (hello_to client url) b.limits) ∷ [])
-    (ack_to (hello_to client url) b.limits) b.channel 1 0 1 3600000 b.moment
+    (ack_to (hello_to client url) b.limits) b.channel 1 0 1 3600000 (b.moments 0)
     (reads_ack client b.limits url fits)
     (record {
       channel_small = on;
@@ -88,7 +88,7 @@ answer_read b client url fits on dated =
 -- both are together
 pub begin_together : (b : Beginning) (url : Option (List ℕ)) (moment : DateTime) (x : ClientChannel) (site : ClientPlace)
     → IsTrue (hello.encodable (hello_to (client_limits x) url)) → url_length url ≤ 4095 → IsTrue (date_time.encodable moment)
-    → IsTrue (ack.encodable (ack_to (hello_to (client_limits x) url) b.limits)) → b.channel < 2 ^ 32 → IsTrue (date_time.encodable b.moment)
+    → IsTrue (ack.encodable (ack_to (hello_to (client_limits x) url) b.limits)) → b.channel < 2 ^ 32 → ((n : ℕ) → IsTrue (date_time.encodable (b.moments n)))
     → StandsAt x site → site.asks ≡ [] → site.octets ≡ server_output b (opening_octets (client_limits x) url moment) → client_next x ≡ 2
     → AreServing b url (opening_octets (client_limits x) url moment)
     (Agreed (agreement_of b.limits (hello_to (client_limits x) url)) ∷ (Opened 1 0 1 3600000 ∷ []))
@@ -100,7 +100,7 @@ begin_together b url moment x site fits short dated acked on answered at none oc
     let here : ClientReads (client_limits x) site.asks site.octets all c =
     subst (λ (asks : List Placed). ClientReads (client_limits x) asks site.octets all c) (sym none)
     (subst (λ (o : List ℕ). ClientReads (client_limits x) [] o all c) (sym (octets_are ∙ opening_said b (client_limits x) url moment fits short dated))
-    (answer_read b (client_limits x) url acked on answered)) in
+    (answer_read b (client_limits x) url acked on (answered 0))) in
     record {
       together = record {
         server_reads = opening_read b.limits b.channel (client_limits x) url moment fits short dated;

@@ -62,8 +62,8 @@ pub record Ran : Type 0 where
   pub down : List ℕ
   pub left : State
   -- the server begins as the caller says, with sound services, and both can open; the line is new
-  pub begun_is : begun ≡ record { limits = limits; channel = channel; first = services; moment = moment }
-  pub able : CanOpenTo (record { limits = limits; channel = channel; first = services; moment = moment }) limits url moment
+  pub begun_is : begun ≡ record { limits = limits; channel = channel; first = services; moments = λ (n : ℕ). moment }
+  pub able : CanOpenTo (record { limits = limits; channel = channel; first = services; moments = λ (n : ℕ). moment }) limits url moment
   pub sound : IsSoundState services
   pub none : old.up ≡ []
   pub nothing_read : old.read ≡ 0
@@ -76,7 +76,7 @@ pub record Ran : Type 0 where
   pub before : IfErr outcome (λ f. IsTurnFault f
       → SaysOver begun limits url moment old (λ b.
       WentBefore b limits url moment turns taken (Some (traffic_of begun old)) (Some (traffic_of begun new)) replies))
-  pub fails : IfErr outcome (λ f. SaysOver begun limits url moment old (λ b. url_length url ≤ 4095 → FailsBehind (HaveMisanswers b.first b.moment turns) f))
+  pub fails : IfErr outcome (λ f. SaysOver begun limits url moment old (λ b. url_length url ≤ 4095 → FailsBehind (HaveMisanswers b.first b.moments 1 turns) f))
   pub stops : IfErr outcome (λ f.
       SaysOver begun limits url moment old (λ b. url_length url ≤ 4095 → StopsOver f b [] (Some (traffic_of begun old)) (Some (traffic_of begun new))))
   pub failed : new.failures ≡ failures_behind old.failures outcome
@@ -116,7 +116,7 @@ reason_then (Err f) P Q by p = λ reason. by f (p reason)
 module _ (q : Ran) where
   -- the server, as the caller says that it begins
   abbrev server : Beginning
-  server = record { limits = q.limits; channel = q.channel; first = q.services; moment = q.moment }
+  server = record { limits = q.limits; channel = q.channel; first = q.services; moments = λ (n : ℕ). q.moment }
 
   abbrev was : Option Traffic
   was = Some (traffic_of q.begun q.old)
@@ -172,16 +172,16 @@ module _ (q : Ran) where
     did_leave = subst (λ (s : Stage). LeavesAtStage s q.begun q.up q.left) did_end told_services
 
     -- the state that all of it leaves
-    did_leave_all : q.left ≡ turns_state q.services q.moment q.turns
+    did_leave_all : q.left ≡ turns_state q.services (λ (n : ℕ). q.moment) 1 q.turns
     did_leave_all =
         did_leave
         ∙ (left_by_run q.begun q.up did_close_there.frames [] Over did_close_there.run
         ∙ (ap (λ (ts : List Told). state_told q.begun ts) did_close_there.told_is
         ∙ (state_closed q.begun (opening_told q.begun.limits q.limits q.url ++ turns_told 1 2 q.turns)
-        ∙ (t.state_is ∙ ap (λ (d : Beginning). turns_state d.first d.moment q.turns) q.begun_is))))
+        ∙ (t.state_is ∙ ap (λ (d : Beginning). turns_state d.first d.moments 1 q.turns) q.begun_is))))
 
-    did_reply : map (λ (r : Reply). Some r) q.replies ≡ replies_to_turns server q.limits q.url q.services 1 q.turns
-    did_reply = t.replied ∙ ap (λ (d : Beginning). replies_to_turns d q.limits q.url d.first 1 q.turns) q.begun_is
+    did_reply : map (λ (r : Reply). Some r) q.replies ≡ replies_to_turns server q.limits q.url q.services 1 1 q.turns
+    did_reply = t.replied ∙ ap (λ (d : Beginning). replies_to_turns d q.limits q.url d.first 1 1 q.turns) q.begun_is
 
     did_accept : AreAcceptedUnder (acknowledged q.limits q.limits q.url) q.turns
     did_accept = subst (λ (d : Beginning). AreAcceptedUnder (acknowledged d.limits q.limits q.url) q.turns) q.begun_is t.accepted
@@ -208,10 +208,10 @@ module _ (q : Ran) where
   pub told_sent : OnOk q.told (q.up ≡ conversation_octets q.limits q.limits q.url q.channel q.moment q.turns)
   told_sent = told_so _ did_send
 
-  pub told_replied : OnOk q.told (map (λ (r : Reply). Some r) q.replies ≡ replies_to_turns server q.limits q.url q.services 1 q.turns)
+  pub told_replied : OnOk q.told (map (λ (r : Reply). Some r) q.replies ≡ replies_to_turns server q.limits q.url q.services 1 1 q.turns)
   told_replied = told_so _ did_reply
 
-  pub told_state : OnOk q.told (q.left ≡ turns_state q.services q.moment q.turns)
+  pub told_state : OnOk q.told (q.left ≡ turns_state q.services (λ (n : ℕ). q.moment) 1 q.turns)
   told_state = told_so _ did_leave_all
 
   pub told_accepted : OnOk q.told (AreAcceptedUnder (acknowledged q.limits q.limits q.url) q.turns)

@@ -65,20 +65,21 @@ number_push a channel token number (u ∷ us) t = number_push a channel (token_b
 
 -- ---- what comes of them
 
-pub state_push : (s : State) (moment : DateTime) (turns : List (Option (List Request))) (t : Option (List Request))
-    → turns_state s moment (turns ++ t ∷ []) ≡ turn_state (turns_state s moment turns) moment t
-state_push s moment [] t = refl
-state_push s moment (u ∷ us) t = state_push (turn_state s moment u) moment us t
+pub state_push : (s : State) (moments : ℕ → DateTime) (n : ℕ) (turns : List (Option (List Request))) (t : Option (List Request))
+    → turns_state s moments n (turns ++ t ∷ []) ≡ turn_state (turns_state s moments n turns) moments (ids_behind n turns) t
+state_push s moments n [] t = refl
+state_push s moments n (u ∷ us) t = state_push (turn_state s moments n u) moments (id_behind_turn n u) us t
 
-pub replies_push : (b : Beginning) (client : Limits) (url : Option (List ℕ)) (s : State) (token : ℕ) (turns : List (Option (List Request)))
+pub replies_push : (b : Beginning) (client : Limits) (url : Option (List ℕ)) (s : State) (n token : ℕ) (turns : List (Option (List Request)))
     (t : Option (List Request))
-    → replies_to_turns b client url s token (turns ++ t ∷ []) ≡ replies_to_turns b client url s token turns
-    ++ turn_replies (lane_back_by_token b client url (tokens_behind token turns)) (turns_state s b.moment turns) b.moment t
-replies_push b client url s token [] t = append-nil (turn_replies (lane_back_by_token b client url token) s b.moment t)
-replies_push b client url s token (u ∷ us) t =
-    let one : List (Option Reply) = turn_replies (lane_back_by_token b client url token) s b.moment u in
-    let next : State = turn_state s b.moment u in
+    → replies_to_turns b client url s n token (turns ++ t ∷ []) ≡ replies_to_turns b client url s n token turns
+    ++ turn_replies (lane_back_by_token b client url (tokens_behind token turns)) (turns_state s b.moments n turns) b.moments (ids_behind n turns) t
+replies_push b client url s n token [] t = append-nil (turn_replies (lane_back_by_token b client url token) s b.moments n t)
+replies_push b client url s n token (u ∷ us) t =
+    let one : List (Option Reply) = turn_replies (lane_back_by_token b client url token) s b.moments n u in
+    let next : State = turn_state s b.moments n u in
     let k : ℕ = token_behind_turn token u in
-    ap (λ (os : List (Option Reply)). one ++ os) (replies_push b client url next k us t)
-    ∙ sym (append_assoc one (replies_to_turns b client url next k us)
-    (turn_replies (lane_back_by_token b client url (tokens_behind k us)) (turns_state next b.moment us) b.moment t))
+    let i : ℕ = id_behind_turn n u in
+    ap (λ (os : List (Option Reply)). one ++ os) (replies_push b client url next i k us t)
+    ∙ sym (append_assoc one (replies_to_turns b client url next i k us)
+    (turn_replies (lane_back_by_token b client url (tokens_behind k us)) (turns_state next b.moments i us) b.moments (ids_behind i us) t))

@@ -48,7 +48,7 @@ use Rattle.ua_loopback.proofs.Saying.{said_by_run}
 
 -- ---- what a server says of a stream that it refuses from the first frame on
 
-said_none : (b : Beginning) (code : ℕ) → output_of b.channel b.first [] (Stopped code) (answer_times [] b.moment) ≡ frame_octets (err_frame (of_code code))
+said_none : (b : Beginning) (code : ℕ) → output_of b.channel b.first [] (Stopped code) (answer_times [] b.moments) ≡ frame_octets (err_frame (of_code code))
 unfolding output_of
 said_none b code = refl
 
@@ -56,7 +56,7 @@ said_refused : (b : Beginning) (octets : List ℕ) (code : ℕ) → Run (server_
     → server_output b octets ≡ frame_octets (err_frame (of_code code))
 said_refused b octets code run =
     said_by_run b octets [] octets (Stopped code) run
-    ∙ (ap (λ (t : List Told). output_of b.channel b.first t (Stopped code) (answer_times t b.moment)) (no_events (server_rules b.limits b.channel))
+    ∙ (ap (λ (t : List Told). output_of b.channel b.first t (Stopped code) (answer_times t b.moments)) (no_events (server_rules b.limits b.channel))
     ∙ said_none b code)
 
 err_sized : (code : ℕ) → IsSized (err_frame (of_code code))

@@ -34,7 +34,7 @@ use Rattle.ua_channel_laws.proofs.ClientReadsMessages.{reads_renewal, reads_rene
 use Rattle.ua_channel_laws.proofs.Following.{client_told}
 use Rattle.ua_channel_laws.proofs.InStep.{in_step_answer, in_step_renewal}
 use Rattle.ua_channel.proofs.OpeningFrames.{opening_size}
-use Rattle.ua_server.specs.Said.{Course, state_after, course_after, said_of}
+use Rattle.ua_server.specs.Said.{Course, state_after, course_after, said_of, used_in}
 use Rattle.ua_server.proofs.SaidInParts.{course}
 use Rattle.ua_client.specs.Renewing.{IsRenewed, IsSettled, asks_renewed, is_renewed, renewal_at, renewal_refusal}
 use Rattle.ua_client.specs.ClientPlace.{ClientPlace, id_at}
@@ -45,7 +45,7 @@ use Rattle.ua_loopback.specs.Together.{AreServing, renewal_answer}
 use Rattle.ua_loopback.proofs.Reaching.{not_exhausted, renewal_read}
 use Rattle.ua_loopback.proofs.RenewedTaken.{TellsLast, just_answer}
 use Rattle.ua_loopback.proofs.Replying.{none_left}
-use Rattle.ua_loopback.proofs.Saying.{left_on}
+use Rattle.ua_loopback.proofs.Saying.{later_times, left_on}
 use Rattle.ua_loopback.proofs.Staying.{behind_told, said_more}
 
 -- ---- lists
@@ -75,7 +75,7 @@ module _ (b : Beginning) (url : Option (List ℕ)) (octets : List ℕ) (told : L
   opens = Opened id 0 token 3600000 ∷ []
 
   abbrev before : Course
-  before = state_after b.channel b.first told (answer_times told b.moment)
+  before = state_after b.channel b.first told (answer_times told b.moments)
 
   -- a token is left
   few : s.issued < 4294967295
@@ -84,26 +84,26 @@ module _ (b : Beginning) (url : Option (List ℕ)) (octets : List ℕ) (told : L
   pub server_renewed : ServerReads b.limits b.channel (octets ++ renewal_at site moment) (told ++ opens) (with_token s)
   server_renewed = renewal_read b.limits url b.channel octets told s x site c on t.together moment judged few dated
 
-  course_is : behind_told b octets told s t.together.server_reads opens ≡ course before.state c.next (b.moment ∷ []) before.agreement
+  course_is : behind_told b octets told s t.together.server_reads opens ≡ course before.state c.next (b.moments (used_in told) ∷ []) before.agreement
   course_is =
-      ap (λ (ms : List DateTime). course before.state before.number (ms ++ answer_times opens b.moment) before.agreement)
-      (none_left b.channel b.first told b.moment)
-      ∙ ap (λ (n : ℕ). course before.state n (b.moment ∷ []) before.agreement) t.says_next
+      ap (λ (ms : List DateTime). course before.state before.number (ms ++ later_times told opens b.moments) before.agreement)
+      (none_left b.channel b.first told b.moments)
+      ∙ ap (λ (n : ℕ). course before.state n (b.moments (used_in told) ∷ []) before.agreement) t.says_next
 
   -- its OPN response, with the next token
-  pub renewal_said : server_output b (octets ++ renewal_at site moment) ≡ server_output b octets ++ renewal_answer b c.next id token
+  pub renewal_said : server_output b (octets ++ renewal_at site moment) ≡ server_output b octets ++ renewal_answer b (b.moments (used_in told)) c.next id token
   renewal_said =
       said_more b octets told s t.together.server_reads (octets ++ renewal_at site moment) opens (with_token s) server_renewed
       ∙ (ap (λ (k : Course). server_output b octets ++ said_of b.channel k opens) course_is
-      ∙ ap (λ (o : List ℕ). server_output b octets ++ o) (append-nil (renewal_answer b c.next id token)))
+      ∙ ap (λ (o : List ℕ). server_output b octets ++ o) (append-nil (renewal_answer b (b.moments (used_in told)) c.next id token)))
 
-  left_renewed : state_after b.channel b.first (told ++ opens) (answer_times (told ++ opens) b.moment)
-      ≡ course_after b.channel (course before.state c.next (b.moment ∷ []) before.agreement) opens
+  left_renewed : state_after b.channel b.first (told ++ opens) (answer_times (told ++ opens) b.moments)
+      ≡ course_after b.channel (course before.state c.next (b.moments (used_in told) ∷ []) before.agreement) opens
   left_renewed = left_on b told opens ∙ ap (λ (k : Course). course_after b.channel k opens) course_is
 
   -- ---- what the client reads of that
 
-  module _ (settled : IsSettled site) (answered : IsTrue (date_time.encodable b.moment)) where
+  module _ (settled : IsSettled site) (answered : (n : ℕ) → IsTrue (date_time.encodable (b.moments n))) where
     abbrev waiting : AtClient
     waiting = with_renewal c id
 
@@ -111,7 +111,7 @@ module _ (b : Beginning) (url : Option (List ℕ)) (octets : List ℕ) (told : L
     now = with_answer waiting token (next_number c.next)
 
     abbrev answer : Frame
-    answer = opened_frame c.channel c.next id 0 token 3600000 b.moment
+    answer = opened_frame c.channel c.next id 0 token 3600000 (b.moments (used_in told))
 
     -- no renewal was unanswered
     none_waits : c.renewals ≡ []
@@ -125,7 +125,7 @@ module _ (b : Beginning) (url : Option (List ℕ)) (octets : List ℕ) (told : L
     asked : ClientReads (client_limits x) (asks_renewed site) site.octets site.told waiting
     asked = reads_renewal (client_limits x) site.asks site.octets site.told c t.together.client_reads
 
-    can_be_read : IsAnswered c.channel c.next id 0 token 3600000 b.moment
+    can_be_read : IsAnswered c.channel c.next id 0 token 3600000 (b.moments (used_in told))
     can_be_read = record {
       channel_small = omega (arith, t.together.in_step.channel_is, on);
       number_small = t.together.client_reads.next_small;
@@ -133,18 +133,18 @@ module _ (b : Beginning) (url : Option (List ℕ)) (octets : List ℕ) (told : L
       handle_small = omega arith;
       token_small = omega (arith, few);
       lifetime_small = omega arith;
-      moment_fits = answered;
+      moment_fits = answered (used_in told);
     }
 
     reads_it : ClientReads (client_limits x) (asks_renewed site) (site.octets ++ frame_octets answer) (site.told ++ heard.Renewed token ∷ []) now
     reads_it =
-        reads_renewed (client_limits x) (asks_renewed site) site.octets site.told waiting id 0 token 3600000 b.moment asked can_be_read
+        reads_renewed (client_limits x) (asks_renewed site) site.octets site.told waiting id 0 token 3600000 (b.moments (used_in told)) asked can_be_read
         (ap (λ (ids : List ℕ). ids ++ id ∷ []) none_waits) (none_past s.issued c.tokens t.issued)
 
     answer_is : site.octets ++ frame_octets answer ≡ server_output b (octets ++ renewal_at site moment)
     answer_is =
-        ap (λ (k : ℕ). site.octets ++ frame_octets (opened_frame k c.next id 0 token 3600000 b.moment)) t.together.in_step.channel_is
-        ∙ (ap (λ (o : List ℕ). o ++ renewal_answer b c.next id token) t.taken ∙ sym renewal_said)
+        ap (λ (k : ℕ). site.octets ++ frame_octets (opened_frame k c.next id 0 token 3600000 (b.moments (used_in told)))) t.together.in_step.channel_is
+        ∙ (ap (λ (o : List ℕ). o ++ renewal_answer b (b.moments (used_in told)) c.next id token) t.taken ∙ sym renewal_said)
 
     -- the client reads it
     pub renewal_heard : ClientReads (client_limits x) (asks_renewed site) (server_output b (octets ++ renewal_at site moment))
@@ -167,8 +167,8 @@ module _ (b : Beginning) (url : Option (List ℕ)) (octets : List ℕ) (told : L
       sized : IsSized answer
       sized = omega (
         arith,
-        opening_size c.channel c.next id ((message 449 open_response).canonical (open_response_of b.moment 0 c.channel token 3600000)),
-        open_response_length b.moment 0 c.channel token 3600000,
+        opening_size c.channel c.next id ((message 449 open_response).canonical (open_response_of (b.moments (used_in told)) 0 c.channel token 3600000)),
+        open_response_length (b.moments (used_in told)) 0 c.channel token 3600000,
       )
 
       abbrev rules : Rules Heard Why

@@ -1,6 +1,6 @@
 -- What becomes of requests: each is answered in the state that those before it left, and its reply is the one that is read of that answer.
 use Rattle.std.proofs.Common.{◌≡◌, inl, inr, ℕ, zero, suc, ◌+◌, Bool, true, false, IsTrue, Ok, Result, List, [], ◌∷◌, ◌++◌, Option, Some}
-use Rattle.std.proofs.Common.{None, length, map, replicate, refl, sym, ◌∙◌, ap, subst, arith, append-nil, append_assoc, length-append}
+use Rattle.std.proofs.Common.{None, length, map, refl, sym, ◌∙◌, ap, subst, add-zero, arith, append-nil, append_assoc, length-append}
 use Rattle.std.specs.Prelude.{cond}
 use Rattle.std.specs.List.{AllByRecursion}
 use Rattle.std.proofs.lemmas.Bool.{eq-eqb, ne_eqb}
@@ -29,6 +29,7 @@ use Rattle.ua_server.specs.Answer.{answer}
 use Rattle.ua_server.specs.Reply.{answered, answered_by}
 use Rattle.ua_server.specs.Said.{Course, behind_first, first_time, state_after, course_after, say, start, used_in, with_more}
 use Rattle.ua_server.specs.State.{State}
+use Rattle.ua_server.proofs.SaidInParts.{used_in-append}
 use Rattle.ua_client.specs.Replies.{AreReplies, IsRequestAt, IsMisanswer, IsNoAnswer, IsReplyBy}
 use Rattle.ua_client.specs.Sent.{bodies_of}
 use Rattle.ua_client.specs.Told.{is_told_of, told_of}
@@ -36,10 +37,10 @@ use Rattle.ua_client.specs.declared.reply.Reply.{Reply}
 use Rattle.ua_client.specs.declared.reply.Reply.TheVariants as reply
 use Rattle.ua_loopback.specs.Beginning.{Beginning}
 use Rattle.ua_loopback.specs.Replies.{HaveMisanswer, reply_read, reply_unless, requests_replies, state_behind_requests}
-use Rattle.ua_loopback.specs.Says.{answer_times, state_told}
+use Rattle.ua_loopback.specs.Says.{answer_times, state_told, times_from}
 use Rattle.ua_loopback.specs.Turns.{calls_told}
 use Rattle.ua_loopback.proofs.Answering.{answer_told, answers_told}
-use Rattle.ua_loopback.proofs.Saying.{left_on}
+use Rattle.ua_loopback.proofs.Saying.{later_times, left_on}
 
 -- each of the requests can be encoded
 abbrev pub AreWritable : List Request → Type 0
@@ -60,61 +61,75 @@ none_used n = omega arith
 one_used : (n : ℕ) → 1 + n ≡ suc n
 one_used n = omega arith
 
--- where there is a moment for each answer, these are left
-moments_left : (channel : ℕ) (c : Course) (told : List Told) (m : DateTime) (rest : List DateTime) → c.moments ≡ replicate (used_in told) m ++ rest
-    → (course_after channel c told).moments ≡ rest
-moments_left channel c [] m rest e = e
-moments_left channel c (Agreed g ∷ told) m rest e = moments_left channel (say channel c (Agreed g)).1 told m rest
-    (subst (λ (n : ℕ). c.moments ≡ replicate n m ++ rest) (none_used (used_in told)) e)
-moments_left channel c (Opened id handle token lifetime ∷ told) m rest e =
-    moments_left channel (say channel c (Opened id handle token lifetime)).1 told m rest
-    (ap behind_first (subst (λ (n : ℕ). c.moments ≡ replicate n m ++ rest) (one_used (used_in told)) e))
-moments_left channel c (Asked id token octets ∷ told) m rest e =
-    moments_left channel (say channel c (Asked id token octets)).1 told m rest
-    (ap behind_first (subst (λ (n : ℕ). c.moments ≡ replicate n m ++ rest) (one_used (used_in told)) e))
-moments_left channel c (GaveUp id ∷ told) m rest e = moments_left channel (say channel c (GaveUp id)).1 told m rest
-    (subst (λ (n : ℕ). c.moments ≡ replicate n m ++ rest) (none_used (used_in told)) e)
-moments_left channel c (Closed ∷ told) m rest e = moments_left channel (say channel c Closed).1 told m rest
-    (subst (λ (n : ℕ). c.moments ≡ replicate n m ++ rest) (none_used (used_in told)) e)
+one_on : (j n : ℕ) → j + suc n ≡ (j + 1) + n
+one_on j n = omega arith
 
-pub none_left : (channel : ℕ) (first : State) (told : List Told) (moment : DateTime) → (state_after channel first told (answer_times told moment)).moments
-    ≡ []
+-- where there is a moment for each answer, these are left
+moments_left : (channel : ℕ) (c : Course) (told : List Told) (f : ℕ → DateTime) (j : ℕ) (rest : List DateTime)
+    → c.moments ≡ times_from f j (used_in told) ++ rest
+    → (course_after channel c told).moments ≡ rest
+moments_left channel c [] f j rest e = e
+moments_left channel c (Agreed g ∷ told) f j rest e = moments_left channel (say channel c (Agreed g)).1 told f j rest
+    (subst (λ (n : ℕ). c.moments ≡ times_from f j n ++ rest) (none_used (used_in told)) e)
+moments_left channel c (Opened id handle token lifetime ∷ told) f j rest e =
+    moments_left channel (say channel c (Opened id handle token lifetime)).1 told f (j + 1) rest
+    (ap behind_first (subst (λ (n : ℕ). c.moments ≡ times_from f j n ++ rest) (one_used (used_in told)) e))
+moments_left channel c (Asked id token octets ∷ told) f j rest e =
+    moments_left channel (say channel c (Asked id token octets)).1 told f (j + 1) rest
+    (ap behind_first (subst (λ (n : ℕ). c.moments ≡ times_from f j n ++ rest) (one_used (used_in told)) e))
+moments_left channel c (GaveUp id ∷ told) f j rest e = moments_left channel (say channel c (GaveUp id)).1 told f j rest
+    (subst (λ (n : ℕ). c.moments ≡ times_from f j n ++ rest) (none_used (used_in told)) e)
+moments_left channel c (Closed ∷ told) f j rest e = moments_left channel (say channel c Closed).1 told f j rest
+    (subst (λ (n : ℕ). c.moments ≡ times_from f j n ++ rest) (none_used (used_in told)) e)
+
+pub none_left : (channel : ℕ) (first : State) (told : List Told) (moments : ℕ → DateTime)
+    → (state_after channel first told (answer_times told moments)).moments ≡ []
 unfolding state_after
-none_left channel first told moment = moments_left channel (start first (answer_times told moment)) told moment []
-    (sym (append-nil (answer_times told moment)))
+none_left channel first told moments = moments_left channel (start first (answer_times told moments)) told moments 0 []
+    (sym (append-nil (answer_times told moments)))
 
 pub calls_used : (token id : ℕ) (bodies : List (List ℕ)) → used_in (calls_told token id bodies) ≡ length bodies
 calls_used token id [] = refl
 calls_used token id (body ∷ bodies) = let more = calls_used token (id + 1) bodies in omega (arith, more)
 
+-- the answers behind calls of these requests
+pub used_behind : (told : List Told) (token id : ℕ) (ms : List Request) → used_in (told ++ calls_told token id (bodies_of ms)) ≡ used_in told + length ms
+used_behind told token id ms = omega (
+  arith,
+  used_in-append told (calls_told token id (bodies_of ms)),
+  calls_used token id (bodies_of ms),
+  length-map ms request.canonical,
+)
+
 -- ---- states
 
-calls_state : (channel : ℕ) (c : Course) (token id : ℕ) (ms : List Request) (m : DateTime) (rest : List DateTime) → AreWritable ms
-    → c.moments ≡ replicate (length ms) m ++ rest
-    → (course_after channel c (calls_told token id (bodies_of ms))).state ≡ state_behind_requests c.state m ms
-calls_state channel c token id [] m rest fits e = refl
-calls_state channel c token id (msg ∷ ms) m rest fits e =
+calls_state : (channel : ℕ) (c : Course) (token id : ℕ) (ms : List Request) (f : ℕ → DateTime) (j : ℕ) (rest : List DateTime) → AreWritable ms
+    → c.moments ≡ times_from f j (length ms) ++ rest
+    → (course_after channel c (calls_told token id (bodies_of ms))).state ≡ state_behind_requests c.state f j ms
+calls_state channel c token id [] f j rest fits e = refl
+calls_state channel c token id (msg ∷ ms) f j rest fits e =
     let next : Course = (say channel c (Asked id token (request.canonical msg))).1 in
-    calls_state channel next token (id + 1) ms m rest fits.1 (ap behind_first e)
-    ∙ (ap (λ (t : DateTime). state_behind_requests (answered c.state t (request.canonical msg)).0 m ms) (ap first_time e)
-    ∙ ap (λ (g : State × Response). state_behind_requests g.0 m ms) (answered_is c.state m msg fits.0))
+    calls_state channel next token (id + 1) ms f (j + 1) rest fits.1 (ap behind_first e)
+    ∙ (ap (λ (t : DateTime). state_behind_requests (answered c.state t (request.canonical msg)).0 f (j + 1) ms) (ap first_time e)
+    ∙ ap (λ (g : State × Response). state_behind_requests g.0 f (j + 1) ms) (answered_is c.state (f j) msg fits.0))
 
 -- the moments that are there behind what was told, with those for these calls
 pub moments_there : (b : Beginning) (told : List Told) (token id : ℕ) (bodies : List (List ℕ))
-    → (state_after b.channel b.first told (answer_times told b.moment)).moments ++ answer_times (calls_told token id bodies) b.moment
-    ≡ replicate (length bodies) b.moment ++ []
+    → (state_after b.channel b.first told (answer_times told b.moments)).moments ++ later_times told (calls_told token id bodies) b.moments
+    ≡ times_from b.moments (used_in told) (length bodies) ++ []
 moments_there b told token id bodies =
-    ap (λ (ms : List DateTime). ms ++ answer_times (calls_told token id bodies) b.moment) (none_left b.channel b.first told b.moment)
-    ∙ (ap (λ (n : ℕ). replicate n b.moment) (calls_used token id bodies) ∙ sym (append-nil (replicate (length bodies) b.moment)))
+    ap (λ (ms : List DateTime). ms ++ later_times told (calls_told token id bodies) b.moments) (none_left b.channel b.first told b.moments)
+    ∙ (ap (λ (n : ℕ). times_from b.moments (used_in told) n) (calls_used token id bodies)
+    ∙ sym (append-nil (times_from b.moments (used_in told) (length bodies))))
 
 pub state_calls : (b : Beginning) (told : List Told) (token id : ℕ) (ms : List Request) → AreWritable ms
-    → state_told b (told ++ calls_told token id (bodies_of ms)) ≡ state_behind_requests (state_told b told) b.moment ms
+    → state_told b (told ++ calls_told token id (bodies_of ms)) ≡ state_behind_requests (state_told b told) b.moments (used_in told) ms
 state_calls b told token id ms fits =
     ap (λ (k : Course). k.state) (left_on b told (calls_told token id (bodies_of ms)))
     ∙ calls_state b.channel
-    (with_more (state_after b.channel b.first told (answer_times told b.moment)) (answer_times (calls_told token id (bodies_of ms)) b.moment)) token
-    id ms b.moment [] fits
-    (moments_there b told token id (bodies_of ms) ∙ ap (λ (n : ℕ). replicate n b.moment ++ []) (length-map ms request.canonical))
+    (with_more (state_after b.channel b.first told (answer_times told b.moments)) (later_times told (calls_told token id (bodies_of ms)) b.moments)) token
+    id ms b.moments (used_in told) [] fits
+    (moments_there b told token id (bodies_of ms) ∙ ap (λ (n : ℕ). times_from b.moments (used_in told) n ++ []) (length-map ms request.canonical))
 
 pub state_renewal : (b : Beginning) (told : List Told) (id handle token lifetime : ℕ) → state_told b (told ++ Opened id handle token lifetime ∷ [])
     ≡ state_told b told
@@ -157,14 +172,14 @@ reply_is (Some fault) kind id body (reply.Aborted code) h =
     let same : code ≡ of_code 0x80B9_0000 = cc in
     ap (λ (c : StatusCode). Some (reply.Aborted c)) same
 
-pub replies_are : (back : Lane) (state : State) (moments : List DateTime) (id : ℕ) (ms : List Request) (m : DateTime) (rest : List DateTime)
-    (before all : List Heard) (replies : List Reply) → AreWritable ms → moments ≡ replicate (length ms) m ++ rest
+pub replies_are : (back : Lane) (state : State) (moments : List DateTime) (id : ℕ) (ms : List Request) (f : ℕ → DateTime) (j : ℕ)
+    (rest : List DateTime) (before all : List Heard) (replies : List Reply) → AreWritable ms → moments ≡ times_from f j (length ms) ++ rest
     → all ≡ before ++ answers_told back state moments id (bodies_of ms) → AreReplies ms id all replies
-    → map (λ (r : Reply). Some r) replies ≡ requests_replies back state m ms
-replies_are back state moments id [] m rest before all [] fits e is h = refl
-replies_are back state moments id [] m rest before all (r ∷ rs) fits e is h = absurd h
-replies_are back state moments id (msg ∷ ms) m rest before all [] fits e is h = absurd h
-replies_are back state moments id (msg ∷ ms) m rest before all (r ∷ rs) fits e is h =
+    → map (λ (r : Reply). Some r) replies ≡ requests_replies back state f j ms
+replies_are back state moments id [] f j rest before all [] fits e is h = refl
+replies_are back state moments id [] f j rest before all (r ∷ rs) fits e is h = absurd h
+replies_are back state moments id (msg ∷ ms) f j rest before all [] fits e is h = absurd h
+replies_are back state moments id (msg ∷ ms) f j rest before all (r ∷ rs) fits e is h =
     let given : State × Response = answered state (first_time moments) (request.canonical msg) in
     let x : Heard = answer_told back id given.1 in
     let behind : List Heard = answers_told back given.0 (behind_first moments) (id + 1) (bodies_of ms) in
@@ -172,13 +187,13 @@ replies_are back state moments id (msg ∷ ms) m rest before all (r ∷ rs) fits
     let same : h.0.0 ≡ x = told_one id before behind x h.0.0 (is_of (cut_refusal back body) id body) (ap (told_of id) (sym is) ∙ h.0.1) in
     let one : Some r ≡ reply_unless (cut_refusal back body) body = reply_is (cut_refusal back body) (kind_of_request msg) id body r
     (subst (λ (t : Heard). IsReplyBy (kind_of_request msg) id t r) same h.0.2) in
-    let given_is : given ≡ answer state m msg = ap (λ (t : DateTime). answered state t (request.canonical msg)) (ap first_time e)
-    ∙ answered_is state m msg fits.0 in
-    let later = replies_are back given.0 (behind_first moments) (id + 1) ms m rest (before ++ x ∷ []) all rs fits.1 (ap behind_first e)
+    let given_is : given ≡ answer state (f j) msg = ap (λ (t : DateTime). answered state t (request.canonical msg)) (ap first_time e)
+    ∙ answered_is state (f j) msg fits.0 in
+    let later = replies_are back given.0 (behind_first moments) (id + 1) ms f (j + 1) rest (before ++ x ∷ []) all rs fits.1 (ap behind_first e)
     (is ∙ sym (append_assoc before (x ∷ []) behind)) h.1 in
     ap (λ (o : Option Reply). o ∷ map (λ (s : Reply). Some s) rs) one
     ∙ (ap (λ (os : List (Option Reply)). reply_unless (cut_refusal back body) body ∷ os) later
-    ∙ ap (λ (g : State × Response). reply_unless (cut_refusal back (response.canonical g.1)) (response.canonical g.1) ∷ requests_replies back g.0 m ms)
+    ∙ ap (λ (g : State × Response). reply_unless (cut_refusal back (response.canonical g.1)) (response.canonical g.1) ∷ requests_replies back g.0 f (j + 1) ms)
     given_is)
 
 -- ---- answers that are none
@@ -209,19 +224,19 @@ answered_by_it None id k body octets e = cc
 answered_by_it (Some fault) id k body octets e = let no : ◌≡◌ {A = Heard} (heard.GaveUp id (of_code 0x80B9_0000)) (heard.Answered k octets) = e in absurd cc
 
 -- a message that is told of one of these requests and is no answer to it is the answer of the server
-pub misanswered_at : (back : Lane) (state : State) (moments : List DateTime) (id k : ℕ) (ms : List Request) (m : DateTime) (rest : List DateTime)
+pub misanswered_at : (back : Lane) (state : State) (moments : List DateTime) (id k : ℕ) (ms : List Request) (f : ℕ → DateTime) (j : ℕ) (rest : List DateTime)
     (before all : List Heard) (place : ℕ) (asked : Request) (us : List Heard) (last : Heard) (ws : List Heard)
-    → AreWritable ms → moments ≡ replicate (length ms) m ++ rest → all ≡ before ++ answers_told back state moments id (bodies_of ms) → k ≡ id + place
+    → AreWritable ms → moments ≡ times_from f j (length ms) ++ rest → all ≡ before ++ answers_told back state moments id (bodies_of ms) → k ≡ id + place
     → told_of k before ≡ [] → IsRequestAt ms place asked
-    → all ≡ us ++ last ∷ ws → told_of k us ≡ [] → IsMisanswer (kind_of_request asked) k last → HaveMisanswer state m ms
-misanswered_at back state moments id k [] m rest before all place asked us last ws fits e is k_is none at parts first h = absurd at
-misanswered_at back state moments id k (msg ∷ ms) m rest before all zero asked us last ws fits e is k_is none at parts first h =
+    → all ≡ us ++ last ∷ ws → told_of k us ≡ [] → IsMisanswer (kind_of_request asked) k last → HaveMisanswer state f j ms
+misanswered_at back state moments id k [] f j rest before all place asked us last ws fits e is k_is none at parts first h = absurd at
+misanswered_at back state moments id k (msg ∷ ms) f j rest before all zero asked us last ws fits e is k_is none at parts first h =
     let given : State × Response = answered state (first_time moments) (request.canonical msg) in
     let body : List ℕ = response.canonical given.1 in
     let x : Heard = answer_told back id given.1 in
     let behind : List Heard = answers_told back given.0 (behind_first moments) (id + 1) (bodies_of ms) in
-    let given_is : given ≡ answer state m msg = ap (λ (t : DateTime). answered state t (request.canonical msg)) (ap first_time e)
-    ∙ answered_is state m msg fits.0 in
+    let given_is : given ≡ answer state (f j) msg = ap (λ (t : DateTime). answered state t (request.canonical msg)) (ap first_time e)
+    ∙ answered_is state (f j) msg fits.0 in
     let here : told_of k all ≡ x ∷ told_of k behind = ap (told_of k) is
     ∙ picks k before x behind none (of_itself (cut_refusal back body) id k body (omega (arith, k_is))) in
     let there : told_of k all ≡ last ∷ told_of k ws = ap (told_of k) parts ∙ picks k us last ws first (ap (is_told_of k) h.1 ∙ eq-eqb k k refl) in
@@ -232,36 +247,44 @@ misanswered_at back state moments id k (msg ∷ ms) m rest before all zero asked
           (subst (λ (o : List ℕ). IsNoAnswer (kind_of_request msg) o) (answered_by_it (cut_refusal back body) id k body h.0 (same ∙ h.1))
           (subst (λ (r : Request). IsNoAnswer (kind_of_request r) h.0) at h.2)),
     )
-misanswered_at back state moments id k (msg ∷ ms) m rest before all (suc n) asked us last ws fits e is k_is none at parts first h =
+misanswered_at back state moments id k (msg ∷ ms) f j rest before all (suc n) asked us last ws fits e is k_is none at parts first h =
     let given : State × Response = answered state (first_time moments) (request.canonical msg) in
     let body : List ℕ = response.canonical given.1 in
     let x : Heard = answer_told back id given.1 in
     let behind : List Heard = answers_told back given.0 (behind_first moments) (id + 1) (bodies_of ms) in
-    let given_is : given ≡ answer state m msg = ap (λ (t : DateTime). answered state t (request.canonical msg)) (ap first_time e)
-    ∙ answered_is state m msg fits.0 in
-    let later = misanswered_at back given.0 (behind_first moments) (id + 1) k ms m rest (before ++ x ∷ []) all n asked us last ws fits.1 (ap behind_first e)
+    let given_is : given ≡ answer state (f j) msg = ap (λ (t : DateTime). answered state t (request.canonical msg)) (ap first_time e)
+    ∙ answered_is state (f j) msg fits.0 in
+    let later = misanswered_at back given.0 (behind_first moments) (id + 1) k ms f (j + 1) rest (before ++ x ∷ []) all n asked us last ws fits.1
+    (ap behind_first e)
     (is ∙ sym (append_assoc before (x ∷ []) behind)) (omega (arith, k_is))
     (passes k before x none (of_no_other (cut_refusal back body) id k body (λ same. omega (arith, same, k_is)))) at parts first h in
-    inr (subst (λ (g : State × Response). HaveMisanswer g.0 m ms) given_is later)
+    inr (subst (λ (g : State × Response). HaveMisanswer g.0 f (j + 1) ms) given_is later)
 
 -- the same by the answers to requests behind others
-pub misanswered_behind : (s : State) (m : DateTime) (ms ns : List Request) → HaveMisanswer (state_behind_requests s m ms) m ns → HaveMisanswer s m (ms ++ ns)
-misanswered_behind s m [] ns h = h
-misanswered_behind s m (r ∷ ms) ns h = inr (misanswered_behind (answer s m r).0 m ms ns h)
+pub misanswered_behind : (s : State) (f : ℕ → DateTime) (j : ℕ) (ms ns : List Request)
+    → HaveMisanswer (state_behind_requests s f j ms) f (j + length ms) ns → HaveMisanswer s f j (ms ++ ns)
+misanswered_behind s f j [] ns h = subst (λ (n : ℕ). HaveMisanswer s f n ns) (add-zero j) h
+misanswered_behind s f j (r ∷ ms) ns h =
+    inr (misanswered_behind (answer s (f j) r).0 f (j + 1) ms ns
+    (subst (λ (n : ℕ). HaveMisanswer (state_behind_requests (answer s (f j) r).0 f (j + 1) ms) f n ns) (one_on j (length ms)) h))
 
-pub misanswered_among : (s : State) (m : DateTime) (ms ns : List Request) → HaveMisanswer s m ms → HaveMisanswer s m (ms ++ ns)
-misanswered_among s m [] ns h = absurd h
-misanswered_among s m (r ∷ ms) ns (inl h) = inl h
-misanswered_among s m (r ∷ ms) ns (inr h) = inr (misanswered_among (answer s m r).0 m ms ns h)
+pub misanswered_among : (s : State) (f : ℕ → DateTime) (j : ℕ) (ms ns : List Request) → HaveMisanswer s f j ms → HaveMisanswer s f j (ms ++ ns)
+misanswered_among s f j [] ns h = absurd h
+misanswered_among s f j (r ∷ ms) ns (inl h) = inl h
+misanswered_among s f j (r ∷ ms) ns (inr h) = inr (misanswered_among (answer s (f j) r).0 f (j + 1) ms ns h)
 
 -- ---- requests behind others
 
-pub replies-append : (back : Lane) (s : State) (moment : DateTime) (ms ns : List Request)
-    → requests_replies back s moment (ms ++ ns) ≡ requests_replies back s moment ms ++ requests_replies back (state_behind_requests s moment ms) moment ns
-replies-append back s moment [] ns = refl
-replies-append back s moment (m ∷ ms) ns =
-    ap (λ (os : List (Option Reply)). reply_unless (cut_refusal back (response.canonical (answer s moment m).1)) (response.canonical (answer s moment m).1)
-    ∷ os) (replies-append back (answer s moment m).0 moment ms ns)
+pub replies-append : (back : Lane) (s : State) (f : ℕ → DateTime) (j : ℕ) (ms ns : List Request) → requests_replies back s f j (ms ++ ns)
+    ≡ requests_replies back s f j ms ++ requests_replies back (state_behind_requests s f j ms) f (j + length ms) ns
+replies-append back s f j [] ns = ap (λ (n : ℕ). requests_replies back s f n ns) (sym (add-zero j))
+replies-append back s f j (m ∷ ms) ns =
+    let next : State = (answer s (f j) m).0 in
+    ap (λ (os : List (Option Reply)). reply_unless (cut_refusal back (response.canonical (answer s (f j) m).1)) (response.canonical (answer s (f j) m).1)
+    ∷ os)
+    (replies-append back next f (j + 1) ms ns
+    ∙ ap (λ (n : ℕ). requests_replies back next f (j + 1) ms ++ requests_replies back (state_behind_requests next f (j + 1) ms) f n ns)
+    (sym (one_on j (length ms))))
 
 pub some-append : (xs ys : List Reply) → map (λ (r : Reply). Some r) (xs ++ ys) ≡ map (λ (r : Reply). Some r) xs ++ map (λ (r : Reply). Some r) ys
 some-append [] ys = refl

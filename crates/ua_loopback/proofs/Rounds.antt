@@ -1,5 +1,5 @@
 -- That both ends stay in step behind groups of calls that are answered, one behind another, and behind a renewal.
-use Rattle.std.proofs.Common.{◌≡◌, ℕ, ◌+◌, ◌<◌, Bool, IsTrue, List, [], ◌∷◌, ◌++◌, Option, Some, None, length, map, replicate}
+use Rattle.std.proofs.Common.{◌≡◌, ℕ, ◌+◌, ◌<◌, Bool, IsTrue, List, [], ◌∷◌, ◌++◌, Option, Some, None, length, map}
 use Rattle.std.proofs.Common.{zero, suc, refl, sym, ◌∙◌, ap, subst, arith, append-nil, append_assoc, length-append, add-zero}
 use Rattle.std.specs.List.{AllByRecursion}
 use Rattle.std.proofs.lemmas.List.{length-map}
@@ -28,7 +28,7 @@ use Rattle.ua_channel.specs.ServerTold.{Told, Asked, Opened}
 use Rattle.ua_channel.specs.declared.client.channel.ClientChannel.{ClientChannel}
 use Rattle.ua_channel.proofs.Askings.{asked_in-push}
 use Rattle.ua_services.specs.Request.{request}
-use Rattle.ua_server.specs.Said.{state_after}
+use Rattle.ua_server.specs.Said.{state_after, used_in}
 use Rattle.ua_server.specs.State.{State}
 use Rattle.ua_services.specs.declared.request.Request.{Request}
 use Rattle.ua_client.specs.Calls.{Answered, AreGroups, LastCame, Rounds, all_of, refusal_at, sent_at}
@@ -44,8 +44,8 @@ use Rattle.ua_client.proofs.Grouping.{concat-push}
 use Rattle.ua_client.proofs.Settled.{NonePending, answered-settled}
 use Rattle.ua_loopback.specs.Accepted.{acknowledged, held_behind_calls, turn_reasons_under}
 use Rattle.ua_loopback.specs.Beginning.{Beginning}
-use Rattle.ua_loopback.specs.Replies.{lane_back_by_token, requests_replies}
-use Rattle.ua_loopback.specs.Says.{server_output, answer_times, state_told}
+use Rattle.ua_loopback.specs.Replies.{lane_back_by_token, requests_replies, state_behind_requests}
+use Rattle.ua_loopback.specs.Says.{server_output, answer_times, state_told, times_from}
 use Rattle.ua_loopback.specs.Together.{AreServing, behind_calls}
 use Rattle.ua_loopback.specs.Turns.{calls_told}
 use Rattle.ua_loopback.specs.Talking.{IsServed}
@@ -53,8 +53,8 @@ use Rattle.ua_loopback.proofs.Answering.{issued_stays}
 use Rattle.ua_loopback.proofs.Ending.{all_last}
 use Rattle.ua_loopback.proofs.Reaching.{acked_here, few_ids, lane_here, not_exhausted, requests_asked, tokens_here, writable}
 use Rattle.ua_loopback.proofs.Renewed.{renewal_taken, renewed_together}
-use Rattle.ua_loopback.proofs.Saying.{said_further}
-use Rattle.ua_loopback.proofs.Replying.{AreWritable, moments_there, replies-append, replies_are, some-append, state_calls}
+use Rattle.ua_loopback.proofs.Saying.{later_times, said_further}
+use Rattle.ua_loopback.proofs.Replying.{AreWritable, moments_there, replies-append, replies_are, some-append, state_calls, used_behind}
 use Rattle.ua_loopback.proofs.Staying.{answered_taken, stay_together, told_together}
 
 -- ---- lists
@@ -229,22 +229,24 @@ module _ (b : Beginning) (limits : Limits) (url : Option (List ℕ)) (octets : L
 
     -- the replies
     pub group_replied : AreWritable requests → map (λ (r : Reply). Some r) replies ≡ requests_replies (lane_back_by_token b limits url token)
-        (state_told b told) b.moment requests
+        (state_told b told) b.moments (used_in told) requests
     group_replied fits =
         let hello_is : s.hello ≡ hello_to limits url = t.serving.together.in_step.hello_is ∙ ap (λ (l : Limits). hello_to l url) t.limits_are in
         let all = told_together b url octets told s x site c requests t.on t.serving some a.judged behind taken replies a y at same_limits took_group in
         let moments = moments_there b told c.newest (id_at site) (bodies_of requests)
-        ∙ ap (λ (n : ℕ). replicate n b.moment ++ []) (length-map requests request.canonical) in
+        ∙ ap (λ (n : ℕ). times_from b.moments (used_in told) n ++ []) (length-map requests request.canonical) in
         replies_are (lane_of b.channel c.newest (agreement_of b.limits s.hello)) (state_told b told)
-        ((state_after b.channel b.first told (answer_times told b.moment)).moments
-        ++ answer_times (calls_told c.newest (id_at site) (bodies_of requests)) b.moment) (id_at site) requests b.moment [] site.told behind.told
-        replies
+        ((state_after b.channel b.first told (answer_times told b.moments)).moments
+        ++ later_times told (calls_told c.newest (id_at site) (bodies_of requests)) b.moments) (id_at site) requests b.moments (used_in told) [] site.told
+        behind.told replies
         fits moments all a.replies_are
-        ∙ (ap (λ (k : ℕ). requests_replies (lane_of b.channel k (agreement_of b.limits s.hello)) (state_told b told) b.moment requests) t.newest_is
-        ∙ ap (λ (h : Hello). requests_replies (lane_of b.channel token (agreement_of b.limits h)) (state_told b told) b.moment requests) hello_is)
+        ∙ (ap (λ (k : ℕ). requests_replies (lane_of b.channel k (agreement_of b.limits s.hello)) (state_told b told) b.moments (used_in told) requests)
+        t.newest_is
+        ∙ ap (λ (h : Hello). requests_replies (lane_of b.channel token (agreement_of b.limits h)) (state_told b told) b.moments (used_in told) requests)
+        hello_is)
 
   -- the token is renewed
-  module _ (moment : DateTime) (dated : IsTrue (date_time.encodable moment)) (answered : IsTrue (date_time.encodable b.moment))
+  module _ (moment : DateTime) (dated : IsTrue (date_time.encodable moment)) (answered : (n : ℕ) → IsTrue (date_time.encodable (b.moments n)))
       (judged : renewal_refusal site ≡ None) (r : IsRenewed y site behind taken)
       (said : Extends (server_output b (octets ++ renewal_at site moment)) down) where
     took_renewal : behind.octets ≡ server_output b (octets ++ renewal_at site moment)
@@ -348,7 +350,8 @@ held_twice held m n some = held_some (held_behind_calls held m) n some ∙ sym (
 pub record Behind (b : Beginning) (limits : Limits) (url : Option (List ℕ)) (octets : List ℕ) (told : List Told) (token id held number : ℕ) (sent : List ℕ)
     (replies : List Reply) (requests : List Request) (site : ClientPlace) : Type 0 where
   pub channel : ClientChannel
-  pub replies_are : map (λ (r : Reply). Some r) replies ≡ requests_replies (lane_back_by_token b limits url token) (state_told b told) b.moment requests
+  pub replies_are : map (λ (r : Reply). Some r) replies ≡ requests_replies (lane_back_by_token b limits url token) (state_told b told) b.moments
+      (used_in told) requests
   pub sent_is : sent ≡ calls_octets (Some (call_lane (acknowledged b.limits limits url) b.channel token)) number id (bodies_of requests)
   pub number_is : site.number ≡ numbers_behind (Some (call_lane (acknowledged b.limits limits url) b.channel token)) number (bodies_of requests)
   pub judged : first_reason (group_reasons (Some (acknowledged b.limits limits url)) id requests) ≡ None
@@ -423,9 +426,13 @@ module _ (b : Beginning) (limits : Limits) (url : Option (List ℕ)) (octets : L
         replies_are =
             some-append replies added
             ∙ (ap (λ (os : List (Option Reply)). os ++ map (λ (r : Reply). Some r) added) before.replies_are
-            ∙ (ap (λ (os : List (Option Reply)). requests_replies back (state_told b told) b.moment all ++ os)
-            (replied ∙ ap (λ (st : State). requests_replies back st b.moment group) (state_calls b told token id all (writable acked id all before.judged)))
-            ∙ sym (replies-append back (state_told b told) b.moment all group)));
+            ∙ (ap (λ (os : List (Option Reply)). requests_replies back (state_told b told) b.moments (used_in told) all ++ os)
+            (replied
+            ∙ (ap (λ (st : State). requests_replies back st b.moments (used_in told_before) group)
+            (state_calls b told token id all (writable acked id all before.judged))
+            ∙ ap (λ (n : ℕ). requests_replies back (state_behind_requests (state_told b told) b.moments (used_in told) all) b.moments n group)
+            (used_behind told token id all)))
+            ∙ sym (replies-append back (state_told b told) b.moments (used_in told) all group)));
         sent_is =
             ap (λ (o : List ℕ). o ++ more) before.sent_is
             ∙ (ap (λ (o : List ℕ). calls_octets lane s.number id (bodies_of all) ++ o) more_is

@@ -1,6 +1,5 @@
 -- What a server says of octets, by a reading of them; and that it says nothing else of more octets first.
-use Rattle.std.proofs.Common.{◌≡◌, ℕ, ◌<◌, ◌≤◌, List, [], ◌∷◌, ◌++◌, length, length-append, replicate, refl, sym, ◌∙◌, ap, arith, append-nil}
-use Rattle.std.proofs.lemmas.List.{replicate-append-replicate, length-replicate}
+use Rattle.std.proofs.Common.{◌≡◌, ℕ, zero, suc, ◌+◌, ◌<◌, ◌≤◌, List, [], ◌∷◌, ◌++◌, length, length-append, refl, sym, ◌∙◌, ap, arith, add-zero, append-nil}
 use Rattle.ua_builtin.specs.declared.date_time.DateTime.{DateTime}
 use Rattle.ua_frame.specs.declared.frame.Frame.{Frame}
 use Rattle.ua_frame.specs.After.{each_from}
@@ -15,7 +14,7 @@ use Rattle.ua_channel.specs.ServerTold.{Told, Closed}
 use Rattle.ua_server.specs.Said.{Course, last_words, state_after, course_after as course_by, output_of, said_of, used_in, with_more}
 use Rattle.ua_server.proofs.SaidInParts.{left-append, left-more, said-append, said-more, used_in-append}
 use Rattle.ua_loopback.specs.Beginning.{Beginning}
-use Rattle.ua_loopback.specs.Says.{end_by, services_after, reading_at_server, server_output, answer_times, events_at_server}
+use Rattle.ua_loopback.specs.Says.{end_by, services_after, reading_at_server, server_output, answer_times, events_at_server, times_from}
 use Rattle.ua_loopback.proofs.Further.{behind, run_further}
 
 -- ---- by a reading
@@ -33,16 +32,16 @@ module _ (b : Beginning) (octets : List ℕ) (fs : List Frame) (rest : List ℕ)
   end_is = (unique (rules_by b) octets (reading_at_server b octets).frames fs (reading_at_server b octets).rest rest (reading_at_server b octets).end end
       (reading_at_server b octets).run run).ends
 
-  pub said_by_run : server_output b octets ≡ output_of b.channel b.first (events (rules_by b) fs) end (answer_times (events (rules_by b) fs) b.moment)
+  pub said_by_run : server_output b octets ≡ output_of b.channel b.first (events (rules_by b) fs) end (answer_times (events (rules_by b) fs) b.moments)
   unfolding server_output
   said_by_run =
-      ap (λ (t : List Told). output_of b.channel b.first t (end_by b octets) (answer_times t b.moment)) told_is
-      ∙ ap (λ (e : End ℕ). output_of b.channel b.first (events (rules_by b) fs) e (answer_times (events (rules_by b) fs) b.moment)) end_is
+      ap (λ (t : List Told). output_of b.channel b.first t (end_by b octets) (answer_times t b.moments)) told_is
+      ∙ ap (λ (e : End ℕ). output_of b.channel b.first (events (rules_by b) fs) e (answer_times (events (rules_by b) fs) b.moments)) end_is
 
   pub left_by_run : services_after b octets
-      ≡ (state_after b.channel b.first (events (rules_by b) fs) (answer_times (events (rules_by b) fs) b.moment)).state
+      ≡ (state_after b.channel b.first (events (rules_by b) fs) (answer_times (events (rules_by b) fs) b.moments)).state
   unfolding services_after
-  left_by_run = ap (λ (t : List Told). (state_after b.channel b.first t (answer_times t b.moment)).state) told_is
+  left_by_run = ap (λ (t : List Told). (state_after b.channel b.first t (answer_times t b.moments)).state) told_is
 
 -- ---- a front of octets
 
@@ -87,57 +86,85 @@ pub record SaidFirst (b : Beginning) (octets all : List ℕ) : Type 0 where
   pub further : List ℕ
   pub parts : all ≡ server_output b octets ++ further
 
-pub spent-append : (a c : List Told) (moment : DateTime) → answer_times (a ++ c) moment ≡ answer_times a moment ++ answer_times c moment
-spent-append a c moment = ap (λ (n : ℕ). replicate n moment) (used_in-append a c) ∙ sym (replicate-append-replicate (used_in a) (used_in c) moment)
+pub times-add : (moments : ℕ → DateTime) (n a c : ℕ) → times_from moments n (a + c) ≡ times_from moments n a ++ times_from moments (n + a) c
+times-add moments n zero c = ap (λ (k : ℕ). times_from moments n k) (none c) ∙ ap (λ (k : ℕ). times_from moments k c) (sym (add-zero n))
+  where
+    none : (c : ℕ) → zero + c ≡ c
+    none c = omega arith
+times-add moments n (suc a) c =
+    ap (λ (k : ℕ). times_from moments n k) (one a c)
+    ∙ ap (λ (ms : List DateTime). moments n ∷ ms) (times-add moments (n + 1) a c
+    ∙ ap (λ (k : ℕ). times_from moments (n + 1) a ++ times_from moments k c) (on n a))
+  where
+    one : (a c : ℕ) → suc a + c ≡ suc (a + c)
+    one a c = omega arith
 
-pub spent-enough : (a : List Told) (moment : DateTime) → used_in a ≤ length (answer_times a moment)
-spent-enough a moment = let len = length-replicate (used_in a) moment in omega (arith, len)
+    on : (n a : ℕ) → (n + 1) + a ≡ n + suc a
+    on n a = omega arith
+
+pub length-times : (moments : ℕ → DateTime) (n k : ℕ) → length (times_from moments n k) ≡ k
+length-times moments n zero = refl
+length-times moments n (suc k) = ap suc (length-times moments (n + 1) k)
+
+-- the times of the answers to what is told more
+abbrev pub later_times : List Told → List Told → (ℕ → DateTime) → List DateTime
+later_times told more moments = times_from moments (used_in told) (used_in more)
+
+pub spent-append : (a c : List Told) (moments : ℕ → DateTime) → answer_times (a ++ c) moments ≡ answer_times a moments ++ later_times a c moments
+spent-append a c moments = ap (λ (n : ℕ). times_from moments 0 n) (used_in-append a c)
+    ∙ (times-add moments 0 (used_in a) (used_in c) ∙ ap (λ (n : ℕ). answer_times a moments ++ times_from moments n (used_in c)) (no_shift (used_in a)))
+  where
+    no_shift : (n : ℕ) → 0 + n ≡ n
+    no_shift n = omega arith
+
+pub spent-enough : (a : List Told) (moments : ℕ → DateTime) → used_in a ≤ length (answer_times a moments)
+spent-enough a moments = let len = length-times moments 0 (used_in a) in omega (arith, len)
 
 -- how far a server is behind more that is told, where each answer has its moment
-pub left_on : (b : Beginning) (told more : List Told) → state_after b.channel b.first (told ++ more) (answer_times (told ++ more) b.moment)
-    ≡ course_by b.channel (with_more (state_after b.channel b.first told (answer_times told b.moment)) (answer_times more b.moment)) more
+pub left_on : (b : Beginning) (told more : List Told) → state_after b.channel b.first (told ++ more) (answer_times (told ++ more) b.moments)
+    ≡ course_by b.channel (with_more (state_after b.channel b.first told (answer_times told b.moments)) (later_times told more b.moments)) more
 left_on b told more =
-    ap (λ (ms : List DateTime). state_after b.channel b.first (told ++ more) ms) (spent-append told more b.moment)
-    ∙ (left-append b.channel b.first told more (answer_times told b.moment ++ answer_times more b.moment)
-    ∙ ap (λ (k : Course). course_by b.channel k more) (left-more b.channel b.first told (answer_times told b.moment) (answer_times more b.moment)
-    (spent-enough told b.moment)))
+    ap (λ (ms : List DateTime). state_after b.channel b.first (told ++ more) ms) (spent-append told more b.moments)
+    ∙ (left-append b.channel b.first told more (answer_times told b.moments ++ later_times told more b.moments)
+    ∙ ap (λ (k : Course). course_by b.channel k more) (left-more b.channel b.first told (answer_times told b.moments) (later_times told more b.moments)
+    (spent-enough told b.moments)))
 
 -- and what it says of that
-pub said_on : (b : Beginning) (told more : List Told) → output_of b.channel b.first (told ++ more) Going (answer_times (told ++ more) b.moment)
-    ≡ output_of b.channel b.first told Going (answer_times told b.moment)
-    ++ said_of b.channel (with_more (state_after b.channel b.first told (answer_times told b.moment)) (answer_times more b.moment)) more
+pub said_on : (b : Beginning) (told more : List Told) → output_of b.channel b.first (told ++ more) Going (answer_times (told ++ more) b.moments)
+    ≡ output_of b.channel b.first told Going (answer_times told b.moments)
+    ++ said_of b.channel (with_more (state_after b.channel b.first told (answer_times told b.moments)) (later_times told more b.moments)) more
 said_on b told more =
-    let ms : List DateTime = answer_times told b.moment ++ answer_times more b.moment in
-    ap (λ (m : List DateTime). output_of b.channel b.first (told ++ more) Going m) (spent-append told more b.moment)
+    let ms : List DateTime = answer_times told b.moments ++ later_times told more b.moments in
+    ap (λ (m : List DateTime). output_of b.channel b.first (told ++ more) Going m) (spent-append told more b.moments)
     ∙ (said-append b.channel b.first told more Going ms
     ∙ (ap (λ (o : List ℕ). o ++ (said_of b.channel (state_after b.channel b.first told ms) more ++ []))
-    (said-more b.channel b.first told Going (answer_times told b.moment) (answer_times more b.moment) (spent-enough told b.moment))
-    ∙ (ap (λ (o : List ℕ). output_of b.channel b.first told Going (answer_times told b.moment) ++ o)
+    (said-more b.channel b.first told Going (answer_times told b.moments) (later_times told more b.moments) (spent-enough told b.moments))
+    ∙ (ap (λ (o : List ℕ). output_of b.channel b.first told Going (answer_times told b.moments) ++ o)
     (append-nil (said_of b.channel (state_after b.channel b.first told ms) more))
-    ∙ ap (λ (k : Course). output_of b.channel b.first told Going (answer_times told b.moment) ++ said_of b.channel k more)
-    (left-more b.channel b.first told (answer_times told b.moment) (answer_times more b.moment) (spent-enough told b.moment)))))
+    ∙ ap (λ (k : Course). output_of b.channel b.first told Going (answer_times told b.moments) ++ said_of b.channel k more)
+    (left-more b.channel b.first told (answer_times told b.moments) (later_times told more b.moments) (spent-enough told b.moments)))))
 
 -- nothing more is said of a CLO
-pub said_over : (b : Beginning) (told : List Told) → output_of b.channel b.first (told ++ Closed ∷ []) Over (answer_times (told ++ Closed ∷ []) b.moment)
-    ≡ output_of b.channel b.first told Going (answer_times told b.moment)
+pub said_over : (b : Beginning) (told : List Told) → output_of b.channel b.first (told ++ Closed ∷ []) Over (answer_times (told ++ Closed ∷ []) b.moments)
+    ≡ output_of b.channel b.first told Going (answer_times told b.moments)
 said_over b told =
-    let ms : List DateTime = answer_times told b.moment ++ answer_times (Closed ∷ []) b.moment in
-    ap (λ (m : List DateTime). output_of b.channel b.first (told ++ Closed ∷ []) Over m) (spent-append told (Closed ∷ []) b.moment)
+    let ms : List DateTime = answer_times told b.moments ++ later_times told (Closed ∷ []) b.moments in
+    ap (λ (m : List DateTime). output_of b.channel b.first (told ++ Closed ∷ []) Over m) (spent-append told (Closed ∷ []) b.moments)
     ∙ (said-append b.channel b.first told (Closed ∷ []) Over ms
     ∙ (append-nil (output_of b.channel b.first told Going ms)
-    ∙ said-more b.channel b.first told Going (answer_times told b.moment) (answer_times (Closed ∷ []) b.moment) (spent-enough told b.moment)))
+    ∙ said-more b.channel b.first told Going (answer_times told b.moments) (later_times told (Closed ∷ []) b.moments) (spent-enough told b.moments)))
 
 -- what is said of more that is told, in one piece
 said_first : (b : Beginning) (a c : List Told) (end : End ℕ) → (further : List ℕ) ×
-    (output_of b.channel b.first (a ++ c) end (answer_times (a ++ c) b.moment) ≡ output_of b.channel b.first a Going (answer_times a b.moment)
+    (output_of b.channel b.first (a ++ c) end (answer_times (a ++ c) b.moments) ≡ output_of b.channel b.first a Going (answer_times a b.moments)
     ++ further)
 said_first b a c end =
-    let moments = answer_times a b.moment ++ answer_times c b.moment in (
+    let moments = answer_times a b.moments ++ later_times a c b.moments in (
       said_of b.channel (state_after b.channel b.first a moments) c ++ last_words end,
-      ap (λ (ms : List DateTime). output_of b.channel b.first (a ++ c) end ms) (spent-append a c b.moment)
+      ap (λ (ms : List DateTime). output_of b.channel b.first (a ++ c) end ms) (spent-append a c b.moments)
           ∙ (said-append b.channel b.first a c end moments
           ∙ ap (λ (o : List ℕ). o ++ (said_of b.channel (state_after b.channel b.first a moments) c ++ last_words end))
-          (said-more b.channel b.first a Going (answer_times a b.moment) (answer_times c b.moment) (spent-enough a b.moment))),
+          (said-more b.channel b.first a Going (answer_times a b.moments) (later_times a c b.moments) (spent-enough a b.moments))),
     )
 
 stays_said : (b : Beginning) (octets more : List ℕ) (fs : List Frame) (rest : List ℕ) (end : End ℕ) → (end ≡ Going → ⊥) → Run (rules_by b) octets fs rest end
@@ -161,7 +188,7 @@ goes_said b octets more fs rest r =
       further = first.0;
       parts =
           said_by_run b (octets ++ more) (fs ++ s.frames) s.rest s.end run
-          ∙ (ap (λ (t : List Told). output_of b.channel b.first t s.end (answer_times t b.moment)) (events_on R fs s.frames)
+          ∙ (ap (λ (t : List Told). output_of b.channel b.first t s.end (answer_times t b.moments)) (events_on R fs s.frames)
           ∙ (first.1 ∙ ap (λ (o : List ℕ). o ++ first.0) (sym (said_by_run b octets fs rest Going r))));
     }
 

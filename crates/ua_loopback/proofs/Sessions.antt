@@ -26,15 +26,16 @@ use Rattle.ua_client.specs.declared.fault.ClientFault.TheVariants as fault
 use Rattle.ua_client.specs.declared.reply.Reply.{Reply}
 use Rattle.ua_client.proofs.Askings.{next-calls}
 use Rattle.ua_client.proofs.Settled.{NonePending}
+use Rattle.ua_server.specs.Said.{used_in}
 use Rattle.ua_loopback.specs.Accepted.{tokens_held}
 use Rattle.ua_loopback.specs.Faults.{FailsBehind}
 use Rattle.ua_loopback.specs.Replies.{HaveMisanswer, lane_back_by_token, requests_replies}
 use Rattle.ua_loopback.specs.Says.{state_told}
 use Rattle.ua_loopback.specs.Talking.{AreSession, FailsSession, IsSentOver, IsTalking, MisanswersSession}
-use Rattle.ua_loopback.specs.Talking.{SoFar, id_in, newest_in, octets_of_turn, session_requests, told_so_far, with_turn}
+use Rattle.ua_loopback.specs.Talking.{SoFar, id_in, newest_in, octets_of_turn, session_requests, state_in, told_so_far, with_turn}
 use Rattle.ua_loopback.proofs.Faults.{sent_over}
 use Rattle.ua_loopback.proofs.Faults.{fails_by, group_fails}
-use Rattle.ua_loopback.proofs.OneTurn.{asked_more, asked_sent}
+use Rattle.ua_loopback.proofs.OneTurn.{asked_more, asked_sent, used_so_far}
 use Rattle.ua_loopback.proofs.Rounds.{Behind}
 use Rattle.ua_loopback.proofs.Sounds.{session_answered}
 use Rattle.ua_loopback.proofs.Staying.{ToldBehind}
@@ -174,26 +175,37 @@ module _ (t : SoFar) (x : Client) (before : Option Traffic) (k : IsTalking t x b
 
   -- by the answers to requests that are those of a session
   fails_so : (requests : List Request) → AreSession t policy_id moment requests
-      → FailsBehind (HaveMisanswer (state_told t.server (told_so_far t)) t.server.moment requests) f → FailsSession t policy_id moment f
+      → FailsBehind (HaveMisanswer (state_told t.server (told_so_far t)) t.server.moments (used_in (told_so_far t)) requests) f
+      → FailsSession t policy_id moment f
   fails_so requests are h =
       broken_session t policy_id moment f
-      (fails_by (HaveMisanswer (state_told t.server (told_so_far t)) t.server.moment requests) (MisanswersSession t policy_id moment) f
-      (λ bad. (requests, are, subst (λ (s : State). HaveMisanswer s t.server.moment requests) k.talks.state_is bad)) h)
+      (fails_by (HaveMisanswer (state_told t.server (told_so_far t)) t.server.moments (used_in (told_so_far t)) requests) (MisanswersSession t policy_id moment)
+      f
+      (λ bad. (
+        requests,
+        are,
+        subst (λ (n : ℕ). HaveMisanswer (state_in t) t.server.moments n requests) (used_so_far t)
+            (subst (λ (s : State). HaveMisanswer s t.server.moments (used_in (told_so_far t)) requests) k.talks.state_is bad),
+      )) h)
 
   -- or by the replies to them
   refused_so : (code : StatusCode) → f ≡ fault.Service code → (requests : List Request) → AreSession t policy_id moment requests
       → (first : List Reply) (last : Reply) → reply_failure last ≡ Some code
       → map (λ (r : Reply). Some r) (first ++ last ∷ []) ≡ requests_replies (lane_back_by_token t.server t.limits t.url (newest_in t))
       (state_told t.server (told_so_far t))
-      t.server.moment requests → FailsSession t policy_id moment f
+      t.server.moments (used_in (told_so_far t)) requests → FailsSession t policy_id moment f
   refused_so code is requests are first last failed replied =
       subst (FailsSession t policy_id moment) (sym is) (record {
         requests = requests;
         are = are;
         before = first;
         last = last;
-        replied = replied ∙ ap (λ (s : State). requests_replies (lane_back_by_token t.server t.limits t.url (newest_in t)) s t.server.moment requests)
-            k.talks.state_is;
+        replied =
+            replied
+            ∙ (ap (λ (s : State). requests_replies (lane_back_by_token t.server t.limits t.url (newest_in t)) s t.server.moments (used_in (told_so_far t))
+            requests) k.talks.state_is
+            ∙ ap (λ (n : ℕ). requests_replies (lane_back_by_token t.server t.limits t.url (newest_in t)) (state_in t) t.server.moments n requests)
+            (used_so_far t));
         failed = failed;
       })
 

@@ -1,6 +1,6 @@
 -- That both ends in one process stay in step.
 use Rattle.std.proofs.Common.{◌≡◌, ◌⊎◌, inl, inr, ℕ, ◌+◌, ◌<◌, ◌≤◌, ◌^◌, List, [], ◌∷◌, ◌++◌, Option, Some, None}
-use Rattle.std.proofs.Common.{length, replicate, refl, sym, ◌∙◌, ap, subst, arith, append_assoc, length-append}
+use Rattle.std.proofs.Common.{length, refl, sym, ◌∙◌, ap, subst, arith, append_assoc, length-append}
 use Rattle.std.specs.List.{AllByRecursion}
 use Rattle.std.proofs.lemmas.List.{length-map}
 use Rattle.ua_wire.specs.Format.{Extends}
@@ -22,7 +22,7 @@ use Rattle.ua_channel.specs.declared.client.channel.ClientChannel.{ClientChannel
 use Rattle.ua_channel_laws.proofs.Following.{client_begins, client_not_failed, client_told}
 use Rattle.ua_services.specs.Request.{request}
 use Rattle.ua_services.specs.declared.request.Request.{Request}
-use Rattle.ua_server.specs.Said.{Course, state_after, course_after, output_of, said_of, with_more}
+use Rattle.ua_server.specs.Said.{Course, state_after, course_after, output_of, said_of, used_in, with_more}
 use Rattle.ua_server.proofs.SaidInParts.{course}
 use Rattle.ua_client.specs.Calls.{Answered, ClientGoesOn, LastCame, asked_at, refusal_at, sent_at}
 use Rattle.ua_client.specs.Renewing.{IsSettled}
@@ -36,7 +36,7 @@ use Rattle.ua_client.proofs.Settled.{NonePending}
 use Rattle.ua_loopback.specs.Accepted.{held_behind_calls}
 use Rattle.ua_loopback.specs.Beginning.{Beginning}
 use Rattle.ua_loopback.specs.Replies.{HaveMisanswer}
-use Rattle.ua_loopback.specs.Says.{server_output, answer_times}
+use Rattle.ua_loopback.specs.Says.{server_output, answer_times, times_from}
 use Rattle.ua_loopback.specs.Together.{AreServing, behind_calls}
 use Rattle.ua_loopback.specs.Turns.{calls_told}
 use Rattle.ua_loopback.proofs.Answering.{AreHeard, answers_told, calls_asked, calls_in_step, hello_stays, issued_stays}
@@ -45,7 +45,7 @@ use Rattle.ua_loopback.proofs.Ending.{LastChunk}
 use Rattle.ua_loopback.proofs.Lists.{meets}
 use Rattle.ua_loopback.proofs.Reaching.{few_ids, numbers_read, requests_asked, requests_read}
 use Rattle.ua_loopback.proofs.Replying.{AreWritable, misanswered_at, moments_there}
-use Rattle.ua_loopback.proofs.Saying.{left_on, said_by_run, said_on}
+use Rattle.ua_loopback.proofs.Saying.{later_times, left_on, said_by_run, said_on}
 use Rattle.ua_loopback.proofs.Untaken.{never_missing, took_all, took_no_more}
 
 -- that nothing is told of a call before it is asked
@@ -56,19 +56,19 @@ ToldBehind = (x : ClientChannel) (asks : List Placed) (octets : List ℕ) (told 
 -- ---- what a server says of more
 
 module _ (b : Beginning) (octets : List ℕ) (told : List Told) (s : AtServer) (r : ServerReads b.limits b.channel octets told s) where
-  pub said_there : server_output b octets ≡ output_of b.channel b.first told Going (answer_times told b.moment)
+  pub said_there : server_output b octets ≡ output_of b.channel b.first told Going (answer_times told b.moments)
   said_there = said_by_run b octets r.frames [] Going r.run
-      ∙ ap (λ (t : List Told). output_of b.channel b.first t Going (answer_times t b.moment)) r.told_is
+      ∙ ap (λ (t : List Told). output_of b.channel b.first t Going (answer_times t b.moments)) r.told_is
 
   -- how far the server is behind these
   abbrev pub behind_told : List Told → Course
-  behind_told more = with_more (state_after b.channel b.first told (answer_times told b.moment)) (answer_times more b.moment)
+  behind_told more = with_more (state_after b.channel b.first told (answer_times told b.moments)) (later_times told more b.moments)
 
   pub said_more : (later : List ℕ) (more : List Told) (t : AtServer) → ServerReads b.limits b.channel later (told ++ more) t
       → server_output b later ≡ server_output b octets ++ said_of b.channel (behind_told more) more
   said_more later more t q =
       said_by_run b later q.frames [] Going q.run
-      ∙ (ap (λ (k : List Told). output_of b.channel b.first k Going (answer_times k b.moment)) q.told_is
+      ∙ (ap (λ (k : List Told). output_of b.channel b.first k Going (answer_times k b.moments)) q.told_is
       ∙ (said_on b told more ∙ ap (λ (o : List ℕ). o ++ said_of b.channel (behind_told more) more) (sym said_there)))
 
 some_bodies : (requests : List Request) → 0 < length requests → 0 < length (bodies_of requests)
@@ -96,10 +96,10 @@ module _ (b : Beginning) (url : Option (List ℕ)) (octets : List ℕ) (told : L
   g = agreement_of b.limits then_at.hello
 
   abbrev before : Course
-  before = state_after b.channel b.first told (answer_times told b.moment)
+  before = state_after b.channel b.first told (answer_times told b.moments)
 
   abbrev moments : List DateTime
-  moments = before.moments ++ answer_times calls b.moment
+  moments = before.moments ++ later_times told calls b.moments
 
   server_then : ServerReads b.limits b.channel (octets ++ sent_at site requests) (told ++ calls) then_at
   server_then = requests_read b.limits url b.channel octets told s x site c on t.together requests judged
@@ -148,7 +148,7 @@ module _ (b : Beginning) (url : Option (List ℕ)) (octets : List ℕ) (told : L
       ∙ (ap (λ (o : List ℕ). o ++ said_of b.channel (behind_told b octets told s t.together.server_reads calls) calls) (sym t.taken)
       ∙ ap (λ (k : Course). site.octets ++ said_of b.channel k calls) course_is)
 
-  left_then_is : state_after b.channel b.first (told ++ calls) (answer_times (told ++ calls) b.moment)
+  left_then_is : state_after b.channel b.first (told ++ calls) (answer_times (told ++ calls) b.moments)
       ≡ course_after b.channel (course before.state before.number moments (Some g)) calls
   left_then_is = left_on b told calls ∙ ap (λ (k : Course). course_after b.channel k calls) course_is
 
@@ -200,16 +200,17 @@ module _ (b : Beginning) (url : Option (List ℕ)) (octets : List ℕ) (told : L
     -- a message that is no answer to its request is one with which the server answered it
     pub asked_misanswered : ToldBehind → StandsAt x site → ClientGoesOn y (asked_at site requests) taken site.told (IsMisanswered requests (id_at site))
         → Extends taken (server_output b (octets ++ sent_at site requests)) → AreWritable requests
-        → HaveMisanswer before.state b.moment requests
+        → HaveMisanswer before.state b.moments (used_in told) requests
     asked_misanswered law at h front fits =
         let begins = client_begins y (asked_at site requests) taken front.more (site.told ++ h.0) told_then heard_then.at h.1
         (subst (λ (o : List ℕ). ClientReads (client_limits y) (asked_at site requests) o told_then heard_then.at) front.parts
         (reads_asked (client_limits y) same)) in
         let moments_are = moments_there b told lane.token (id_at site) bodies
-        ∙ ap (λ (n : ℕ). replicate n b.moment ++ []) (length-map requests request.canonical) in
+        ∙ ap (λ (n : ℕ). times_from b.moments (used_in told) n ++ []) (length-map requests request.canonical) in
         let all_is : told_then ≡ h.2.before ++ h.2.last ∷ begins.0 = begins.1
         ∙ (ap (λ (ts : List Heard). ts ++ begins.0) h.2.told_is ∙ append_assoc h.2.before (h.2.last ∷ []) begins.0) in
-        misanswered_at (lane_of b.channel lane.token g) before.state moments (id_at site) (id_at site + h.2.place) requests b.moment [] site.told told_then
+        misanswered_at (lane_of b.channel lane.token g) before.state moments (id_at site) (id_at site + h.2.place) requests b.moments
+        (used_in told) [] site.told told_then
         h.2.place h.2.request h.2.before h.2.last begins.0 fits moments_are refl refl
         (law x site.asks site.octets site.told h.2.place at.goes) h.2.request_is all_is h.2.untold h.2.misanswers
 

@@ -1,7 +1,6 @@
 -- What a line keeps behind a step of its server.
 use Rattle.std.proofs.Common.{◌≡◌, ℕ, zero, suc, ◌+◌, ◌<◌, ◌≤◌, List, [], ◌∷◌, ◌++◌, Option, Some, None, Ok}
 use Rattle.std.proofs.Common.{length, take, replicate, refl, sym, ◌∙◌, ap, subst, arith, append-nil, length-append}
-use Rattle.std.proofs.lemmas.List.{replicate-append-replicate}
 use Rattle.ua_builtin.specs.declared.date_time.DateTime.{DateTime}
 use Rattle.ua_builtin.specs.declared.status_code.StatusCode.{StatusCode}
 use Rattle.ua_frame.specs.declared.frame.Frame.{Frame}
@@ -12,24 +11,26 @@ use Rattle.ua_frame.proofs.Unique.{unique}
 use Rattle.ua_channel_laws.proofs.ReadOn.{no_events}
 use Rattle.ua_channel.specs.Received.{closings, received}
 use Rattle.ua_channel.specs.ServerRules.{server_rules}
-use Rattle.ua_channel.specs.ServerStands.{channel_of, limits_of, rules_of}
+use Rattle.ua_channel.specs.ServerStands.{channel_of, limits_of, rules_of, Goes}
 use Rattle.ua_channel.specs.ServerTold.{Told, Closed}
 use Rattle.ua_channel.specs.declared.server.ServerChannel.{ServerChannel}
+use Rattle.ua_server.specs.Now.{StepNow}
 use Rattle.ua_server.specs.Said.{state_after, output_of, used_in}
 use Rattle.ua_server.specs.Served.{channel_in}
 use Rattle.ua_server.specs.State.{State}
-use Rattle.ua_server.specs.Stepping.{ServerStands, StepAnswers, StepBy, StepCloses, StepGoes, StepRefuses, StepTakes, given_up}
+use Rattle.ua_server.specs.Stepping.{ServerStands, StepBy, StepCloses, StepGoes, StepRefuses, StepTakes, given_up, times_of_answers}
 use Rattle.ua_server.specs.declared.server.Server.{Server}
 use Rattle.ua_server.specs.declared.step.End.{End as Ending}
 use Rattle.ua_server.specs.declared.step.End.TheVariants as ending
 use Rattle.ua_server.specs.declared.step.Step.{Step}
+use Rattle.ua_server.proofs.NowStanding.{as-told}
 use Rattle.ua_server.proofs.SaidInParts.{used_in-append}
 use Rattle.ua_loopback.specs.Beginning.{Beginning}
 use Rattle.ua_loopback.specs.Kept.{Keeps, HasTakenAll}
-use Rattle.ua_loopback.specs.Says.{end_by, services_after, server_output, answer_times}
+use Rattle.ua_loopback.specs.Says.{end_by, services_after, server_output, answer_times, times_from}
 use Rattle.ua_loopback.specs.declared.stage.Stage.{Stage}
 use Rattle.ua_loopback.specs.declared.stage.Stage.TheVariants as stage
-use Rattle.ua_loopback.proofs.Saying.{end_is, left_by_run, rules_by, said_by_run}
+use Rattle.ua_loopback.proofs.Saying.{end_is, later_times, left_by_run, rules_by, said_by_run, spent-append}
 
 -- ---- moments
 
@@ -40,15 +41,22 @@ none-used (id ∷ ids) = let rest = none-used ids in omega (arith, rest)
 quiet-used : (told : List Told) (ids : List ℕ) → used_in (told ++ given_up ids) ≡ used_in told
 quiet-used told ids = omega (arith, used_in-append told (given_up ids), none-used ids)
 
-quiet-spent : (told : List Told) (ids : List ℕ) (moment : DateTime) → answer_times (told ++ given_up ids) moment ≡ answer_times told moment
-quiet-spent told ids moment = ap (λ (n : ℕ). replicate n moment) (quiet-used told ids)
+quiet-spent : (told : List Told) (ids : List ℕ) (moments : ℕ → DateTime) → answer_times (told ++ given_up ids) moments ≡ answer_times told moments
+quiet-spent told ids moments = ap (λ (n : ℕ). times_from moments 0 n) (quiet-used told ids)
+
+-- where all times are this one
+all-one : (moments : ℕ → DateTime) (moment : DateTime) → ((n : ℕ) → moments n ≡ moment) → (n k : ℕ) → replicate k moment ≡ times_from moments n k
+all-one moments moment are n zero = refl
+all-one moments moment are n (suc k) =
+    ap (λ (m : DateTime). m ∷ replicate k moment) (sym (are n)) ∙ ap (λ (ms : List DateTime). moments n ∷ ms) (all-one moments moment are (n + 1) k)
 
 -- the moments of what was told, and of what is told more
-spent-more : (told : List Told) (quiet : List ℕ) (more : List Told) (moment : DateTime) → answer_times told moment ++ answer_times more moment
-    ≡ answer_times ((told ++ given_up quiet) ++ more) moment
-spent-more told quiet more moment =
-    replicate-append-replicate (used_in told) (used_in more) moment
-    ∙ ap (λ (n : ℕ). replicate n moment) (ap (λ (n : ℕ). n + used_in more) (sym (quiet-used told quiet)) ∙ sym (used_in-append (told ++ given_up quiet) more))
+spent-more : (told : List Told) (quiet : List ℕ) (more : List Told) (moments : ℕ → DateTime) (moment : DateTime) → ((n : ℕ) → moments n ≡ moment)
+    → answer_times told moments ++ times_of_answers more moment ≡ answer_times ((told ++ given_up quiet) ++ more) moments
+spent-more told quiet more moments moment are =
+    ap (λ (ms : List DateTime). answer_times told moments ++ ms) (all-one moments moment are (used_in (told ++ given_up quiet)) (used_in more))
+    ∙ (ap (λ (ms : List DateTime). ms ++ later_times (told ++ given_up quiet) more moments) (sym (quiet-spent told quiet moments))
+    ∙ sym (spent-append (told ++ given_up quiet) more moments))
 
 -- ---- where a channel stands
 
@@ -64,11 +72,11 @@ module _ (b : Beginning) (x : ServerChannel) (limits_are : limits_of x ≡ b.lim
   told_at : events (rules_by b) fs ≡ told
   told_at = subst (λ (R : Rules Told ℕ). events R fs ≡ told) rules_are is
 
-  said_at : server_output b octets ≡ output_of b.channel b.first told end (answer_times told b.moment)
-  said_at = said_by_run b octets fs rest end run_at ∙ ap (λ (t : List Told). output_of b.channel b.first t end (answer_times t b.moment)) told_at
+  said_at : server_output b octets ≡ output_of b.channel b.first told end (answer_times told b.moments)
+  said_at = said_by_run b octets fs rest end run_at ∙ ap (λ (t : List Told). output_of b.channel b.first t end (answer_times t b.moments)) told_at
 
-  left_at : services_after b octets ≡ (state_after b.channel b.first told (answer_times told b.moment)).state
-  left_at = left_by_run b octets fs rest end run_at ∙ ap (λ (t : List Told). (state_after b.channel b.first t (answer_times t b.moment)).state) told_at
+  left_at : services_after b octets ≡ (state_after b.channel b.first told (answer_times told b.moments)).state
+  left_at = left_by_run b octets fs rest end run_at ∙ ap (λ (t : List Told). (state_after b.channel b.first t (answer_times t b.moments)).state) told_at
 
   end_at : end_by b octets ≡ end
   end_at = end_is b octets fs rest end run_at
@@ -87,7 +95,7 @@ module _ (b : Beginning) (old new : Server) (before now : State) (moment : DateT
   abbrev told : List Told
   told = k.serves.told
 
-  said_before : server_output b up ≡ output_of b.channel b.first told Going (answer_times told b.moment)
+  said_before : server_output b up ≡ output_of b.channel b.first told Going (answer_times told b.moments)
   said_before =
       said_at b (channel_in old) k.serves.limits_are k.serves.channel_is up k.serves.stands.goes.frames k.serves.stands.goes.rest Going told
       k.serves.stands.goes.stands.run k.serves.stands.goes.told_is
@@ -95,12 +103,12 @@ module _ (b : Beginning) (old new : Server) (before now : State) (moment : DateT
   -- what is kept where all that was told then is this, and this was said of it
   more_said : (all : List Told) (fs : List Frame) (rest : List ℕ) (end : End ℕ) (ms : List DateTime)
       → Run (rules_of (channel_in new)) (up ++ take n piece) fs rest end → events (rules_of (channel_in new)) fs ≡ all
-      → ms ≡ answer_times all b.moment → output_of (channel_of (channel_in old)) b.first all end ms ≡ output_of (channel_of (channel_in old)) b.first told
-      Going (answer_times told b.moment) ++ out
+      → ms ≡ answer_times all b.moments → output_of (channel_of (channel_in old)) b.first all end ms ≡ output_of (channel_of (channel_in old)) b.first told
+      Going (answer_times told b.moments) ++ out
       → down ++ out ≡ server_output b (up ++ take n piece)
   more_said all fs rest end ms r is moments out_is =
-      let parts : output_of b.channel b.first all end ms ≡ output_of b.channel b.first told Going (answer_times told b.moment) ++ out =
-      subst (λ (c : ℕ). output_of c b.first all end ms ≡ output_of c b.first told Going (answer_times told b.moment) ++ out) k.serves.channel_is out_is in
+      let parts : output_of b.channel b.first all end ms ≡ output_of b.channel b.first told Going (answer_times told b.moments) ++ out =
+      subst (λ (c : ℕ). output_of c b.first all end ms ≡ output_of c b.first told Going (answer_times told b.moments) ++ out) k.serves.channel_is out_is in
       ap (λ (o : List ℕ). o ++ out) (k.down_is ∙ said_before)
       ∙ (sym parts
       ∙ (ap (λ (m : List DateTime). output_of b.channel b.first all end m) moments
@@ -108,76 +116,76 @@ module _ (b : Beginning) (old new : Server) (before now : State) (moment : DateT
 
   more_left : (all : List Told) (fs : List Frame) (rest : List ℕ) (end : End ℕ) (c : ℕ) (ms : List DateTime)
       → Run (rules_of (channel_in new)) (up ++ take n piece) fs rest end → events (rules_of (channel_in new)) fs ≡ all
-      → ms ≡ answer_times all b.moment → c ≡ b.channel → (state_after c b.first all ms).state ≡ now → now ≡ services_after b (up ++ take n piece)
+      → ms ≡ answer_times all b.moments → c ≡ b.channel → (state_after c b.first all ms).state ≡ now → now ≡ services_after b (up ++ take n piece)
   more_left all fs rest end c ms r is moments on state_is =
       sym state_is
       ∙ (ap (λ (m : List DateTime). (state_after c b.first all m).state) moments
-      ∙ (ap (λ (i : ℕ). (state_after i b.first all (answer_times all b.moment)).state) on
+      ∙ (ap (λ (i : ℕ). (state_after i b.first all (answer_times all b.moments)).state) on
       ∙ sym (left_at b (channel_in new) limits_are channel_is (up ++ take n piece) fs rest end all r is)))
 
   more_within : read ≤ length (down ++ out)
   more_within = omega (arith, k.within, length-append down out)
 
   -- it goes on
-  goes_keeps : StepGoes (channel_of (channel_in old)) b.moment piece n out (channel_in new) up told b.first (answer_times told b.moment) now
+  goes_keeps : StepGoes (channel_of (channel_in old)) moment piece n out (channel_in new) up told b.first (answer_times told b.moments) now
       → Keeps b new now moment (up ++ take n piece) (down ++ out) read stage.Going
   goes_keeps g =
       let all : List Told = (told ++ given_up g.quiet) ++ g.more in
-      let moments : answer_times told b.moment ++ answer_times g.more b.moment ≡ answer_times all b.moment =
-      spent-more told g.quiet g.more b.moment in
-      let stands : ServerStands (channel_in new) (up ++ take n piece) all b.first (answer_times all b.moment) now =
+      let moments : answer_times told b.moments ++ times_of_answers g.more moment ≡ answer_times all b.moments =
+      spent-more told g.quiet g.more b.moments moment k.moments_are in
+      let stands : ServerStands (channel_in new) (up ++ take n piece) all b.first (answer_times all b.moments) now =
       subst (λ (ms : List DateTime). ServerStands (channel_in new) (up ++ take n piece) all b.first ms now) moments g.stands in
       record {
-        moment_is = k.moment_is;
-        down_is = more_said all stands.goes.frames stands.goes.rest Going (answer_times told b.moment ++ answer_times g.more b.moment)
+        moments_are = k.moments_are;
+        down_is = more_said all stands.goes.frames stands.goes.rest Going (answer_times told b.moments ++ times_of_answers g.more moment)
             stands.goes.stands.run stands.goes.told_is moments g.out_is;
         within = more_within;
         serves = record { told = all; stands = stands; limits_are = limits_are; channel_is = channel_is };
-        leaves = more_left all stands.goes.frames stands.goes.rest Going (channel_of (channel_in new)) (answer_times all b.moment) stands.goes.stands.run
+        leaves = more_left all stands.goes.frames stands.goes.rest Going (channel_of (channel_in new)) (answer_times all b.moments) stands.goes.stands.run
             stands.goes.told_is refl channel_is stands.state_is;
         ends = end_at b (channel_in new) limits_are channel_is (up ++ take n piece) stands.goes.frames stands.goes.rest Going all stands.goes.stands.run
             stands.goes.told_is;
       }
 
   -- it closed
-  closes_keeps : StepCloses (channel_of (channel_in old)) piece n out (channel_in new) up told b.first (answer_times told b.moment) before now
+  closes_keeps : StepCloses (channel_of (channel_in old)) piece n out (channel_in new) up told b.first (answer_times told b.moments) before now
       → Keeps b new now moment (up ++ take n piece) (down ++ out) read (stage.Ended ending.Closed)
   closes_keeps c =
       let all : List Told = (told ++ given_up c.quiet) ++ Closed ∷ [] in
-      let moments : answer_times told b.moment ≡ answer_times all b.moment = sym (append-nil (answer_times told b.moment))
-      ∙ spent-more told c.quiet (Closed ∷ []) b.moment in
+      let moments : answer_times told b.moments ≡ answer_times all b.moments = sym (append-nil (answer_times told b.moments))
+      ∙ spent-more told c.quiet (Closed ∷ []) b.moments moment k.moments_are in
       record {
-        moment_is = k.moment_is;
-        down_is = more_said all c.closed.frames [] Over (answer_times told b.moment) c.closed.run c.closed.told_is moments c.out_is;
+        moments_are = k.moments_are;
+        down_is = more_said all c.closed.frames [] Over (answer_times told b.moments) c.closed.run c.closed.told_is moments c.out_is;
         within = more_within;
         serves = tt;
-        leaves = more_left all c.closed.frames [] Over (channel_of (channel_in old)) (answer_times told b.moment) c.closed.run c.closed.told_is moments
+        leaves = more_left all c.closed.frames [] Over (channel_of (channel_in old)) (answer_times told b.moments) c.closed.run c.closed.told_is moments
             k.serves.channel_is c.left_is;
         ends = end_at b (channel_in new) limits_are channel_is (up ++ take n piece) c.closed.frames [] Over all c.closed.run c.closed.told_is;
       }
 
   -- it refused what stands there
   refuses_keeps : (code : StatusCode) → StepRefuses (channel_of (channel_in old)) code.code piece n out (channel_in new) up told b.first
-      (answer_times told b.moment) before now
+      (answer_times told b.moments) before now
       → Keeps b new now moment (up ++ take n piece) (down ++ out) read (stage.Ended (ending.Refused code))
   refuses_keeps code c =
       let all : List Told = told ++ given_up c.quiet in
-      let moments : answer_times told b.moment ≡ answer_times all b.moment = sym (quiet-spent told c.quiet b.moment) in
+      let moments : answer_times told b.moments ≡ answer_times all b.moments = sym (quiet-spent told c.quiet b.moments) in
       record {
-        moment_is = k.moment_is;
-        down_is = more_said all c.refused.frames c.refused.rest (Stopped code.code) (answer_times told b.moment) c.refused.run c.refused.told_is moments
+        moments_are = k.moments_are;
+        down_is = more_said all c.refused.frames c.refused.rest (Stopped code.code) (answer_times told b.moments) c.refused.run c.refused.told_is moments
             c.out_is;
         within = more_within;
         serves = tt;
-        leaves = more_left all c.refused.frames c.refused.rest (Stopped code.code) (channel_of (channel_in old)) (answer_times told b.moment) c.refused.run
+        leaves = more_left all c.refused.frames c.refused.rest (Stopped code.code) (channel_of (channel_in old)) (answer_times told b.moments) c.refused.run
             c.refused.told_is moments k.serves.channel_is c.left_is;
         ends = end_at b (channel_in new) limits_are channel_is (up ++ take n piece) c.refused.frames c.refused.rest (Stopped code.code) all c.refused.run
             c.refused.told_is;
       }
 
   -- it ended
-  ends_keeps : (end : Ending) → StepBy (channel_of (channel_in old)) b.moment piece (Some end) n out (channel_in new) up told b.first
-      (answer_times told b.moment) before now → Keeps b new now moment (up ++ take n piece) (down ++ out) read (stage.Ended end)
+  ends_keeps : (end : Ending) → StepBy (channel_of (channel_in old)) moment piece (Some end) n out (channel_in new) up told b.first
+      (answer_times told b.moments) before now → Keeps b new now moment (up ++ take n piece) (down ++ out) read (stage.Ended end)
   ends_keeps ending.Closed s = closes_keeps s
   ends_keeps (ending.Refused code) s = refuses_keeps code s
   ends_keeps ending.NoClose s = absurd s
@@ -196,8 +204,8 @@ module _ (b : Beginning) (old new : Server) (before now : State) (moment : DateT
       let ends : ◌≡◌ {A = End ℕ} Going (Stopped code) = same.ends in
       absurd cc
 
-  ends_some : (end : Ending) → StepBy (channel_of (channel_in old)) b.moment piece (Some end) n out (channel_in new) up told b.first
-      (answer_times told b.moment) before now → n ≡ 0 → ⊥
+  ends_some : (end : Ending) → StepBy (channel_of (channel_in old)) moment piece (Some end) n out (channel_in new) up told b.first
+      (answer_times told b.moments) before now → n ≡ 0 → ⊥
   ends_some ending.Closed s none = omega (arith, s.some.0, none)
   ends_some (ending.Refused code) s none = not_refused code.code s.refused.frames s.refused.rest none s.refused.run
   ends_some ending.NoClose s none = s
@@ -207,20 +215,20 @@ module _ (b : Beginning) (old new : Server) (before now : State) (moment : DateT
 
 module _ (b : Beginning) (old new : Server) (before now : State) (moment : DateTime) (up down piece : List ℕ) (read : ℕ) (step : Step)
     (k : Keeps b old before moment up down read stage.Going)
-    (answers : (o : List ℕ) (told : List Told) (first : State) (ms : List DateTime) → ServerStands (channel_in old) o told first ms before
-    → StepAnswers (limits_of (channel_in old)) (channel_of (channel_in old)) moment piece (Ok step) (channel_in new) o told first ms before now)
+    (answers : (o : List ℕ) (told : List Told) → Goes (channel_in old) o told
+    → StepNow (channel_in old) moment piece (Ok step) (channel_in new) o told before now)
     (same_limits : limits_of (channel_in new) ≡ limits_of (channel_in old)) (same_channel : channel_of (channel_in new) ≡ channel_of (channel_in old)) where
-  by : StepBy (channel_of (channel_in old)) b.moment piece step.end step.taken step.out.items (channel_in new) up k.serves.told b.first
-      (answer_times k.serves.told b.moment) before now
-  by = subst (λ (m : DateTime). StepBy (channel_of (channel_in old)) m piece step.end step.taken step.out.items (channel_in new) up k.serves.told b.first
-      (answer_times k.serves.told b.moment) before now) k.moment_is
-      (answers up k.serves.told b.first (answer_times k.serves.told b.moment) k.serves.stands)
+  by : StepBy (channel_of (channel_in old)) moment piece step.end step.taken step.out.items (channel_in new) up k.serves.told b.first
+      (answer_times k.serves.told b.moments) before now
+  by =
+      as-told (channel_in old) (channel_in new) moment piece up k.serves.told b.first (answer_times k.serves.told b.moments) before now (Ok step)
+      k.serves.stands same_channel (answers up k.serves.told k.serves.stands.goes)
 
-  by_end : (end : Option Ending) → step.end ≡ end → StepBy (channel_of (channel_in old)) b.moment piece end step.taken step.out.items
-      (channel_in new) up k.serves.told b.first (answer_times k.serves.told b.moment) before now
+  by_end : (end : Option Ending) → step.end ≡ end → StepBy (channel_of (channel_in old)) moment piece end step.taken step.out.items
+      (channel_in new) up k.serves.told b.first (answer_times k.serves.told b.moments) before now
   by_end end is =
-      subst (λ (e : Option Ending). StepBy (channel_of (channel_in old)) b.moment piece e step.taken step.out.items (channel_in new) up k.serves.told b.first
-      (answer_times k.serves.told b.moment) before now) is by
+      subst (λ (e : Option Ending). StepBy (channel_of (channel_in old)) moment piece e step.taken step.out.items (channel_in new) up k.serves.told b.first
+      (answer_times k.serves.told b.moments) before now) is by
 
   pub keeps_on : step.end ≡ None → Keeps b new now moment (up ++ take step.taken piece) (down ++ step.out.items) read stage.Going
   keeps_on is = goes_keeps b old new before now moment up down piece read step.taken step.out.items k same_limits same_channel (by_end None is)
@@ -242,19 +250,20 @@ module _ (b : Beginning) (old new : Server) (before now : State) (moment : DateT
   takes_some takes some = taken_by step.end refl takes some
 
 -- what a line keeps whose server took these octets
-pub keeps_where : (b : Beginning) (server : Server) (now : State) (moment : DateTime) (up : List ℕ) → moment ≡ b.moment → HasTakenAll b server now up
+pub keeps_where : (b : Beginning) (server : Server) (now : State) (moment : DateTime) (up : List ℕ) → ((n : ℕ) → b.moments n ≡ moment)
+    → HasTakenAll b server now up
     → Keeps b server now moment up (server_output b up) 0 stage.Going
 keeps_where b server now moment up dated s =
     let frames = s.stands.goes.frames in
     let rest = s.stands.goes.rest in
     record {
-      moment_is = dated;
+      moments_are = dated;
       down_is = refl;
       within = omega arith;
       serves = s;
       leaves =
           sym s.stands.state_is
-          ∙ (ap (λ (c : ℕ). (state_after c b.first s.told (answer_times s.told b.moment)).state) s.channel_is
+          ∙ (ap (λ (c : ℕ). (state_after c b.first s.told (answer_times s.told b.moments)).state) s.channel_is
           ∙ sym (left_at b (channel_in server) s.limits_are s.channel_is up frames rest Going s.told s.stands.goes.stands.run s.stands.goes.told_is));
       ends = end_at b (channel_in server) s.limits_are s.channel_is up frames rest Going s.told s.stands.goes.stands.run s.stands.goes.told_is;
     }
@@ -277,7 +286,7 @@ pub said_none : (b : Beginning) → server_output b [] ≡ []
 unfolding received closings
 said_none b =
     said_by_run b [] [] [] Going (run_nil (rules_by b) refl)
-    ∙ (ap (λ (t : List Told). output_of b.channel b.first t Going (answer_times t b.moment)) (no_events (rules_by b)) ∙ none_said b.channel b.first)
+    ∙ (ap (λ (t : List Told). output_of b.channel b.first t Going (answer_times t b.moments)) (no_events (rules_by b)) ∙ none_said b.channel b.first)
 
 -- a server that waits for a client took no octet
 pub serves_first : (b : Beginning) (server : Server) → ServerStands (channel_in server) [] [] b.first [] b.first → limits_of (channel_in server) ≡ b.limits
@@ -286,16 +295,17 @@ serves_first b server stands limits_are channel_is = record { told = []; stands 
 
 -- a server that waits for a client
 pub keeps_first : (b : Beginning) (server : Server) (limits : Limits) (channel : ℕ) (first : State) (moment : DateTime)
-    → b ≡ record { limits = limits; channel = channel; first = first; moment = moment }
+    → b ≡ record { limits = limits; channel = channel; first = first; moments = λ (n : ℕ). moment }
     → ServerStands (channel_in server) [] [] first [] first → limits_of (channel_in server) ≡ limits → channel_of (channel_in server) ≡ channel
     → Keeps b server first moment [] [] 0 stage.Going
 keeps_first b server limits channel first moment is stands limits_are channel_is =
     subst (λ (c : Beginning). Keeps c server first moment [] [] 0 stage.Going) (sym is)
-    (kept_as here server first moment [] (server_output here []) 0 stage.Going [] [] stage.Going (keeps_where here server first moment [] refl serves) refl
+    (kept_as here server first moment [] (server_output here []) 0 stage.Going [] [] stage.Going (keeps_where here server first moment [] (λ n. refl) serves)
+    refl
     (sym (said_none here)) refl)
   where
     here : Beginning
-    here = record { limits = limits; channel = channel; first = first; moment = moment }
+    here = record { limits = limits; channel = channel; first = first; moments = λ (n : ℕ). moment }
 
     serves : HasTakenAll here server first []
     serves = serves_first here server stands limits_are channel_is

@@ -1,6 +1,6 @@
 -- That a client over a line to a server stays in step with it, by its requests and by renewals.
 use Rattle.std.proofs.Common.{◌≡◌, ℕ, ◌+◌, ◌<◌, IsTrue, List, [], ◌∷◌, ◌++◌, Option, Some, None}
-use Rattle.std.proofs.Common.{Err, length, map, refl, sym, ◌∙◌, ap, subst, append-nil, append_assoc}
+use Rattle.std.proofs.Common.{Err, length, refl, sym, ◌∙◌, ap, subst, append-nil, append_assoc}
 use Rattle.ua_wire.specs.Format.{Extends}
 use Rattle.ua_builtin.specs.DateTime.{date_time}
 use Rattle.ua_builtin.specs.Reasons.{first_reason}
@@ -15,6 +15,7 @@ use Rattle.ua_channel_laws.specs.Outgoing.{renewal_by}
 use Rattle.ua_channel.specs.ServerTold.{Told, Opened}
 use Rattle.ua_channel.specs.declared.client.channel.ClientChannel.{ClientChannel}
 use Rattle.ua_services.specs.declared.request.Request.{Request}
+use Rattle.ua_server.specs.Said.{used_in}
 use Rattle.ua_client.specs.Calls.{AnsweredAll, BreaksAt, BrokenAll, Rounds, all_of, refusal_at}
 use Rattle.ua_client.specs.Calls.Rounds.{NoRound, OneRound}
 use Rattle.ua_client.specs.Carried.{Carries}
@@ -29,7 +30,7 @@ use Rattle.ua_client.specs.declared.reply.Reply.{Reply}
 use Rattle.ua_client.proofs.Settled.{NonePending}
 use Rattle.ua_loopback.specs.Accepted.{IsTurnFault, acknowledged, held_behind_calls, turn_reasons_under}
 use Rattle.ua_loopback.specs.Beginning.{Beginning}
-use Rattle.ua_loopback.specs.Replies.{lane_back_by_token, turn_replies, turn_state}
+use Rattle.ua_loopback.specs.Replies.{turn_state}
 use Rattle.ua_loopback.specs.Says.{server_output, state_told}
 use Rattle.ua_loopback.specs.Sends.{turn_octets}
 use Rattle.ua_loopback.specs.Turns.{calls_told}
@@ -212,12 +213,8 @@ module _ (b : Beginning) (limits : Limits) (url : Option (List ℕ)) (octets : L
         (served_by b limits url (octets ++ sent) (told ++ calls_told token id (bodies_of requests)) token (id + length requests)
         (held_behind_calls held (length requests)) behind there.channel (channel_of_connection y) at limits_then there.served)
 
-    -- the replies
-    pub asked_replied : map (λ (r : Reply). Some r) replies ≡ turn_replies (lane_back_by_token b limits url token) (state_told b told) b.moment (Some requests)
-    asked_replied = there.replies_are
-
-    -- and the state that they leave
-    pub asked_state : state_told b (told ++ calls_told token id (bodies_of requests)) ≡ turn_state (state_told b told) b.moment (Some requests)
+    -- the state that they leave
+    pub asked_state : state_told b (told ++ calls_told token id (bodies_of requests)) ≡ turn_state (state_told b told) b.moments (used_in told) (Some requests)
     asked_state = state_calls b told token id requests (writable a id requests there.judged)
 
   -- the token is renewed
@@ -225,7 +222,7 @@ module _ (b : Beginning) (limits : Limits) (url : Option (List ℕ)) (octets : L
     judged_here : renewal_refusal site ≡ first_reason (turn_reasons_under a held id None)
     judged_here = renewal_refused_there b limits url octets told token id held site (channel_of_connection x) t.served
 
-    pub talks_renewed : IsTrue (date_time.encodable moment) → IsTrue (date_time.encodable b.moment) → renewal_refusal site ≡ None
+    pub talks_renewed : IsTrue (date_time.encodable moment) → ((n : ℕ) → IsTrue (date_time.encodable (b.moments n))) → renewal_refusal site ≡ None
         → sent ≡ renewal_at site moment → (behind : ClientPlace) → IsRenewed (channel_of_connection y) site behind moves.taken
         → AreTalking b limits url (octets ++ sent) (told ++ Opened id 0 (token + 1) 3600000 ∷ []) (token + 1) (id + 1) (held + 1) behind y after
     talks_renewed dated answered judged sent_is behind r =

@@ -7,16 +7,16 @@ use Rattle.ua_server.specs.State.{State, fresh}
 use Rattle.ua_loopback.specs.declared.server_setup.ServerSetup.{ServerSetup}
 
 -- its limits, its SecureChannelId, its services when the connection began, and the time of each of
--- its answers
+-- its answers that carries one, by its number: the first OPN response has the number 0
 pub record Beginning : Type 0 where
   pub limits : Limits
   pub channel : ℕ
   pub first : State
-  pub moment : DateTime
+  pub moments : ℕ → DateTime
 
--- how a server begins that is set up so
+-- how a server begins that is set up so: all its answers have the one time
 abbrev pub beginning_of : ServerSetup → Beginning
-beginning_of s = record { limits = s.limits; channel = s.channel_id; first = s.services; moment = s.moment }
+beginning_of s = record { limits = s.limits; channel = s.channel_id; first = s.services; moments = λ (n : ℕ). s.moment }
 
 -- the least limits
 abbrev pub least_server_limits : Limits
@@ -38,5 +38,5 @@ no_server = record {
   limits = least_server_limits;
   channel = 0;
   first = fresh [] (record { url = None; application_uri = None; name = None; message_limit = 0 });
-  moment = record { ticks = pos 0 };
+  moments = λ (n : ℕ). record { ticks = pos 0 };
 }

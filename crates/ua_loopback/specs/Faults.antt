@@ -85,5 +85,5 @@ pub record BehindRefused (b : Beginning) (limits : Limits) (url : Option (List �
   pub done : List (Option (List Request))
   pub done_is : DoneBefore turns place done
   pub sent : up ≡ opening_octets limits url moment ++ turns_octets (acknowledged b.limits limits url) b.channel moment 1 2 2 done
-  pub replied : map (λ (r : Reply). Some r) replies ≡ replies_to_turns b limits url b.first 1 done
-  pub state : services_after b up ≡ turns_state b.first b.moment done
+  pub replied : map (λ (r : Reply). Some r) replies ≡ replies_to_turns b limits url b.first 1 1 done
+  pub state : services_after b up ≡ turns_state b.first b.moments 1 done

@@ -46,7 +46,7 @@ BreaksAtWrite Broken new = new ≡ Broken
 -- the server took all that was written
 pub record HasTakenAll (b : Beginning) (server : Server) (now : State) (up : List ℕ) : Type 0 where
   pub told : List Told
-  pub stands : ServerStands (channel_in server) up told b.first (answer_times told b.moment) now
+  pub stands : ServerStands (channel_in server) up told b.first (answer_times told b.moments) now
   pub limits_are : limits_of (channel_in server) ≡ b.limits
   pub channel_is : channel_of (channel_in server) ≡ b.channel
 
@@ -73,9 +73,9 @@ EndsAtStage (Ended ending.NoClose) b up = ⊥
 EndsAtStage (Ended ending.Cut) b up = ⊥
 EndsAtStage Broken b up = end_by b up ≡ run.Going
 
--- what a transport to a server that began in this way keeps
+-- what a transport to a server that began in this way keeps, whose answers all have this time
 pub record Keeps (b : Beginning) (server : Server) (now : State) (moment : DateTime) (up down : List ℕ) (read : ℕ) (stage : Stage) : Type 0 where
-  pub moment_is : moment ≡ b.moment
+  pub moments_are : (n : ℕ) → b.moments n ≡ moment
   pub down_is : down ≡ server_output b up
   pub within : read ≤ length down
   pub serves : ServesAtStage stage b server now up

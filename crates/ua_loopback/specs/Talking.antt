@@ -55,13 +55,13 @@ IsSentOver octets before after = IfTrafficKnown (λ (a b : Traffic). b.written �
 abbrev pub StopsOver : ClientFault → Beginning → List ℕ → Option Traffic → Option Traffic → Type 0
 StopsOver f b octets before after = (sent : List ℕ) × IsSentOver sent before after × StopsAfter f b (octets ++ sent)
 
--- the numbers of a server have 32 bits, as its ACK and its channel give them, and its time can be
+-- the numbers of a server have 32 bits, as its ACK and its channel give them, and its times can be
 -- encoded (OPC 10000-6, 7.1.2.4)
 pub record CanBegin (b : Beginning) : Type 0 where
   pub octets : b.limits.max_message_size < 2 ^ 32
   pub chunks : b.limits.max_chunk_count < 2 ^ 32
   pub on : b.channel < 2 ^ 32
-  pub dated : IsTrue (date_time.encodable b.moment)
+  pub dated : (n : ℕ) → IsTrue (date_time.encodable (b.moments n))
 
 -- such a server decodes these bytes, rejects nothing of them, and is told exactly this
 abbrev pub Reads : Beginning → List ℕ → List Told → Type 0
@@ -97,9 +97,13 @@ newest_in t = tokens_behind 1 t.turns
 abbrev pub id_in : SoFar → ℕ
 id_in t = ids_behind 2 t.turns
 
+-- the number of the next answer that carries a time: each RequestId had one such answer
+abbrev pub answers_in : SoFar → ℕ
+answers_in t = ids_behind 1 t.turns
+
 -- the state that the operations left, each request in the state that those before it left
 abbrev pub state_in : SoFar → State
-state_in t = turns_state t.server.first t.server.moment t.turns
+state_in t = turns_state t.server.first t.server.moments 1 t.turns
 
 -- the bytes of one more operation, made at this time: its requests under the newest token and the
 -- next RequestIds, or the OPN of a renewal
@@ -130,12 +134,13 @@ pub record RefusesSession (t : SoFar) (policy_id : Option (List ℕ)) (moment : 
   pub before : List Reply
   pub last : Reply
   pub replied : map (λ (r : Reply). Some r) (before ++ last ∷ []) ≡ requests_replies (lane_back_by_token t.server t.limits t.url (newest_in t))
-      (state_in t) t.server.moment requests
+      (state_in t) t.server.moments (answers_in t) requests
   pub failed : reply_failure last ≡ Some code
 
 -- the server's answer to one of these is no response that answers it
 abbrev pub MisanswersSession : SoFar → Option (List ℕ) → DateTime → Type 0
-MisanswersSession t policy_id moment = (requests : List Request) × AreSession t policy_id moment requests × HaveMisanswer (state_in t) t.server.moment requests
+MisanswersSession t policy_id moment = (requests : List Request) × AreSession t policy_id moment requests
+    × HaveMisanswer (state_in t) t.server.moments (answers_in t) requests
 
 -- why a session is not begun after a talk
 abbrev pub FailsSession : SoFar → Option (List ℕ) → DateTime → ClientFault → Type 0
@@ -176,7 +181,7 @@ pub record AreTalking (b : Beginning) (limits : Limits) (url : Option (List ℕ)
 -- the same after the operations of a talk, each of which was accepted
 pub record TalksAt (t : SoFar) (site : ClientPlace) (x : Connection) (now : Option Traffic) : Type 0 where
   pub url_is : url_of (channel_of_connection x) ≡ t.url
-  pub dated : IsTrue (date_time.encodable t.server.moment)
+  pub dated : (n : ℕ) → IsTrue (date_time.encodable (t.server.moments n))
   pub accepted : AreAcceptedUnder (acked_in t) t.turns
   pub number_is : site.number ≡ turns_number (acked_in t) t.server.channel 1 2 t.turns
   pub state_is : state_told t.server (told_so_far t) ≡ state_in t

@@ -1,6 +1,7 @@
 -- The states of both ends of a connection between two operations of a client over a transport.
 use Rattle.std.specs.Prelude.{◌≡◌, ◌<◌, ◌≤◌, ℕ, List, ◌++◌, map, Option, Some}
 use Rattle.std.specs.List.{AllByRecursion}
+use Rattle.ua_builtin.specs.declared.date_time.DateTime.{DateTime}
 use Rattle.ua_frame.specs.Agreement.{ack_to}
 use Rattle.ua_frame.specs.Frames.{frame_octets}
 use Rattle.ua_frame.specs.Messages.{ack_frame}
@@ -40,8 +41,8 @@ pub record AreServing (b : Beginning) (url : Option (List ℕ)) (octets : List �
     (c : AtClient) : Type 0 where
   pub together : AreTogether b.limits url b.channel octets told s x site c
   pub taken : site.octets ≡ server_output b octets
-  pub agreed : (state_after b.channel b.first told (answer_times told b.moment)).agreement ≡ Some (agreement_of b.limits s.hello)
-  pub says_next : (state_after b.channel b.first told (answer_times told b.moment)).number ≡ c.next
+  pub agreed : (state_after b.channel b.first told (answer_times told b.moments)).agreement ≡ Some (agreement_of b.limits s.hello)
+  pub says_next : (state_after b.channel b.first told (answer_times told b.moments)).number ≡ c.next
   -- the server issued each token that the client holds, and it issued fewer than RequestIds were
   -- used
   pub issued : AllByRecursion (λ (token : ℕ). token ≤ s.issued) c.tokens
@@ -50,12 +51,13 @@ pub record AreServing (b : Beginning) (url : Option (List ℕ)) (octets : List �
 -- what a server that began in this way answers to the opening of a client: its ACK, and the OPN
 -- response that brings the first token (OPC 10000-6, 7.1.2.4 and 6.7.2)
 abbrev pub opening_answer : Beginning → Limits → Option (List ℕ) → List ℕ
-opening_answer b client url = frame_octets (ack_frame (ack_to (hello_to client url) b.limits)) ++ frame_octets (opened_frame b.channel 1 1 0 1 3600000 b.moment)
+opening_answer b client url = frame_octets (ack_frame (ack_to (hello_to client url) b.limits))
+    ++ frame_octets (opened_frame b.channel 1 1 0 1 3600000 (b.moments 0))
 
--- what it answers to a renewal under this RequestId, with this SequenceNumber: the OPN response
--- that brings this token (OPC 10000-6, 6.7.2)
-abbrev pub renewal_answer : Beginning → ℕ → ℕ → ℕ → List ℕ
-renewal_answer b number id token = frame_octets (opened_frame b.channel number id 0 token 3600000 b.moment)
+-- what it answers at this time to a renewal under this RequestId, with this SequenceNumber: the OPN
+-- response that brings this token (OPC 10000-6, 6.7.2)
+abbrev pub renewal_answer : Beginning → DateTime → ℕ → ℕ → ℕ → List ℕ
+renewal_answer b moment number id token = frame_octets (opened_frame b.channel number id 0 token 3600000 moment)
 
 -- the state of a server after calls with these bodies in a lane
 abbrev pub behind_calls : AtServer → Lane → List (List ℕ) → AtServer

@@ -20,7 +20,7 @@ ghost use Rattle.ua_loopback.specs.Says.{services_after, server_output};
 ghost use Rattle.ua_loopback.specs.Faults.{BehindRefused, FailsAtStage, FailsBehind, IsOutside};
 ghost use Rattle.ua_loopback.specs.Replies.{replies_to_turns, turns_state};
 ghost use Rattle.ua_loopback.specs.Sends.{conversation_octets};
-ghost use Rattle.ua_loopback.specs.Turns.{conversation_told};
+ghost use Rattle.ua_loopback.specs.Turns.{conversation_told, ids_behind};
 ghost use Rattle.ua_loopback.specs.declared.stage.Stage.TheVariants.{Ended};
 ghost use Rattle.ua_services.specs.declared.request.Request.{Request};
 ghost use Rattle.ua_loopback.specs.Talking.{IsLineTo, StopsOver};
@@ -131,7 +131,8 @@ fn take_turn<T: AsOperation, L: Line>(
         (turns : List (Option (List Request))) (first : Option Traffic)
         → StaysTalking b limits url moment opened turns (connection_of client.old) first (L.traffic line.old)
         replies.old.items
-        → FailsBehind (HasMisanswer (turns_state b.first b.moment turns) b.moment (T.turn turn.now)) fault) }
+        → FailsBehind (HasMisanswer (turns_state b.first b.moments 1 turns) b.moments (ids_behind 1 turns)
+        (T.turn turn.now)) fault) }
     ensures stops { IfErr result
         (λ fault. (b : Beginning) (limits : Limits) (url : Option (List ℕ)) (opened : ClientPlace)
         (turns : List (Option (List Request))) (first : Option Traffic)
@@ -187,7 +188,7 @@ fn take_turns<T: AsOperation, L: Line>(
         (λ fault. (b : Beginning) (limits : Limits) (url : Option (List ℕ)) (opened : ClientPlace)
         (first : Option Traffic) → StaysTalking b limits url moment opened [] (connection_of client.old) first
         (L.traffic line.old) progress.old.replies.items
-        → FailsBehind (HaveMisanswers b.first b.moment (map T.turn turns.now)) fault) }
+        → FailsBehind (HaveMisanswers b.first b.moments 1 (map T.turn turns.now)) fault) }
     ensures stops { IfErr result
         (λ fault. (b : Beginning) (limits : Limits) (url : Option (List ℕ)) (opened : ClientPlace)
         (first : Option Traffic) → StaysTalking b limits url moment opened [] (connection_of client.old) first
@@ -234,7 +235,7 @@ fn talk<T: AsOperation, L: Line>(
         fault) }
     ensures fails { IfErr result (λ fault. (b : Beginning) → CanOpenTo b setup.limits setup.url setup.moment
         → IsLineTo b [] [] (L.traffic line.old) → url_length setup.url ≤ 4095
-        → FailsBehind (HaveMisanswers b.first b.moment (map T.turn turns.now)) fault) }
+        → FailsBehind (HaveMisanswers b.first b.moments 1 (map T.turn turns.now)) fault) }
     ensures stops { IfErr result (λ fault. (b : Beginning) → CanOpenTo b setup.limits setup.url setup.moment
         → IsLineTo b [] [] (L.traffic line.old) → url_length setup.url ≤ 4095
         → StopsOver fault b [] (L.traffic line.old) (L.traffic line.new)) }
@@ -318,9 +319,9 @@ fn converse_with<T: AsOperation, W: Began>(
         ≡ conversation_octets server.limits server.limits url server.channel_id server.moment
         (map T.turn turns.now)) }
     ensures replied { OnOk result.outcome (map Some result.replies.items
-        ≡ replies_to_turns (beginning_of server) server.limits url server.services 1 (map T.turn turns.now)) }
+        ≡ replies_to_turns (beginning_of server) server.limits url server.services 1 1 (map T.turn turns.now)) }
     ensures state { OnOk result.outcome
-        (result.services ≡ turns_state server.services server.moment (map T.turn turns.now)) }
+        (result.services ≡ turns_state server.services (beginning_of server).moments 1 (map T.turn turns.now)) }
     ensures accepted { OnOk result.outcome
         (AreAcceptedUnder (acknowledged server.limits server.limits url) (map T.turn turns.now)) }
     ensures taken { OnOk result.outcome (result.taken ≡ length turns.now) }
@@ -402,9 +403,9 @@ pub fn converse<T: AsOperation>(
         ≡ conversation_octets server.limits server.limits url server.channel_id server.moment
         (map T.turn turns.now)) }
     ensures replied { OnOk result.outcome (map Some result.replies.items
-        ≡ replies_to_turns (beginning_of server) server.limits url server.services 1 (map T.turn turns.now)) }
+        ≡ replies_to_turns (beginning_of server) server.limits url server.services 1 1 (map T.turn turns.now)) }
     ensures state { OnOk result.outcome
-        (result.services ≡ turns_state server.services server.moment (map T.turn turns.now)) }
+        (result.services ≡ turns_state server.services (beginning_of server).moments 1 (map T.turn turns.now)) }
 
     // Each operation was accepted; or the client stopped before the first that is not, and its
     // fault is the first error against it.

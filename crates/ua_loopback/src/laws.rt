@@ -21,6 +21,7 @@ ghost use Rattle.ua_channel.specs.ClientSends.{hello_to};
 ghost use Rattle.ua_channel_laws.specs.ServerReads.{AtServer, ServerCloses, ServerReads, greeted_at, with_token};
 ghost use Rattle.ua_channel.specs.ServerTold.{Told, Agreed, Opened, Closed};
 ghost use Rattle.ua_channel.specs.declared.client.channel.ClientChannel.{ClientChannel};
+ghost use Rattle.ua_server.specs.Said.{used_in};
 ghost use Rattle.ua_client.specs.Calls.{Answered, sent_at};
 ghost use Rattle.ua_client.specs.Client.{closing_at};
 ghost use Rattle.ua_client.specs.Renewing.{IsRenewed, IsSettled, renewal_at, renewal_refusal};
@@ -71,7 +72,7 @@ pub fn ends_begin_together()
         IsTrue (hello.encodable (hello_to (client_limits x) url)) → url_length url ≤ 4095
         → IsTrue (date_time.encodable moment) →
         IsTrue (ack.encodable (ack_to (hello_to (client_limits x) url) b.limits)) → b.channel < 2 ^ 32
-        → IsTrue (date_time.encodable b.moment) →
+        → ((n : ℕ) → IsTrue (date_time.encodable (b.moments n))) →
         StandsAt x site → site.asks ≡ [] → site.octets ≡ server_output b (opening_octets (client_limits x) url moment)
         → client_next x ≡ 2 →
         AreServing b url (opening_octets (client_limits x) url moment)
@@ -141,19 +142,19 @@ pub fn renewals_stay_together()
         (x : ClientChannel) (site : ClientPlace) (c : AtClient) (moment : DateTime) →
         b.channel < 2 ^ 32 → AreServing b url octets told s x site c → renewal_refusal site ≡ None
         → IsTrue (date_time.encodable moment) →
-        server_output b (octets ++ renewal_at site moment) ≡ server_output b octets ++ renewal_answer b c.next
-        (id_at site) (s.issued + 1) }
+        server_output b (octets ++ renewal_at site moment) ≡ server_output b octets ++ renewal_answer b
+        (b.moments (used_in told)) c.next (id_at site) (s.issued + 1) }
     ensures took { (b : Beginning) (url : Option (List ℕ)) (octets : List ℕ) (told : List Told) (s : AtServer)
         (x y : ClientChannel) (site behind : ClientPlace) (c : AtClient) (moment : DateTime) (taken down : List ℕ) →
         b.channel < 2 ^ 32 → AreServing b url octets told s x site c → renewal_refusal site ≡ None
-        → IsTrue (date_time.encodable moment) → IsTrue (date_time.encodable b.moment) →
+        → IsTrue (date_time.encodable moment) → ((n : ℕ) → IsTrue (date_time.encodable (b.moments n))) →
         IsSettled site → IsRenewed y site behind taken → client_limits y ≡ client_limits x → Extends behind.octets down
         → Extends (server_output b (octets ++ renewal_at site moment)) down →
         behind.octets ≡ server_output b (octets ++ renewal_at site moment) }
     ensures serving { (b : Beginning) (url : Option (List ℕ)) (octets : List ℕ) (told : List Told) (s : AtServer)
         (x y : ClientChannel) (site behind : ClientPlace) (c : AtClient) (moment : DateTime) (taken : List ℕ) →
         b.channel < 2 ^ 32 → AreServing b url octets told s x site c → renewal_refusal site ≡ None
-        → IsTrue (date_time.encodable moment) → IsTrue (date_time.encodable b.moment) →
+        → IsTrue (date_time.encodable moment) → ((n : ℕ) → IsTrue (date_time.encodable (b.moments n))) →
         IsSettled site → IsRenewed y site behind taken → client_limits y ≡ client_limits x
         → behind.octets ≡ server_output b (octets ++ renewal_at site moment) →
         (d : AtClient) × AreServing b url (octets ++ renewal_at site moment)

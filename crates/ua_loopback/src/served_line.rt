@@ -21,7 +21,7 @@ use ua_server::{Server, Services};
 /// as a parameter, so that each transport of that type is known to lead to that server, also after
 /// calls of a client over it.
 pub trait Began {
-    /// The server's limits, its SecureChannelId, its services, and the timestamp of its answers.
+    /// The server's limits, its SecureChannelId, its services, and the timestamps of its answers.
     ghost beginning: { Beginning };
 }
 

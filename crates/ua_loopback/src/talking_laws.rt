@@ -1,8 +1,8 @@
 //! Laws of a client's calls over any transport whose server-to-client bytes are a server's output
 //! for its client-to-server bytes. Each is the contract of a function that does nothing.
 //!
-//! They state what the clauses of a [`ua_client::Client`] call come to there, at a server whose
-//! answers all have one timestamp, call by call, whatever the limits of both ends. Where it succeeds
+//! They state what the clauses of a [`ua_client::Client`] call come to there, call by call, whatever
+//! the limits of both ends and the timestamp of each answer of the server. Where it succeeds
 //! after a talk so far, the server reads just what the call asks, each request whole, once, in order
 //! and under its own RequestId; each reply is that of its own request in the state that those before
 //! it left; and the talk goes on with this operation more, so that the laws apply to the next call
@@ -38,7 +38,8 @@ ghost use Rattle.ua_loopback.specs.Replies.{HaveMisanswer, lane_back_by_token, r
 ghost use Rattle.ua_loopback.specs.Says.{services_after, server_output};
 ghost use Rattle.ua_loopback.specs.Sends.{closing_behind};
 ghost use Rattle.ua_loopback.specs.Talking.{CanBegin, FailsSession, IsBehindFirst, IsLineTo, IsSentOver, IsTalking};
-ghost use Rattle.ua_loopback.specs.Talking.{Reads, SoFar, StopsOver, acked_in, closed_octets, id_in, newest_in};
+ghost use Rattle.ua_loopback.specs.Talking.{Reads, SoFar, StopsOver, acked_in};
+ghost use Rattle.ua_loopback.specs.Talking.{answers_in, closed_octets, id_in, newest_in};
 ghost use Rattle.ua_loopback.specs.Talking.{octets_of_turn, opening, session_requests};
 ghost use Rattle.ua_loopback.specs.Talking.{state_in, told_so_far, with_turn};
 ghost use Rattle.ua_loopback.specs.Turns.{turn_told};
@@ -83,7 +84,8 @@ pub fn talks_reach_the_server()
     // they were.
     ensures state { (t : SoFar) (moment : DateTime) (turn : Option (List Request)) (x : Client)
         (now : Option Traffic) → IsTalking (with_turn t moment turn) x now →
-        services_after t.server (with_turn t moment turn).octets ≡ turn_state (state_in t) t.server.moment turn }
+        services_after t.server (with_turn t moment turn).octets ≡ turn_state (state_in t) t.server.moments
+        (answers_in t) turn }
 {}
 
 /// `Client::call` and `Client::call_all` go on with a talk: what they return has these replies.
@@ -103,8 +105,8 @@ pub fn calls_go_on<A>()
         (x y : Client) (before after : Option Traffic) (result : Result A ClientFault) → IsTalking t x before →
         CallsAll replies requests (connection_of x) (connection_of y) before after result →
         IfOk result (λ found. map Some (replies found) ≡
-        requests_replies (lane_back_by_token t.server t.limits t.url (newest_in t)) (state_in t) t.server.moment
-        requests) }
+        requests_replies (lane_back_by_token t.server t.limits t.url (newest_in t)) (state_in t) t.server.moments
+        (answers_in t) requests) }
     // A fault that is an error of a request is the first error among them, and the talk goes on
     // with the first of these requests, which were asked.
     ensures refused { (replies : A → List Reply) (t : SoFar) (requests : List Request)
@@ -122,7 +124,8 @@ pub fn calls_go_on<A>()
     ensures fails { (replies : A → List Reply) (t : SoFar) (requests : List Request)
         (x y : Client) (before after : Option Traffic) (result : Result A ClientFault) → IsTalking t x before →
         CallsAll replies requests (connection_of x) (connection_of y) before after result →
-        IfErr result (λ fault. FailsBehind (HaveMisanswer (state_in t) t.server.moment requests) fault) }
+        IfErr result (λ fault. FailsBehind (HaveMisanswer (state_in t) t.server.moments (answers_in t) requests)
+        fault) }
     ensures answered { (replies : A → List Reply) (t : SoFar) (requests : List Request)
         (x y : Client) (before after : Option Traffic) (result : Result A ClientFault) → IsTalking t x before →
         CallsAll replies requests (connection_of x) (connection_of y) before after result →

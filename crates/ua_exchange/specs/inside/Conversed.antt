@@ -22,7 +22,7 @@ use Rattle.ua_exchange.specs.declared.turn.Turn.{Turn}
 
 -- how the server begins, with these limits, over services in this state
 abbrev pub beginning_by : Limits → State → DateTime → Beginning
-beginning_by limits first moment = record { limits = limits; channel = channel; first = first; moment = moment }
+beginning_by limits first moment = record { limits = limits; channel = channel; first = first; moments = λ (n : ℕ). moment }
 
 -- what an exchange needs of the clauses of `converse` for the transcript of these operations, of
 -- both ends with these limits, for this address, over services in this state
@@ -32,9 +32,9 @@ pub record ConversesBy (limits : Limits) (address : Option (List ℕ)) (first : 
   pub closed : OnOk t.outcome (t.stage ≡ Ended Closed)
   pub sent : OnOk t.outcome (t.up.items ≡ conversation_octets limits limits address channel moment (served_turns turns))
   pub heard : OnOk t.outcome (ServerCloses limits channel t.up.items (conversation_told limits limits address (served_turns turns)))
-  pub replied : OnOk t.outcome (map (λ (r : Reply). Some r) t.replies.items ≡ replies_to_turns (beginning_by limits first moment) limits address first 1
+  pub replied : OnOk t.outcome (map (λ (r : Reply). Some r) t.replies.items ≡ replies_to_turns (beginning_by limits first moment) limits address first 1 1
       (served_turns turns))
-  pub state : OnOk t.outcome (t.services ≡ turns_state first moment (served_turns turns))
+  pub state : OnOk t.outcome (t.services ≡ turns_state first (λ (n : ℕ). moment) 1 (served_turns turns))
   pub accepted : OnOk t.outcome (judged.AreAcceptedUnder (judged.acknowledged limits limits address) (served_turns turns))
   pub refused : IfErr t.outcome (λ fault. judged.IsTurnFault fault
       → judged.FirstRefusedUnder (judged.acknowledged limits limits address) (served_turns turns) t.taken fault)

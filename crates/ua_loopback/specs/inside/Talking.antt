@@ -30,19 +30,19 @@ use Rattle.ua_loopback.specs.Replies.{HaveMisanswer, turn_state, replies_to_turn
 use Rattle.ua_loopback.specs.Says.{server_output, state_told}
 use Rattle.ua_loopback.specs.Sends.{conversation_octets, turns_octets}
 use Rattle.ua_loopback.specs.Talking.{TalksAt}
-use Rattle.ua_loopback.specs.Turns.{conversation_told, opening_told, turns_told}
+use Rattle.ua_loopback.specs.Turns.{conversation_told, id_behind_turn, opening_told, turns_told}
 use Rattle.ua_loopback.specs.declared.stage.Stage.{Stage}
 use Rattle.ua_loopback.specs.declared.stage.Stage.TheVariants as far
 
 -- the answer to a request of an operation is no response that answers it
-abbrev pub HasMisanswer : State → DateTime → Option (List Request) → Type 0
-HasMisanswer s moment (Some requests) = HaveMisanswer s moment requests
-HasMisanswer s moment None = ⊥
+abbrev pub HasMisanswer : State → (ℕ → DateTime) → ℕ → Option (List Request) → Type 0
+HasMisanswer s moments n (Some requests) = HaveMisanswer s moments n requests
+HasMisanswer s moments n None = ⊥
 
 -- the same for operations, each in the state that those before it left
-abbrev pub HaveMisanswers : State → DateTime → List (Option (List Request)) → Type 0
-HaveMisanswers s moment [] = ⊥
-HaveMisanswers s moment (t ∷ turns) = HasMisanswer s moment t ⊎ HaveMisanswers (turn_state s moment t) moment turns
+abbrev pub HaveMisanswers : State → (ℕ → DateTime) → ℕ → List (Option (List Request)) → Type 0
+HaveMisanswers s moments n [] = ⊥
+HaveMisanswers s moments n (t ∷ turns) = HasMisanswer s moments n t ⊎ HaveMisanswers (turn_state s moments n t) moments (id_behind_turn n t) turns
 
 -- what is told of a reason against an operation over a broken transport: OutOfMemory
 abbrev pub broken_fault : ClientFault → ClientFault
@@ -71,7 +71,7 @@ pub record CanOpenTo (b : Beginning) (limits : Limits) (url : Option (List ℕ))
   pub ack_fits : IsTrue (ack.encodable (ack_to (hello_to limits url) b.limits))
   pub on : b.channel < 2 ^ 32
   pub dated : IsTrue (date_time.encodable moment)
-  pub answered : IsTrue (date_time.encodable b.moment)
+  pub answered : (n : ℕ) → IsTrue (date_time.encodable (b.moments n))
 
 -- a client that did these operations over a transport: its state, what went over the transport, and
 -- the replies
@@ -91,7 +91,7 @@ pub record StaysTalking (b : Beginning) (limits : Limits) (url : Option (List �
     (turns : List (Option (List Request))) (x : Connection) (first now : Option Traffic) (replies : List Reply) : Type 0 where
   pub stays : StaysAfterTurns moment (opening_octets limits url moment) opened turns x first now replies
   pub sent_is : stays.sent ≡ turns_octets (acknowledged b.limits limits url) b.channel moment 1 2 2 turns
-  pub replied : map (λ (r : Reply). Some r) replies ≡ replies_to_turns b limits url b.first 1 turns
+  pub replied : map (λ (r : Reply). Some r) replies ≡ replies_to_turns b limits url b.first 1 1 turns
   pub talks : TalksAt (record { server = b; limits = limits; url = url; turns = turns; octets = opening_octets limits url moment ++ stays.sent }) stays.site x
       now
 
@@ -118,8 +118,8 @@ pub record Talked (b : Beginning) (limits : Limits) (url : Option (List ℕ)) (m
   pub carried : IfTrafficKnown (Carries got (opening_octets limits url moment ++ (sent ++ closing_at last moment))) first now
   pub accepted : AreAcceptedUnder (acknowledged b.limits limits url) turns
   pub up_is : opening_octets limits url moment ++ (sent ++ closing_at last moment) ≡ conversation_octets b.limits limits url b.channel moment turns
-  pub replied : map (λ (r : Reply). Some r) replies ≡ replies_to_turns b limits url b.first 1 turns
-  pub state_is : state_told b (opening_told b.limits limits url ++ turns_told 1 2 turns) ≡ turns_state b.first b.moment turns
+  pub replied : map (λ (r : Reply). Some r) replies ≡ replies_to_turns b limits url b.first 1 1 turns
+  pub state_is : state_told b (opening_told b.limits limits url ++ turns_told 1 2 turns) ≡ turns_state b.first b.moments 1 turns
   pub took : last.octets ≡ server_output b (opening_octets limits url moment ++ (sent ++ closing_at last moment))
   pub closes : ServerCloses b.limits b.channel (opening_octets limits url moment ++ (sent ++ closing_at last moment))
       (conversation_told b.limits limits url turns)

@@ -3,7 +3,7 @@ use Rattle.std.proofs.Common.{Err, take, drop, length, refl, sym, ◌∙◌, ap,
 use Rattle.std.specs.Prelude.{is_some}
 use Rattle.std.specs.Vec.Iter.{into_iter_items, into_iter_len}
 use Rattle.std.proofs.lemmas.List.{take_rest}
-use Rattle.ua_channel.specs.ServerStands.{channel_of, limits_of, next_of}
+use Rattle.ua_channel.specs.ServerStands.{channel_of, limits_of}
 use Rattle.ua_nodes.specs.Set.{after_set, set_refusal}
 use Rattle.ua_nodes.specs.declared.set.Reading.{Reading}
 use Rattle.ua_server.specs.Served.{channel_at, with_own_session}
@@ -130,12 +130,11 @@ returns-in-Err-clause-failed c = λ before hs first stands.
     let reached = at.invariant.0.to before hs first stands in
     let octets = before ++ take at.taken c.args.octets.now in
     let told = told_in (hs ++ reached.events) in
-    on_step (λ (f : StepFault). StepNow (limits_of x) (channel_of x) (next_of x) c.args.moment (drop at.taken c.args.octets.now) (Err f)
+    on_step (λ (f : StepFault). StepNow x c.args.moment (drop at.taken c.args.octets.now) (Err f)
     (channel_at c.set_and_step.new.connection) octets told set later) (λ (f : StepFault). f ≡ step_fault.OutOfMemory)
     c.in-Err.fault
     (subst (λ (p : List ℕ).
-    IfStepFault (λ (f : StepFault). StepNow (limits_of x) (channel_of x) (next_of x) c.args.moment p (Err f) (channel_at c.set_and_step.new.connection)
+    IfStepFault (λ (f : StepFault). StepNow x c.args.moment p (Err f) (channel_at c.set_and_step.new.connection)
     octets told set later) c.in-Err.fault)
     (take_rest c.args.octets.now at.taken) (c.in-Err.ensures.failed octets told reached.stands.goes))
-    (λ f h. for_memory (limits_of x) (channel_of x) (next_of x) c.args.moment (drop at.taken c.args.octets.now) (channel_at c.set_and_step.new.connection)
-    octets told set later f h)
+    (λ f h. for_memory x (channel_at c.set_and_step.new.connection) c.args.moment (drop at.taken c.args.octets.now) octets told set later f h)

@@ -47,7 +47,7 @@ returns-clause-refused g c = λ reason b able line.
 
 pub returns-in-Err-clause-fails : goal.returns-in-Err-clause-fails
 returns-in-Err-clause-fails g c = λ b able line short.
-    outside_fails (HaveMisanswers b.first b.moment (map g.T.AsOperation.turn c.args.turns.now)) c.in-Err.fault (c.in-Err.ensures.fails b able line short)
+    outside_fails (HaveMisanswers b.first b.moments 1 (map g.T.AsOperation.turn c.args.turns.now)) c.in-Err.fault (c.in-Err.ensures.fails b able line short)
 
 pub returns-in-Err-take_turns-clause-fails : goal.returns-in-Err-take_turns-clause-fails
 returns-in-Err-take_turns-clause-fails g c = λ b able line short.
@@ -68,7 +68,7 @@ returns-clause-fails g c = λ b able line short.
     (subst (λ (rs : List Reply). StaysTalking b c.args.setup.limits c.args.setup.url c.args.setup.moment w.opened [] (connection_of c.in-Ok.client) t0 t1 rs)
     (sym c.requires.none) w.stays) in
     let closes = c.in-Err-close.ensures.closes c.in-Ok-take_turns.ensures.ready in
-    outside_fails (HaveMisanswers b.first b.moment (map g.T.AsOperation.turn c.args.turns.now)) c.in-Err-close.fault
+    outside_fails (HaveMisanswers b.first b.moments 1 (map g.T.AsOperation.turn c.args.turns.now)) c.in-Err-close.fault
     (close_fails (Unit {0}) s.stays.site c.args.setup.moment closes.sent c.in-Err-close.fault (closes.answers s.stays.site s.stays.at))
 
 pub returns-in-Err-clause-before : goal.returns-in-Err-clause-before

@@ -16,7 +16,7 @@ invariant_of-self-in-Some g c =
       kept_more b c.step.new.self c.step.new.services i.moment (i.up.items ++ take step.taken c.args.piece.now) i.down.items step.out.items i.read
           (Ended c.in-Some.end) c.add_both.new.up.items c.add_both.new.down.items c.deref.result.now (Ended c.in-Some.end)
           (keeps_ended b i.server c.step.new.self i.services c.step.new.services i.moment i.up.items i.down.items c.args.piece.now i.read step k
-          c.in-Ok.ensures.answers c.in-Ok.ensures.limits c.in-Ok.ensures.channel c.in-Some.end c.in-Some.is)
+          c.in-Ok.ensures.now c.in-Ok.ensures.limits c.in-Ok.ensures.channel c.in-Some.end c.in-Some.is)
           c.in-Ok-add_both.ensures.up c.in-Ok-add_both.ensures.down c.deref.ensures.value refl,
       λ some. tt,
     )
@@ -32,7 +32,7 @@ invariant_of-self-in_default-end g c =
       kept_more b c.step.new.self c.step.new.services i.moment (i.up.items ++ take step.taken c.args.piece.now) i.down.items step.out.items i.read Going
           c.add_both.new.up.items c.add_both.new.down.items c.deref.result.now i.stage
           (keeps_on b i.server c.step.new.self i.services c.step.new.services i.moment i.up.items i.down.items c.args.piece.now i.read step k
-          c.in-Ok.ensures.answers c.in-Ok.ensures.limits c.in-Ok.ensures.channel c.in_default-end.is)
+          c.in-Ok.ensures.now c.in-Ok.ensures.limits c.in-Ok.ensures.channel c.in_default-end.is)
           c.in-Ok-add_both.ensures.up c.in-Ok-add_both.ensures.down c.deref.ensures.value going,
       c.self.invariant.1,
     )
@@ -46,5 +46,5 @@ returns-clause-some g c =
     let k : Keeps b i.server i.services i.moment i.up.items i.down.items i.read Going =
     subst (λ (s : Stage). Keeps b i.server i.services i.moment i.up.items i.down.items i.read s) going c.self.invariant.0 in
     λ some.
-    takes_some b i.server c.step.new.self i.services c.step.new.services i.moment i.up.items i.down.items c.args.piece.now i.read step k c.in-Ok.ensures.answers
+    takes_some b i.server c.step.new.self i.services c.step.new.services i.moment i.up.items i.down.items c.args.piece.now i.read step k c.in-Ok.ensures.now
     c.in-Ok.ensures.limits c.in-Ok.ensures.channel c.in-Ok.ensures.progress some
