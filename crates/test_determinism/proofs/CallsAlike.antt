@@ -1,5 +1,5 @@
--- What calls of two clients read and write, over lines that bring the same octets.
-use Rattle.std.specs.Prelude.{◌≡◌, ℕ, ◌≤◌, ◌<◌, Bool, true, false, List, [], ◌++◌, length, Option, Some, None}
+-- What calls of two clients read and write, over lines from which the same octets come to what is written.
+use Rattle.std.specs.Prelude.{◌≡◌, ℕ, ◌≤◌, ◌⊎◌, Bool, true, false, List, [], ◌++◌, length, Option, Some, None, Result, Err, IsErrOf}
 use Rattle.std.proofs.Common.{refl, sym, ◌∙◌, ap, subst, arith, append_assoc, append-nil, length-append}
 use Rattle.std.proofs.lemmas.List.{append_cancel_left, append_cancel_right}
 use Rattle.ua_builtin.specs.declared.status_code.StatusCode.{StatusCode}
@@ -13,56 +13,54 @@ use Rattle.ua_frame.specs.Run.{Rules, Run, End, Going, Stopped, events}
 use Rattle.ua_frame.specs.declared.limits.Limits.{Limits}
 use Rattle.ua_client.specs.Carried.{Carries, IsAtEnd}
 use Rattle.ua_client.specs.Client.{connection_of}
-use Rattle.ua_client.specs.Hearing.{MovesConnection, most_reads, untaken_of}
+use Rattle.ua_client.specs.Hearing.{MovesConnection, StopsByTraffic, most_reads, untaken_of}
 use Rattle.ua_client.specs.declared.client.Client.{Client}
 use Rattle.ua_client.specs.declared.connection.Connection.{Connection}
 use Rattle.ua_client.specs.declared.fault.ClientFault.{ClientFault}
 use Rattle.ua_client.specs.declared.fault.ClientFault.TheVariants as fault
 use Rattle.test_determinism.specs.Calling.{ComesTo}
-use Rattle.test_determinism.specs.Lines.{ComeAlike, WroteExactly, WroteAlike}
+use Rattle.test_determinism.specs.Lines.{AreFew, ComeAlike, ComesAsOne, WroteExactly, WroteAlike}
+use Rattle.test_determinism.specs.Lines.ComesAsOne.{Known, Steady, SameWritten}
 use Rattle.test_determinism.proofs.FrontsAlike.{ReadsAll, ReadsFront, stopped_all}
 use Rattle.test_determinism.proofs.ServedAlike.{come, where_told, wrote, wrote_at}
 use Rattle.test_determinism.proofs.ServersAlike.{same_code}
 
 -- ---- what a call read and wrote
 
--- a call took these octets of those that were to come, and wrote these
-pub record Ran (new : Connection) (sent taken : List ℕ) (line after : Option Traffic) (coming : List ℕ) : Type 0 where
+-- a call took these octets of those that come to what it wrote, which is this
+pub record Ran (new : Connection) (sent taken : List ℕ) (line after : Option Traffic) (coming : List ℕ → List ℕ) : Type 0 where
   pub first : Traffic
   pub first_is : line ≡ Some first
   pub last : Traffic
   pub last_is : after ≡ Some last
   -- whatever more is written
-  pub all : (more : List ℕ) → taken ++ (untaken_of new ++ last.coming more) ≡ coming
-  pub parts : taken ++ (untaken_of new ++ last.coming []) ≡ coming
+  pub all : (more : List ℕ) → taken ++ (untaken_of new ++ last.coming more) ≡ coming (sent ++ more)
   pub written : last.written ≡ first.written ++ sent
 
 regroup : (taken left got more start : List ℕ) → start ++ got ≡ taken ++ left → taken ++ (left ++ more) ≡ start ++ (got ++ more)
 regroup taken left got more start e = sym (append_assoc taken left more) ∙ (ap (λ (t : List ℕ). t ++ more) (sym e) ∙ append_assoc start got more)
 
-pub ran : (old new : Connection) (sent : List ℕ) (line after : Option Traffic) (coming : List ℕ) (t : Traffic) (m : MovesConnection old new sent line after)
-    → line ≡ Some t → ((more : List ℕ) → untaken_of old ++ t.coming more ≡ coming) → Ran new sent m.taken line after coming
+pub ran : (old new : Connection) (sent : List ℕ) (line after : Option Traffic) (coming : List ℕ → List ℕ) (t : Traffic)
+    (m : MovesConnection old new sent line after)
+    → line ≡ Some t → ((more : List ℕ) → untaken_of old ++ t.coming more ≡ coming more) → Ran new sent m.taken line after coming
 ran old new sent line after coming t m e brings =
     let p = where_told (Carries m.got sent) line after t e m.carried in
-    let all : (more : List ℕ) → m.taken ++ (untaken_of new ++ p.after.coming more) ≡ coming =
-    λ more. regroup m.taken (untaken_of new) m.got (p.after.coming more) (untaken_of old) m.parts
-    ∙ (ap (λ (c : List ℕ). untaken_of old ++ c) (sym (p.holds.coming more)) ∙ brings (sent ++ more)) in
     record {
       first = t;
       first_is = e;
       last = p.after;
       last_is = p.is;
-      all = all;
-      parts = all [];
+      all = λ more. regroup m.taken (untaken_of new) m.got (p.after.coming more) (untaken_of old) m.parts
+          ∙ (ap (λ (c : List ℕ). untaken_of old ++ c) (sym (p.holds.coming more)) ∙ brings (sent ++ more));
       written = p.holds.written;
     }
 
-pub ran_wrote : (new : Connection) (sent taken : List ℕ) (line after : Option Traffic) (coming : List ℕ) → Ran new sent taken line after coming
+pub ran_wrote : (new : Connection) (sent taken : List ℕ) (line after : Option Traffic) (coming : List ℕ → List ℕ) → Ran new sent taken line after coming
     → WroteExactly line after sent
 ran_wrote new sent taken line after coming r = wrote line after r.first r.last sent r.first_is r.last_is r.written
 
 -- two calls that wrote the same
-pub both_wrote : (one two : Connection) (sent other taken got : List ℕ) (line after elsewhere later : Option Traffic) (coming : List ℕ) → sent ≡ other
+pub both_wrote : (one two : Connection) (sent other taken got : List ℕ) (line after elsewhere later : Option Traffic) (coming : List ℕ → List ℕ) → sent ≡ other
     → Ran one sent taken line after coming → Ran two other got elsewhere later coming → WroteAlike line after elsewhere later
 both_wrote one two sent other taken got line after elsewhere later coming e r q = record {
   sent = sent;
@@ -71,65 +69,136 @@ both_wrote one two sent other taken got line after elsewhere later coming e r q 
 }
 
 -- the octets that a call leaves to come
-pub ran_comes : (x : Client) (new : Connection) (sent taken : List ℕ) (line after : Option Traffic) (coming : List ℕ) (r : Ran new sent taken line after coming)
-    → connection_of x ≡ new → ComesTo x after (untaken_of new ++ r.last.coming [])
-ran_comes x new sent taken line after coming r e =
-    subst (λ (z : Option Traffic). ComesTo x z (untaken_of new ++ r.last.coming [])) (sym r.last_is)
-    (λ more. ap (λ (c : Connection). untaken_of c ++ r.last.coming more) e ∙ append_cancel_left taken _ _ (r.all more ∙ sym r.parts))
+pub ran_comes : (x : Client) (new : Connection) (sent taken : List ℕ) (line after : Option Traffic) (coming ahead : List ℕ → List ℕ)
+    (r : Ran new sent taken line after coming)
+    → connection_of x ≡ new → ((more : List ℕ) → untaken_of new ++ r.last.coming more ≡ ahead more) → ComesTo x after ahead
+ran_comes x new sent taken line after coming ahead r e same =
+    subst (λ (z : Option Traffic). ComesTo x z ahead) (sym r.last_is)
+    (λ more. ap (λ (c : Connection). untaken_of c ++ r.last.coming more) e ∙ same more)
+
+-- two calls that wrote the same and took the same leave the same to come
+pub ahead_same : (one two : Connection) (sent other taken got : List ℕ) (line after elsewhere later : Option Traffic) (coming : List ℕ → List ℕ)
+    → sent ≡ other → taken ≡ got → (r : Ran one sent taken line after coming) (q : Ran two other got elsewhere later coming) (more : List ℕ)
+    → untaken_of two ++ q.last.coming more ≡ untaken_of one ++ r.last.coming more
+ahead_same one two sent other taken got line after elsewhere later coming e same r q more =
+    append_cancel_left got _ _
+    (q.all more
+    ∙ (ap (λ (o : List ℕ). coming (o ++ more)) (sym e)
+    ∙ (sym (r.all more) ∙ ap (λ (o : List ℕ). o ++ (untaken_of one ++ r.last.coming more)) same)))
 
 -- what comes to a client over a line that tells its octets
-pub comes_at : (x : Client) (line : Option Traffic) (coming : List ℕ) → ComesTo x line coming → (t : Traffic) × (line ≡ Some t)
-    × ((more : List ℕ) → untaken_of (connection_of x) ++ t.coming more ≡ coming)
+pub comes_at : (x : Client) (line : Option Traffic) (coming : List ℕ → List ℕ) → ComesTo x line coming → (t : Traffic) × (line ≡ Some t)
+    × ((more : List ℕ) → untaken_of (connection_of x) ++ t.coming more ≡ coming more)
 comes_at x (Some t) coming h = (t, refl, h)
 comes_at x None coming h = absurd h
 
--- where a call stopped at the end of the input all was taken
-pub ended_all : (new : Connection) (sent taken : List ℕ) (line after : Option Traffic) (coming : List ℕ) → Ran new sent taken line after coming
-    → untaken_of new ≡ [] → IsAtEnd after → taken ≡ coming
-ended_all new sent taken line after coming r none end =
-    let last : r.last.coming [] ≡ [] = subst IsAtEnd r.last_is end in
-    sym (append-nil taken) ∙ (ap (λ (t : List ℕ). taken ++ t) (sym (ap (λ (u : List ℕ). u ++ r.last.coming []) none ∙ last)) ∙ r.parts)
-
--- and nothing is to come
-pub ended_more : (new : Connection) (sent taken : List ℕ) (line after : Option Traffic) (coming : List ℕ) (r : Ran new sent taken line after coming)
-    → untaken_of new ≡ [] → IsAtEnd after → untaken_of new ++ r.last.coming [] ≡ []
-ended_more new sent taken line after coming r none end = ap (λ (u : List ℕ). u ++ r.last.coming []) none ∙ subst IsAtEnd r.last_is end
+-- where a call stopped at the end of the input nothing is to come
+pub ended_more : (new : Connection) (sent taken : List ℕ) (line after : Option Traffic) (coming : List ℕ → List ℕ) (r : Ran new sent taken line after coming)
+    (more : List ℕ) → more ≡ [] → untaken_of new ≡ [] → IsAtEnd after → untaken_of new ++ r.last.coming more ≡ []
+ended_more new sent taken line after coming r more e none end =
+    ap (λ (u : List ℕ). u ++ r.last.coming more) none ∙ (ap r.last.coming e ∙ subst IsAtEnd r.last_is end)
 
 -- where the same octets were written to both lines both calls sent the same
-pub wrote_same : (one two : Connection) (sent other taken got : List ℕ) (line after elsewhere later : Option Traffic) (coming : List ℕ)
+pub wrote_same : (one two : Connection) (sent other taken got : List ℕ) (line after elsewhere later : Option Traffic) (coming : List ℕ → List ℕ)
     → Ran one sent taken line after coming → Ran two other got elsewhere later coming → WroteAlike line after elsewhere later → sent ≡ other
 wrote_same one two sent other taken got line after elsewhere later coming r q w =
     append_cancel_left r.first.written sent w.sent (sym r.written ∙ wrote_at line after r.first r.last w.sent r.first_is r.last_is w.first)
     ∙ sym (append_cancel_left q.first.written other w.sent (sym q.written ∙ wrote_at elsewhere later q.first q.last w.sent q.first_is q.last_is w.second))
 
 -- where reads of both failed behind the same octets both took the same
-pub read_same : (one two : Connection) (sent other taken got : List ℕ) (line after elsewhere later : Option Traffic) (coming : List ℕ)
-    → Ran one sent taken line after coming → Ran two other got elsewhere later coming
+pub read_same : (one two : Connection) (sent other taken got : List ℕ) (line after elsewhere later : Option Traffic) (coming : List ℕ → List ℕ)
+    → Ran one sent taken line after coming → Ran two other got elsewhere later coming → coming (sent ++ []) ≡ coming (other ++ [])
     → untaken_of one ≡ [] → untaken_of two ≡ [] → ComeAlike after later → taken ≡ got
-read_same one two sent other taken got line after elsewhere later coming r q none also same =
+read_same one two sent other taken got line after elsewhere later coming r q e none also same =
     append_cancel_right taken got (r.last.coming [])
     (ap (λ (u : List ℕ). taken ++ (u ++ r.last.coming [])) (sym none)
-    ∙ (r.parts
-    ∙ (sym q.parts
+    ∙ (r.all []
+    ∙ (e
+    ∙ (sym (q.all [])
     ∙ (ap (λ (u : List ℕ). got ++ (u ++ q.last.coming [])) also
-    ∙ ap (λ (c : List ℕ). got ++ c) (sym (come after later r.last q.last r.last_is q.last_is same))))))
+    ∙ ap (λ (c : List ℕ). got ++ c) (sym (come after later r.last q.last r.last_is q.last_is same)))))))
 
 -- fewer octets than the most reads
-pub few_reads : (old new : Connection) (sent : List ℕ) (line after : Option Traffic) (coming before : List ℕ) (t : Traffic)
-    (m : MovesConnection old new sent line after) → line ≡ Some t → ((more : List ℕ) → untaken_of old ++ t.coming more ≡ coming)
-    → length (before ++ coming) < 0xFFFF_FFFF_FFFF_FFFF → most_reads ≤ length m.got → ⊥
-few_reads old new sent line after coming before t m e brings few most =
+pub few_reads : (old new : Connection) (sent : List ℕ) (line after : Option Traffic) (coming : List ℕ → List ℕ) (t : Traffic)
+    (m : MovesConnection old new sent line after) → line ≡ Some t → ((more : List ℕ) → untaken_of old ++ t.coming more ≡ coming more)
+    → AreFew line after coming → most_reads ≤ length m.got → ⊥
+few_reads old new sent line after coming t m e brings few most =
     let p = where_told (Carries m.got sent) line after t e m.carried in
     omega (
       arith,
-      few,
+      few sent (wrote line after t p.after sent e p.is p.holds.written),
       most,
-      length-append before coming,
+      ap (λ (o : List ℕ). length (coming o)) (append-nil sent),
       ap length (brings (sent ++ [])),
       length-append (untaken_of old) (t.coming (sent ++ [])),
       ap length (p.holds.coming []),
       length-append m.got (p.after.coming []),
     )
+
+-- ---- what is ahead of a call
+
+-- so much of a whole is ahead of a call that took this, none of it where the input ended; and it did not end for too many reads
+pub record Ahead {A : Type 0} (a : Result A ClientFault) (taken whole : List ℕ) : Type 0 where
+  pub more : List ℕ
+  pub parts : taken ++ more ≡ whole
+  pub none : a ≡ Err fault.Ended → more ≡ []
+  pub short : a ≡ Err fault.TooLong → ⊥
+
+pub all_taken : {A : Type 0} (a : Result A ClientFault) (taken whole : List ℕ) → Ahead a taken whole → a ≡ Err fault.Ended → taken ≡ whole
+all_taken a taken whole q e = sym (append-nil taken) ∙ (ap (λ (t : List ℕ). taken ++ t) (sym (q.none e)) ∙ q.parts)
+
+-- once this more is written, which is nothing where the input ended
+pub ahead_by : {A : Type 0} (old new : Connection) (sent more whole : List ℕ) (line after : Option Traffic) (coming : List ℕ → List ℕ)
+    (a : Result A ClientFault) (t : Traffic) (m : MovesConnection old new sent line after) → line ≡ Some t
+    → ((more : List ℕ) → untaken_of old ++ t.coming more ≡ coming more) → AreFew line after coming
+    → StopsByTraffic most_reads most_reads m.got new after a → (a ≡ Err fault.Ended → more ≡ []) → coming (sent ++ more) ≡ whole → Ahead a m.taken whole
+ahead_by {A} old new sent more whole line after coming a t m e brings few stops none same =
+    let r = ran old new sent line after coming t m e brings in
+    record {
+      more = untaken_of new ++ r.last.coming more;
+      parts = r.all more ∙ same;
+      none = λ is.
+          let k : StopsByTraffic {A = A} most_reads most_reads m.got new after (Err fault.Ended) =
+          subst (λ (c : Result A ClientFault). StopsByTraffic most_reads most_reads m.got new after c) is stops in
+          ended_more new sent m.taken line after coming r more (none is) k.0 k.1;
+      short = λ is.
+          let k : StopsByTraffic {A = A} most_reads most_reads m.got new after (Err fault.TooLong) =
+          subst (λ (c : Result A ClientFault). StopsByTraffic most_reads most_reads m.got new after c) is stops in
+          few_reads old new sent line after coming t m e brings few k.1;
+    }
+
+-- of what comes to all that is written
+pub behind_all : {A : Type 0} (old new : Connection) (sent all : List ℕ) (line after : Option Traffic) (coming : List ℕ → List ℕ)
+    (a : Result A ClientFault) (t : Traffic) (m : MovesConnection old new sent line after) → line ≡ Some t
+    → ((more : List ℕ) → untaken_of old ++ t.coming more ≡ coming more) → AreFew line after coming
+    → StopsByTraffic most_reads most_reads m.got new after a → sent ≡ all → Ahead a m.taken (coming all)
+behind_all old new sent all line after coming a t m e brings few stops is =
+    ahead_by old new sent [] (coming all) line after coming a t m e brings few stops (λ k. refl) (ap coming (append-nil sent ∙ is))
+
+-- ---- what comes to both
+
+-- of what comes to two calls, each of which wrote this: once this more is written, it is the same; nothing more where a read stopped
+pub record OneComing {A B : Type 0} (a : Result A ClientFault) (b : Result B ClientFault) (coming : List ℕ → List ℕ) (sent other : List ℕ) : Type 0 where
+  pub more : List ℕ
+  pub rest : List ℕ
+  pub same : coming (sent ++ more) ≡ coming (other ++ rest)
+  pub stop : (f : ClientFault) → IsErrOf a f → (f ≡ fault.Ended) ⊎ (f ≡ fault.Read) → more ≡ []
+  pub stop_too : (f : ClientFault) → IsErrOf b f → (f ≡ fault.Ended) ⊎ (f ≡ fault.Read) → rest ≡ []
+
+pub one_now : {A B : Type 0} (a : Result A ClientFault) (b : Result B ClientFault) (coming : List ℕ → List ℕ) (sent other : List ℕ)
+    → coming (sent ++ []) ≡ coming (other ++ []) → OneComing a b coming sent other
+one_now a b coming sent other e = record { more = []; rest = []; same = e; stop = λ f is which. refl; stop_too = λ f is which. refl }
+
+-- by what is written, or by this
+pub one_by : {A B K : Type 0} (a : Result A ClientFault) (b : Result B ClientFault) (one two : Connection) (sent other taken got : List ℕ)
+    (line after elsewhere later : Option Traffic) (coming : List ℕ → List ℕ)
+    → Ran one sent taken line after coming → Ran two other got elsewhere later coming → (K → OneComing a b coming sent other)
+    → ComesAsOne K coming line after elsewhere later → OneComing a b coming sent other
+one_by a b one two sent other taken got line after elsewhere later coming r q by (Known k) = by k
+one_by a b one two sent other taken got line after elsewhere later coming r q by (Steady k) = one_now a b coming sent other (k (sent ++ []) (other ++ []))
+one_by a b one two sent other taken got line after elsewhere later coming r q by (SameWritten w) =
+    one_now a b coming sent other
+    (ap (λ (o : List ℕ). coming (o ++ [])) (wrote_same one two sent other taken got line after elsewhere later coming r q w))
 
 -- ---- faults of waiting
 

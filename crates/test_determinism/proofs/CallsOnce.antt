@@ -1,12 +1,12 @@
 -- Calls of clients that are asked twice.
-use Rattle.std.specs.Prelude.{◌≡◌, ℕ, ◌+◌, ◌⊎◌, true, false, List, [], ◌∷◌, ◌++◌, length, Option, Some, None, Result, Ok, Err}
+use Rattle.std.specs.Prelude.{◌≡◌, ℕ, ◌+◌, ◌≤◌, ◌⊎◌, true, false, List, [], ◌∷◌, ◌++◌, length, Option, Some, None, Result, Ok, Err}
 use Rattle.std.proofs.Common.{refl, sym, ◌∙◌, ap, subst}
 use Rattle.ua_frame.specs.declared.limits.Limits.{Limits}
 use Rattle.ua_channel.specs.Client.{client_limits}
 use Rattle.ua_channel.specs.Line.{Traffic}
 use Rattle.ua_channel.specs.declared.client.channel.ClientChannel.{ClientChannel}
 use Rattle.ua_services.specs.declared.request.Request.{Request}
-use Rattle.ua_client.specs.Calls.{CallsAll, CallsAllAt, all_of}
+use Rattle.ua_client.specs.Calls.{CallsAll, CallsAllAt, all_of, sent_at}
 use Rattle.ua_client.specs.Client.{IsLeft, client_channel, connection_of}
 use Rattle.ua_client.specs.Hearing.{channel_of_connection, fault_alone}
 use Rattle.ua_client.specs.Kept.{CallsInto, CallsIntoAt}
@@ -17,12 +17,15 @@ use Rattle.ua_client.specs.declared.fault.CallsFault.{CallsFault}
 use Rattle.ua_client.specs.declared.fault.ClientFault.{ClientFault}
 use Rattle.ua_client.specs.declared.fault.ClientFault.TheVariants as fault
 use Rattle.ua_client.specs.declared.reply.Reply.{Reply}
-use Rattle.test_determinism.specs.Calling.{CallsAlike, LeavesBoth, StandReady}
+use Rattle.test_determinism.specs.Calling.{LeavesBoth, MadeInStages}
 use Rattle.test_determinism.specs.Lines.{WroteAlike}
-use Rattle.test_determinism.specs.Pinned.{HadMemory, SameBy}
+use Rattle.test_determinism.specs.Pinned.{SameBy}
+use Rattle.test_determinism.proofs.CallsAlike.{OneComing, one_by}
 use Rattle.test_determinism.proofs.GroupOnce.{OneBody}
 use Rattle.test_determinism.proofs.GroupsAlike.{Walk, WalkOnce, broke_all, broke_into, walk_answered, walk_broken, walks_once}
-use Rattle.test_determinism.proofs.LinesAlike.{Ways, fault_of, had_first, had_second, left_both, limits_are, limits_too, not_long, not_long_too, ways, wrote}
+use Rattle.test_determinism.proofs.LinesAlike.{Ways, fault_of, first, had_first, had_second, left_both, limits_are, limits_too, not_long, not_long_too}
+use Rattle.test_determinism.proofs.LinesAlike.{second, ways, wrote}
+use Rattle.test_determinism.proofs.SentAlike.{added_wrote, calls_wrote, one_written}
 
 -- ---- what calls come to
 
@@ -62,10 +65,10 @@ met view limits requests s new sent taken more same (Err f) stop had short k = r
 -- ---- calls that forget what is kept
 
 pub record CalledOnce {A : Type 0} (view : A → List Reply) (a b : Result A ClientFault) (one two : Client)
-    (line after other later : Option Traffic) : Type 0 where
+    (line after other later : Option Traffic) (octets : List ℕ) (coming : List ℕ → List ℕ) : Type 0 where
   pub answers : SameBy view a b
   pub written : WroteAlike line after other later
-  pub left : LeavesBoth a one two after later
+  pub left : LeavesBoth a one two line after later octets coming
 
 none_option : {P : Type 0} (f : ClientFault) → None ≡ Some f → P
 none_option f e = cc
@@ -81,34 +84,46 @@ same_answers view (Err f) (Ok w) e h = none_option f (sym e)
 same_answers view (Err f) (Err g) e h = same_option f g e
 
 pub called_once : {A : Type 0} (once : OneBody) (view : A → List Reply) (one two x y : Client) (requests : List Request) (a b : Result A ClientFault)
-    (line after other later : Option Traffic) (s : ClientPlace) (coming : List ℕ)
-    → StandReady one two line other s coming → HadMemory fault.OutOfMemory a b → CallsAll view requests (connection_of one) (connection_of x) line after a
+    (line after other later : Option Traffic) (s : ClientPlace) (coming : List ℕ → List ℕ)
+    → MadeInStages (length requests ≤ 64) one two a b line after other later s coming
+    → CallsAll view requests (connection_of one) (connection_of x) line after a
     → CallsAll view requests (connection_of two) (connection_of y) other later b
-    → IsLeft a x → IsLeft b y → CallsAlike a b line after other later → CalledOnce view a b x y line after other later
-called_once {A} once view one two x y requests a b line after other later s coming stand had h k left left_too alike = record {
+    → IsLeft a x → IsLeft b y → CalledOnce view a b x y line after other later s.octets coming
+called_once {A} once view one two x y requests a b line after other later s coming made h k left left_too = record {
   answers = same_answers view a b one_walk.outcome (λ v w e d. sym (mine.shown v e) ∙ (one_walk.replies_are ∙ theirs.shown w d));
-  written = wrote one two x y a b line after other later s coming stand h.sent k.sent h.moves k.moves h.same k.same h.stops k.stops one_walk.sent_is;
-  left = left_both one two x y a b line after other later s coming stand h.sent k.sent h.moves k.moves h.same k.same h.stops k.stops one_walk.outcome left
+  written = wrote one two x y a b line after other later s coming made.made h.sent k.sent h.moves k.moves h.same k.same h.stops k.stops one_walk.sent_is;
+  left = left_both one two x y a b line after other later s coming made.made h.sent k.sent h.moves k.moves h.same k.same h.stops k.stops one_walk.sent_is
+      one_walk.outcome left
       left_too one_walk.stays;
 }
   where
+    one_coming : OneComing a b coming h.sent k.sent
+    one_coming =
+        one_by a b (connection_of x) (connection_of y) h.sent k.sent h.moves.taken k.moves.taken line after other later coming
+        (first one two x y a b line after other later s coming made.made h.sent k.sent h.moves k.moves h.same k.same h.stops k.stops)
+        (second one two x y a b line after other later s coming made.made h.sent k.sent h.moves k.moves h.same k.same h.stops k.stops)
+        (λ few. one_written a b coming (sent_at s requests) h.sent k.sent
+        (calls_wrote requests s h.sent h.moves.taken few view (connection_of x) a (h.answers s made.made.stand.first))
+        (calls_wrote requests s k.sent k.moves.taken few view (connection_of y) b (k.answers s made.made.stand.second))) made.as_one
+
     both : Ways a b h.moves.taken k.moves.taken h.sent k.sent
-    both = ways one two x y a b line after other later s coming stand h.sent k.sent h.moves k.moves h.same k.same h.stops k.stops alike
+    both = ways one two x y a b line after other later s coming made.made h.sent k.sent h.moves k.moves h.same k.same h.stops k.stops one_coming
 
     mine : Met view (client_limits (client_channel two)) (client_channel x) requests s (h.moves.taken ++ both.more) h.sent h.moves.taken a
     mine =
         met view (client_limits (client_channel two)) requests s (connection_of x) h.sent h.moves.taken both.more
-        (limits_are one two x y a b line after other later s coming stand h.sent k.sent h.moves k.moves h.same k.same h.stops k.stops) a both.stop
-        (had_first a b had)
-        (not_long one two x y a b line after other later s coming stand h.sent k.sent h.moves k.moves h.same k.same h.stops k.stops) (h.answers s stand.first)
+        (limits_are one two x y a b line after other later s coming made.made h.sent k.sent h.moves k.moves h.same k.same h.stops k.stops) a both.stop
+        (had_first a b made.made.had)
+        (not_long one two x y a b line after other later s coming made.made h.sent k.sent h.moves k.moves h.same k.same h.stops k.stops)
+        (h.answers s made.made.stand.first)
 
     theirs : Met view (client_limits (client_channel two)) (client_channel y) requests s (k.moves.taken ++ both.rest) k.sent k.moves.taken b
     theirs =
         met view (client_limits (client_channel two)) requests s (connection_of y) k.sent k.moves.taken both.rest
-        (limits_too one two x y a b line after other later s coming stand h.sent k.sent h.moves k.moves h.same k.same h.stops k.stops) b both.stop_too
-        (had_second a b had)
-        (not_long_too one two x y a b line after other later s coming stand h.sent k.sent h.moves k.moves h.same k.same h.stops k.stops)
-        (k.answers s stand.second)
+        (limits_too one two x y a b line after other later s coming made.made h.sent k.sent h.moves k.moves h.same k.same h.stops k.stops) b both.stop_too
+        (had_second a b made.made.had)
+        (not_long_too one two x y a b line after other later s coming made.made h.sent k.sent h.moves k.moves h.same k.same h.stops k.stops)
+        (k.answers s made.made.stand.second)
 
     one_walk : WalkOnce (client_channel x) (client_channel y) (fault_of a) (fault_of b) s h.sent k.sent h.moves.taken k.moves.taken mine.replies theirs.replies
         mine.count theirs.count
@@ -166,11 +181,12 @@ added_by limits requests s new sent taken more added same (Err c) stop had short
       named = λ d e. ap (λ (z : CallsFault). z.request) (sym (same_named c d e)) ∙ k.request_is;
     }
 
-pub record AddedOnce (a b : Result (Unit {0}) CallsFault) (have also : List Reply) (one two : Client) (line after other later : Option Traffic) : Type 0 where
+pub record AddedOnce (a b : Result (Unit {0}) CallsFault) (have also : List Reply) (one two : Client) (line after other later : Option Traffic)
+    (octets : List ℕ) (coming : List ℕ → List ℕ) : Type 0 where
   pub answers : a ≡ b
   pub kept : have ≡ also
   pub written : WroteAlike line after other later
-  pub left : LeavesBoth (fault_alone a) one two after later
+  pub left : LeavesBoth (fault_alone a) one two line after later octets coming
 
 same_calls : (c d : CallsFault) → c.request ≡ d.request → c.fault ≡ d.fault → c ≡ d
 same_calls c d e h = ap (λ (n : ℕ). record { request = n; fault = c.fault }) e ∙ ap (λ (f : ClientFault). record { request = d.request; fault = f }) h
@@ -183,42 +199,56 @@ same_outcomes (Err c) (Ok done) e h = none_option c.fault (sym e)
 same_outcomes (Err c) (Err d) e h = ap Err (same_calls c d (h c d refl refl) (same_option c.fault d.fault e))
 
 pub added_once : (once : OneBody) (one two x y : Client) (requests : List Request) (a b : Result (Unit {0}) CallsFault)
-    (had_replies have other_had also : List Reply) (line after other later : Option Traffic) (s : ClientPlace) (coming : List ℕ)
-    → had_replies ≡ other_had → StandReady one two line other s coming → HadMemory fault.OutOfMemory (fault_alone a) (fault_alone b)
+    (had_replies have other_had also : List Reply) (line after other later : Option Traffic) (s : ClientPlace) (coming : List ℕ → List ℕ)
+    → had_replies ≡ other_had → MadeInStages (length requests ≤ 64) one two (fault_alone a) (fault_alone b) line after other later s coming
     → CallsInto requests (connection_of one) (connection_of x) line after a had_replies have
     → CallsInto requests (connection_of two) (connection_of y) other later b other_had also → IsLeft (fault_alone a) x → IsLeft (fault_alone b) y
-    → CallsAlike (fault_alone a) (fault_alone b) line after other later
-    → AddedOnce a b have also x y line after other later
-added_once once one two x y requests a b had_replies have other_had also line after other later s coming before stand had h k left left_too alike = record {
+    → AddedOnce a b have also x y line after other later s.octets coming
+added_once once one two x y requests a b had_replies have other_had also line after other later s coming before made h k left left_too = record {
   answers = same_outcomes a b one_walk.outcome (λ c d e i. mine.named c e ∙ (one_walk.count_is ∙ sym (theirs.named d i)));
   kept = h.have_is ∙ (ap (λ (rs : List Reply). rs ++ h.added) before ∙ (ap (λ (rs : List Reply). other_had ++ rs) one_walk.replies_are ∙ sym k.have_is));
-  written = wrote one two x y (fault_alone a) (fault_alone b) line after other later s coming stand h.sent k.sent h.moves k.moves h.same k.same h.stops k.stops
+  written = wrote one two x y (fault_alone a) (fault_alone b) line after other later s coming made.made h.sent k.sent h.moves k.moves h.same k.same h.stops
+      k.stops
       one_walk.sent_is;
-  left = left_both one two x y (fault_alone a) (fault_alone b) line after other later s coming stand h.sent k.sent h.moves k.moves h.same k.same h.stops k.stops
-      one_walk.outcome left left_too one_walk.stays;
+  left = left_both one two x y (fault_alone a) (fault_alone b) line after other later s coming made.made h.sent k.sent h.moves k.moves h.same k.same h.stops
+      k.stops
+      one_walk.sent_is one_walk.outcome left left_too one_walk.stays;
 }
   where
+    one_coming : OneComing (fault_alone a) (fault_alone b) coming h.sent k.sent
+    one_coming =
+        one_by (fault_alone a) (fault_alone b) (connection_of x) (connection_of y) h.sent k.sent h.moves.taken k.moves.taken line after other later coming
+        (first one two x y (fault_alone a) (fault_alone b) line after other later s coming made.made h.sent k.sent h.moves k.moves h.same k.same h.stops
+        k.stops)
+        (second one two x y (fault_alone a) (fault_alone b) line after other later s coming made.made h.sent k.sent h.moves k.moves h.same k.same h.stops
+        k.stops)
+        (λ few. one_written (fault_alone a) (fault_alone b) coming (sent_at s requests) h.sent k.sent
+        (added_wrote requests s h.sent h.moves.taken few (connection_of x) h.added a (h.answers s made.made.stand.first))
+        (added_wrote requests s k.sent k.moves.taken few (connection_of y) k.added b (k.answers s made.made.stand.second))) made.as_one
+
     both : Ways (fault_alone a) (fault_alone b) h.moves.taken k.moves.taken h.sent k.sent
-    both = ways one two x y (fault_alone a) (fault_alone b) line after other later s coming stand h.sent k.sent h.moves k.moves h.same k.same h.stops k.stops
-        alike
+    both = ways one two x y (fault_alone a) (fault_alone b) line after other later s coming made.made h.sent k.sent h.moves k.moves h.same k.same h.stops
+        k.stops
+        one_coming
 
     mine : Added (client_limits (client_channel two)) (client_channel x) requests s (h.moves.taken ++ both.more) h.sent h.moves.taken h.added a
     mine =
         added_by (client_limits (client_channel two)) requests s (connection_of x) h.sent h.moves.taken both.more h.added
-        (limits_are one two x y (fault_alone a) (fault_alone b) line after other later s coming stand h.sent k.sent h.moves k.moves h.same k.same h.stops
+        (limits_are one two x y (fault_alone a) (fault_alone b) line after other later s coming made.made h.sent k.sent h.moves k.moves h.same k.same h.stops
         k.stops) a both.stop
-        (had_first (fault_alone a) (fault_alone b) had)
-        (not_long one two x y (fault_alone a) (fault_alone b) line after other later s coming stand h.sent k.sent h.moves k.moves h.same k.same h.stops k.stops)
-        (h.answers s stand.first)
+        (had_first (fault_alone a) (fault_alone b) made.made.had)
+        (not_long one two x y (fault_alone a) (fault_alone b) line after other later s coming made.made h.sent k.sent h.moves k.moves h.same k.same h.stops
+        k.stops)
+        (h.answers s made.made.stand.first)
 
     theirs : Added (client_limits (client_channel two)) (client_channel y) requests s (k.moves.taken ++ both.rest) k.sent k.moves.taken k.added b
     theirs =
         added_by (client_limits (client_channel two)) requests s (connection_of y) k.sent k.moves.taken both.rest k.added
-        (limits_too one two x y (fault_alone a) (fault_alone b) line after other later s coming stand h.sent k.sent h.moves k.moves h.same k.same h.stops
+        (limits_too one two x y (fault_alone a) (fault_alone b) line after other later s coming made.made h.sent k.sent h.moves k.moves h.same k.same h.stops
         k.stops) b both.stop_too
-        (had_second (fault_alone a) (fault_alone b) had)
-        (not_long_too one two x y (fault_alone a) (fault_alone b) line after other later s coming stand h.sent k.sent h.moves k.moves h.same k.same h.stops
-        k.stops) (k.answers s stand.second)
+        (had_second (fault_alone a) (fault_alone b) made.made.had)
+        (not_long_too one two x y (fault_alone a) (fault_alone b) line after other later s coming made.made h.sent k.sent h.moves k.moves h.same k.same h.stops
+        k.stops) (k.answers s made.made.stand.second)
 
     one_walk : WalkOnce (client_channel x) (client_channel y) (fault_of (fault_alone a)) (fault_of (fault_alone b)) s h.sent k.sent h.moves.taken k.moves.taken
         h.added k.added mine.count theirs.count

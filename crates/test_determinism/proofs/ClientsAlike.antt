@@ -1,5 +1,5 @@
 -- Octets that come twice to a client's channel.
-use Rattle.std.specs.Prelude.{◌≡◌, ℕ, ◌≤◌, List, [], ◌∷◌, ◌++◌, length, take, Bool, true, false, is_some, Option, Some, None, Result, Ok, Err, IfOk, IsErrOf}
+use Rattle.std.specs.Prelude.{◌≡◌, ℕ, ◌≤◌, List, [], ◌∷◌, ◌++◌, length, take, Bool, true, false, is_some, Option, Some, None, Result, Ok, Err, IsErrOf}
 use Rattle.std.specs.List.{concat}
 use Rattle.std.proofs.Common.{refl, sym, ◌∙◌, ap, subst, append-nil}
 use Rattle.ua_builtin.specs.declared.date_time.DateTime.{DateTime}
@@ -10,7 +10,7 @@ use Rattle.ua_frame.specs.declared.frame.Frame.{Frame}
 use Rattle.ua_frame.specs.declared.limits.Limits.{Limits}
 use Rattle.ua_channel.specs.Asks.{Placed}
 use Rattle.ua_channel.specs.Client.{SameClient, client_limits, client_next, client_bound_behind, client_rules_of, client_side, ClientGoes, ClientGoesTelling}
-use Rattle.ua_channel.specs.ClientAnswers.{ClientAnswers, ComesInParts, ClientProgress, parts_handed}
+use Rattle.ua_channel.specs.ClientAnswers.{ClientAnswers, ClientProgress}
 use Rattle.ua_channel.specs.ClientSends.{first_open}
 use Rattle.ua_channel.specs.ClientTable.{client_rules}
 use Rattle.ua_channel.specs.ClientTold.{ClientTold, Why}
@@ -91,9 +91,9 @@ record Heard (moment : DateTime) (piece octets : List ℕ) (asks : List Placed) 
   left : (y : ClientChannel) → Left x y asks (octets ++ take count piece) before came → LeftClients a x y asks octets before piece
 
 module _ (moment : DateTime) (piece octets : List ℕ) (asks : List Placed) (before : List ClientTold) (x : ClientChannel) where
-  heard : (a : Answer) → ClientAnswers moment piece a x asks octets before → IfOk a (λ r. ComesInParts (parts_handed r.1) x asks (octets ++ take r.0 piece))
-      → ClientProgress piece a → ¬ (IsErrOf a OutOfMemory) → Heard moment piece octets asks before a x
-  heard (Ok (n, NeedMore)) h parts within had = record {
+  heard : (a : Answer) → ClientAnswers moment piece a x asks octets before → ClientProgress piece a → ¬ (IsErrOf a OutOfMemory)
+      → Heard moment piece octets asks before a x
+  heard (Ok (n, NeedMore)) h within had = record {
     count = n;
     came = Quietly;
     parts = None;
@@ -103,7 +103,7 @@ module _ (moment : DateTime) (piece octets : List ℕ) (asks : List Placed) (bef
     comes = (h.0, subst (λ (t : List ℕ). ClientGoes x asks t before) (sym (whole_taken octets piece n h.0)) h.1);
     left = λ y s. ([], subst (λ (t : List ClientTold). ClientsAlike x y asks (octets ++ take n piece) t) (sym (append-nil before)) s);
   }
-  heard (Ok (n, Send out)) h parts within had = record {
+  heard (Ok (n, Send out)) h within had = record {
     count = n;
     came = Telling (told.Agreed h.ack);
     parts = None;
@@ -113,7 +113,7 @@ module _ (moment : DateTime) (piece octets : List ℕ) (asks : List Placed) (bef
     comes = (within.0, refl, h.goes);
     left = λ y s. (told.Agreed h.ack ∷ [], s);
   }
-  heard (Ok (n, Open)) h parts within had = record {
+  heard (Ok (n, Open)) h within had = record {
     count = n;
     came = Telling (told.Opened h.channel h.token);
     parts = None;
@@ -123,17 +123,17 @@ module _ (moment : DateTime) (piece octets : List ℕ) (asks : List Placed) (bef
     comes = (within.0, refl, h.goes);
     left = λ y s. (told.Opened h.channel h.token ∷ [], s);
   }
-  heard (Ok (n, Answered id message)) h parts within had = record {
+  heard (Ok (n, Answered id message)) h within had = record {
     count = n;
     came = Telling (told.Answered id (concat message));
     parts = Some message;
-    handed = parts;
+    handed = h.1;
     some = refl;
     answer = refl;
-    comes = (within.0, refl, h);
+    comes = (within.0, refl, h.0);
     left = λ y s. (told.Answered id (concat message) ∷ [], s);
   }
-  heard (Ok (n, Aborted id code)) h parts within had = record {
+  heard (Ok (n, Aborted id code)) h within had = record {
     count = n;
     came = Telling (told.GaveUp id code);
     parts = None;
@@ -143,7 +143,7 @@ module _ (moment : DateTime) (piece octets : List ℕ) (asks : List Placed) (bef
     comes = (within.0, refl, h);
     left = λ y s. (told.GaveUp id code ∷ [], s);
   }
-  heard (Ok (n, Failed code peer)) h parts within had = record {
+  heard (Ok (n, Failed code peer)) h within had = record {
     count = n;
     came = Stopping (record { code = code.code; peer = peer });
     parts = None;
@@ -153,7 +153,7 @@ module _ (moment : DateTime) (piece octets : List ℕ) (asks : List Placed) (bef
     comes = (within.0, h);
     left = λ y d. d;
   }
-  heard (Ok (n, Renewed token)) h parts within had = record {
+  heard (Ok (n, Renewed token)) h within had = record {
     count = n;
     came = Telling (told.Renewed token);
     parts = None;
@@ -163,8 +163,8 @@ module _ (moment : DateTime) (piece octets : List ℕ) (asks : List Placed) (bef
     comes = (within.0, refl, h);
     left = λ y s. (told.Renewed token ∷ [], s);
   }
-  heard (Err OutOfMemory) h parts within had = absurd (had refl)
-  heard (Err Closed) h parts within had = absurd h
+  heard (Err OutOfMemory) h within had = absurd (had refl)
+  heard (Err Closed) h within had = absurd h
 
 -- ---- two answers are one
 
@@ -216,7 +216,6 @@ module _ (moment : DateTime) (piece octets : List ℕ) (asks : List Placed) (bef
 pub record IsTaken (old new : ClientChannel) (moment : DateTime) (piece octets : List ℕ) (asks : List Placed) (before : List ClientTold)
     (a : Answer) : Type 0 where
   pub answers : ClientAnswers moment piece a new asks octets before
-  pub parts : IfOk a (λ r. ComesInParts (parts_handed r.1) new asks (octets ++ take r.0 piece))
   pub progress : ClientProgress piece a
   pub same : SameClient old new
   pub next : client_next new ≡ client_next old
@@ -227,5 +226,5 @@ pub alike : (one two x y : ClientChannel) (moment : DateTime) (piece octets : Li
     → HadMemory OutOfMemory a b → Both a b x y asks octets piece before
 alike one two x y moment piece octets asks before a b s p q had =
     both moment piece octets asks before x y (sym p.same.limits ∙ (s.limits ∙ q.same.limits)) (p.next ∙ (s.next ∙ sym q.next)) a b
-    (heard moment piece octets asks before x a p.answers p.parts p.progress had.first)
-    (heard moment piece octets asks before y b q.answers q.parts q.progress had.second)
+    (heard moment piece octets asks before x a p.answers p.progress had.first)
+    (heard moment piece octets asks before y b q.answers q.progress had.second)

@@ -254,7 +254,7 @@ grouped_before : (gs : List (List Request)) (g others : List Request) → AreGro
 grouped_before [] g others h = tt
 grouped_before (k ∷ gs) g others h = ((h.0, h.1, λ more. h.2 (omega (arith, length-append gs (g ∷ [])))), grouped_before gs g others h.3)
 
-last_group : (gs : List (List Request)) (g : List Request) → AreGroups (gs ++ g ∷ []) → (0 < length g) × (length g ≤ 64)
+pub last_group : (gs : List (List Request)) (g : List Request) → AreGroups (gs ++ g ∷ []) → (0 < length g) × (length g ≤ 64)
 last_group [] g h = (h.0, h.1)
 last_group (k ∷ gs) g h = last_group gs g h.3
 

@@ -23,3 +23,4 @@ pub mod CallsOnce
 pub mod SessionsAlike
 pub mod TextsAlike
 pub mod DissectedAlike
+pub mod SentAlike

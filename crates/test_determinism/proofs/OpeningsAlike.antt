@@ -1,8 +1,7 @@
 -- Clients that are opened twice.
-use Rattle.std.specs.Prelude.{◌≡◌, ℕ, ◌<◌, ◌⊎◌, true, false, List, [], ◌∷◌, ◌++◌, length, take, Option, Some, Result, Ok, Err, IsErrOf}
-use Rattle.std.proofs.Common.{refl, sym, ◌∙◌, ap, subst, arith, inl, inr, length-append}
+use Rattle.std.specs.Prelude.{◌≡◌, ℕ, ◌<◌, ◌⊎◌, true, false, List, [], ◌∷◌, ◌++◌, length, take, Option, Result, Ok, Err, IsErrOf}
+use Rattle.std.proofs.Common.{refl, sym, ◌∙◌, ap, subst, arith, inl, inr, append_assoc, length-append}
 use Rattle.std.proofs.Math.Seq.{take-append_seam}
-use Rattle.std.proofs.lemmas.List.{append_cancel_left}
 use Rattle.ua_builtin.specs.declared.date_time.DateTime.{DateTime}
 use Rattle.ua_frame.specs.Run.{End, Going, Rules, Stopped}
 use Rattle.ua_frame.specs.declared.ack.Ack.{Ack}
@@ -23,16 +22,16 @@ use Rattle.ua_client.specs.declared.client.Client.{Client}
 use Rattle.ua_client.specs.declared.connection.Connection.{Connection}
 use Rattle.ua_client.specs.declared.fault.ClientFault.{ClientFault}
 use Rattle.ua_client.specs.declared.fault.ClientFault.TheVariants as fault
-use Rattle.test_determinism.specs.Calling.{CallsAlike, ComesTo, OpenAlike, StandBy, line_failed_calling}
+use Rattle.test_determinism.specs.Calling.{CallsAlike, OpenAlike, OpenInStages, StandAgain, line_failed_calling, stops_reading}
 use Rattle.test_determinism.specs.Calling.CallsAlike.{NoFault, AtRead, AtWrite}
-use Rattle.test_determinism.specs.Lines.{LinesAlike, WroteAlike}
-use Rattle.test_determinism.specs.Pinned.{HadMemory}
-use Rattle.test_determinism.proofs.CallsAlike.{EndsBy, Ran, both_wrote, ended_all, ended_reads, few_reads}
-use Rattle.test_determinism.proofs.CallsAlike.{goes_front, goes_reads, one_fault, ran, ran_comes, read_same}
+use Rattle.test_determinism.specs.Lines.{WroteAlike}
+use Rattle.test_determinism.proofs.CallsAlike.{Ahead, EndsBy, OneComing, Ran, ahead_by, ahead_same, all_taken, both_wrote, ended_reads}
+use Rattle.test_determinism.proofs.CallsAlike.{goes_front, goes_reads, one_by, one_fault, ran, ran_comes, ran_wrote, read_same}
 use Rattle.test_determinism.proofs.CallsAlike.EndsBy.{ByPeer, ByOurs, ByEnd}
 use Rattle.test_determinism.proofs.ClientsAlike.{to_tells}
 use Rattle.test_determinism.proofs.FrontsAlike.{ReadsAll, all_once, front_first}
 use Rattle.test_determinism.proofs.RenewalsAlike.{site_once}
+use Rattle.test_determinism.proofs.SentAlike.{WroteOf, not_stopped, one_written, wrote_all, wrote_part}
 use Rattle.test_determinism.proofs.StreamsAlike.{AsOne, Around, Meets, Tells, Within, tells_tells}
 
 true_false : true ≡ false → ⊥
@@ -59,15 +58,11 @@ data OpensTo {A : Type 0} (R : Rules ClientTold Why) (whole hello opening : List
   Waited : (f : ClientFault) (e : End Why) → a ≡ Err f → EndsBy f e → (told : List ClientTold) → SaidAt hello opening sent told → ReadsAll R whole told e
       → OpensTo R whole hello opening x sent taken a
 
-module _ {A : Type 0} (R : Rules ClientTold Why) (limits : Limits) (url : Option (List ℕ)) (old new : Connection) (moment : DateTime)
-    (line after : Option Traffic) (coming : List ℕ) (t : Traffic) (line_is : line ≡ Some t) (brings : (more : List ℕ)
-    → untaken_of old ++ t.coming more ≡ coming) (few : length coming < 0xFFFF_FFFF_FFFF_FFFF)
-    (a : Result A ClientFault) (h : Opens moment old new line after a) (rules : client_rules_of (channel_of_connection new) [] ≡ R) where
+module _ {A : Type 0} (R : Rules ClientTold Why) (old new : Connection) (moment : DateTime) (line after : Option Traffic) (coming : List ℕ)
+    (a : Result A ClientFault) (h : Opens moment old new line after a) (behind : Ahead a h.moves.taken coming)
+    (rules : client_rules_of (channel_of_connection new) [] ≡ R) where
   abbrev hello : List ℕ
   hello = hello_octets (client_limits (channel_of_connection old)) (url_of (channel_of_connection old))
-
-  r : Ran new h.sent h.moves.taken line after coming
-  r = ran old new h.sent line after coming t h.moves line_is brings
 
   abbrev To : Type 0
   To = OpensTo R coming hello (open_frame_octets moment) (channel_of_connection new) h.sent h.moves.taken a
@@ -76,12 +71,12 @@ module _ {A : Type 0} (R : Rules ClientTold Why) (limits : Limits) (url : Option
       → ClientEnded (channel_of_connection new) [] h.moves.taken told why → To
   ended f why told e p said w =
       Waited f (Stopped why) p e told said
-      (ended_reads R (channel_of_connection new) [] h.moves.taken (untaken_of new ++ r.last.coming []) coming told why rules r.parts w)
+      (ended_reads R (channel_of_connection new) [] h.moves.taken behind.more coming told why rules behind.parts w)
 
-  ran_out : (told : List ClientTold) → a ≡ Err fault.Ended → StopsByTraffic {A = A} most_reads most_reads h.moves.got new after (Err fault.Ended)
-      → SaidAt hello (open_frame_octets moment) h.sent told → ClientGoes (channel_of_connection new) [] h.moves.taken told → To
-  ran_out told p stops said g = Waited fault.Ended Going p (ByEnd refl refl) told said
-      (goes_reads R (channel_of_connection new) [] h.moves.taken coming told rules (ended_all new h.sent h.moves.taken line after coming r stops.0 stops.1) g)
+  ran_out : (told : List ClientTold) → a ≡ Err fault.Ended → SaidAt hello (open_frame_octets moment) h.sent told
+      → ClientGoes (channel_of_connection new) [] h.moves.taken told → To
+  ran_out told p said g = Waited fault.Ended Going p (ByEnd refl refl) told said
+      (goes_reads R (channel_of_connection new) [] h.moves.taken coming told rules (all_taken a h.moves.taken coming behind p) g)
 
   waited : (f : ClientFault) (why : Why) → EndsBy f (Stopped why) → a ≡ Err f
       → ((told : List ClientTold) → BreaksOff f (channel_of_connection new) [] h.moves.taken told
@@ -90,25 +85,25 @@ module _ {A : Type 0} (R : Rules ClientTold Why) (limits : Limits) (url : Option
   waited f why e p of (inl w) = ended f why [] e p (inl (w.0, refl)) (of [] w.1)
   waited f why e p of (inr w) = ended f why (Agreed w.1.0 ∷ []) e p (inr (w.1.0, w.0, refl)) (of (Agreed w.1.0 ∷ []) w.1.1)
 
-  waited_out : a ≡ Err fault.Ended → StopsByTraffic {A = A} most_reads most_reads h.moves.got new after (Err fault.Ended)
+  waited_out : a ≡ Err fault.Ended
       → BreaksWaiting hello (open_frame_octets moment) (channel_of_connection new) h.sent h.moves.taken fault.Ended → To
-  waited_out p stops (inl w) = ran_out [] p stops (inl (w.0, refl)) w.1
-  waited_out p stops (inr w) = ran_out (Agreed w.1.0 ∷ []) p stops (inr (w.1.0, w.0, refl)) w.1.1
+  waited_out p (inl w) = ran_out [] p (inl (w.0, refl)) w.1
+  waited_out p (inr w) = ran_out (Agreed w.1.0 ∷ []) p (inr (w.1.0, w.0, refl)) w.1.1
 
   opens_by : (b : Result A ClientFault) → a ≡ b → OpensAfter hello (open_frame_octets moment) (channel_of_connection new) h.sent h.moves.taken b
-      → StopsByTraffic most_reads most_reads h.moves.got new after b → line_failed_calling b ≡ false → ¬ (IsErrOf b fault.OutOfMemory) → To
-  opens_by (Ok v) e k stops unbroken had = Done v e k.0 k.1
-  opens_by (Err fault.Write) e k stops unbroken had = absurd (true_false unbroken)
-  opens_by (Err fault.Read) e k stops unbroken had = absurd (true_false unbroken)
-  opens_by (Err fault.OutOfMemory) e k stops unbroken had = absurd (had refl)
-  opens_by (Err fault.Ended) e k stops unbroken had = waited_out e stops k
-  opens_by (Err fault.TooLong) e k stops unbroken had = absurd (few_reads old new h.sent line after coming [] t h.moves line_is brings few stops.1)
-  opens_by (Err (fault.Peer code)) e k stops unbroken had = waited (fault.Peer code) (peers code.code) (ByPeer code refl refl) e (λ told w. w) k
-  opens_by (Err (fault.Refused code)) e k stops unbroken had = waited (fault.Refused code) (ours code.code) (ByOurs code refl refl) e (λ told w. w) k
-  opens_by (Err f) e k stops unbroken had = absurd k
+      → line_failed_calling b ≡ false → ¬ (IsErrOf b fault.OutOfMemory) → To
+  opens_by (Ok v) e k unbroken had = Done v e k.0 k.1
+  opens_by (Err fault.Write) e k unbroken had = absurd (true_false unbroken)
+  opens_by (Err fault.Read) e k unbroken had = absurd (true_false unbroken)
+  opens_by (Err fault.OutOfMemory) e k unbroken had = absurd (had refl)
+  opens_by (Err fault.Ended) e k unbroken had = waited_out e k
+  opens_by (Err fault.TooLong) e k unbroken had = absurd (behind.short e)
+  opens_by (Err (fault.Peer code)) e k unbroken had = waited (fault.Peer code) (peers code.code) (ByPeer code refl refl) e (λ told w. w) k
+  opens_by (Err (fault.Refused code)) e k unbroken had = waited (fault.Refused code) (ours code.code) (ByOurs code refl refl) e (λ told w. w) k
+  opens_by (Err f) e k unbroken had = absurd k
 
   opens_to : ClientGoes (channel_of_connection old) [] [] [] → line_failed_calling a ≡ false → ¬ (IsErrOf a fault.OutOfMemory) → To
-  opens_to goes unbroken had = opens_by a refl (h.answers goes) h.stops unbroken had
+  opens_to goes unbroken had = opens_by a refl (h.answers goes) unbroken had
 
   -- what was told where a read failed
   at_read : ClientGoes (channel_of_connection old) [] [] [] → a ≡ Err fault.Read → (told : List ClientTold)
@@ -125,19 +120,49 @@ module _ {A : Type 0} (R : Rules ClientTold Why) (limits : Limits) (url : Option
       by (inl w) none = ([], inl (w.0, refl), w.1, none)
       by (inr w) none = (Agreed w.1.0 ∷ [], inr (w.1.0, w.0, refl), w.1.1, none)
 
+-- ---- what an opening wrote, of the HEL and the OPN
+
+waiting_wrote : {A : Type 0} (hello opening : List ℕ) (x : ClientChannel) (sent taken : List ℕ) (f : ClientFault)
+    → ((g : ClientFault) → IsErrOf {T = A} (Err f) g → (g ≡ fault.Ended) ⊎ (g ≡ fault.Read) → ⊥)
+    → BreaksWaiting hello opening x sent taken f → WroteOf {A = A} (Err f) (hello ++ opening) sent
+waiting_wrote {A} hello opening x sent taken f none (inl w) =
+    wrote_part {A = A} (Err f) (hello ++ opening) sent opening (ap (λ (o : List ℕ). o ++ opening) w.0) none
+waiting_wrote {A} hello opening x sent taken f none (inr w) = wrote_all {A = A} (Err f) (hello ++ opening) sent w.0
+
+opening_wrote : {A : Type 0} (hello opening : List ℕ) (x : ClientChannel) (sent taken : List ℕ) (a : Result A ClientFault) → stops_reading a ≡ false
+    → ¬ (IsErrOf a fault.OutOfMemory) → OpensAfter hello opening x sent taken a → WroteOf a (hello ++ opening) sent
+opening_wrote hello opening x sent taken (Ok v) goes had k = wrote_all (Ok v) (hello ++ opening) sent k.0
+opening_wrote {A} hello opening x sent taken (Err fault.Write) goes had (inl k) =
+    wrote_part {A = A} (Err fault.Write) (hello ++ opening) sent (k.0.0.more ++ opening)
+    (sym (append_assoc sent k.0.0.more opening) ∙ ap (λ (o : List ℕ). o ++ opening) (sym k.0.0.parts)) (not_stopped fault.Write (λ e. cc) (λ e. cc))
+opening_wrote {A} hello opening x sent taken (Err fault.Write) goes had (inr w) =
+    wrote_part {A = A} (Err fault.Write) (hello ++ opening) sent w.2.0.more
+    (ap (λ (o : List ℕ). o ++ w.2.0.more) w.1 ∙ (append_assoc hello w.0 w.2.0.more ∙ ap (λ (o : List ℕ). hello ++ o) (sym w.2.0.parts)))
+    (not_stopped fault.Write (λ e. cc) (λ e. cc))
+opening_wrote hello opening x sent taken (Err fault.OutOfMemory) goes had k = absurd (had refl)
+opening_wrote hello opening x sent taken (Err fault.Read) goes had k = absurd (true_false goes)
+opening_wrote hello opening x sent taken (Err fault.Ended) goes had k = absurd (true_false goes)
+opening_wrote {A} hello opening x sent taken (Err fault.TooLong) goes had k =
+    waiting_wrote {A = A} hello opening x sent taken fault.TooLong (not_stopped fault.TooLong (λ e. cc) (λ e. cc)) k
+opening_wrote {A} hello opening x sent taken (Err (fault.Peer code)) goes had k =
+    waiting_wrote {A = A} hello opening x sent taken (fault.Peer code) (not_stopped (fault.Peer code) (λ e. cc) (λ e. cc)) k
+opening_wrote {A} hello opening x sent taken (Err (fault.Refused code)) goes had k =
+    waiting_wrote {A = A} hello opening x sent taken (fault.Refused code) (not_stopped (fault.Refused code) (λ e. cc) (λ e. cc)) k
+opening_wrote hello opening x sent taken (Err f) goes had k = absurd k
+
 -- ---- two openings are one
 
 -- the law of where a client stands behind its opening
 abbrev pub SettledBehind : Type 0
 SettledBehind = (x : ClientChannel) (octets : List ℕ) → IsOpened x octets → (s : ClientPlace) × (s.octets ≡ octets) × (s.asks ≡ []) × StandsAt x s × IsSettled s
 
-pub record OpenedOnce (a b : Result Client ClientFault) (line after other later : Option Traffic) : Type 0 where
-  pub answers : OpenAlike a b after later
+pub record OpenedOnce (a b : Result Client ClientFault) (line after other later : Option Traffic) (coming : List ℕ → List ℕ) : Type 0 where
+  pub answers : OpenAlike a b line after later coming
   pub written : WroteAlike line after other later
 
 module _ (settled : SettledBehind) (limits : Limits) (url : Option (List ℕ)) (moment : DateTime) (a b : Result Client ClientFault)
-    (line after other later : Option Traffic) (coming : List ℕ)
-    (lines : LinesAlike line other coming) (had : HadMemory fault.OutOfMemory a b) (h : OpensClient limits url moment line after a)
+    (line after other later : Option Traffic) (coming : List ℕ → List ℕ)
+    (made : OpenInStages a b line after other later coming) (h : OpensClient limits url moment line after a)
     (k : OpensClient limits url moment other later b) where
   abbrev R : Rules ClientTold Why
   R = client_rules limits []
@@ -148,17 +173,17 @@ module _ (settled : SettledBehind) (limits : Limits) (url : Option (List ℕ)) (
   theirs : client_rules_of (channel_of_connection k.last) [] ≡ R
   theirs = ap (λ (l : Limits). client_rules l []) (sym k.opens.keeps.same.limits ∙ k.fresh.limits_are)
 
-  brings : (more : List ℕ) → untaken_of h.begun ++ lines.first.coming more ≡ coming
-  brings more = ap (λ (u : List ℕ). u ++ lines.first.coming more) h.fresh.untaken ∙ lines.brings more
+  brings : (more : List ℕ) → untaken_of h.begun ++ made.respond.first.coming more ≡ coming more
+  brings more = ap (λ (u : List ℕ). u ++ made.respond.first.coming more) h.fresh.untaken ∙ made.respond.responds more
 
-  brings_too : (more : List ℕ) → untaken_of k.begun ++ lines.second.coming more ≡ coming
-  brings_too more = ap (λ (u : List ℕ). u ++ lines.second.coming more) k.fresh.untaken ∙ lines.brings_too more
+  brings_too : (more : List ℕ) → untaken_of k.begun ++ made.respond.second.coming more ≡ coming more
+  brings_too more = ap (λ (u : List ℕ). u ++ made.respond.second.coming more) k.fresh.untaken ∙ made.respond.responds_too more
 
   first : Ran h.last h.opens.sent h.opens.moves.taken line after coming
-  first = ran h.begun h.last h.opens.sent line after coming lines.first h.opens.moves lines.first_is brings
+  first = ran h.begun h.last h.opens.sent line after coming made.respond.first h.opens.moves made.respond.first_is brings
 
   second : Ran k.last k.opens.sent k.opens.moves.taken other later coming
-  second = ran k.begun k.last k.opens.sent other later coming lines.second k.opens.moves lines.second_is brings_too
+  second = ran k.begun k.last k.opens.sent other later coming made.respond.second k.opens.moves made.respond.second_is brings_too
 
   wrote_both : h.opens.sent ≡ k.opens.sent → WroteAlike line after other later
   wrote_both e = both_wrote h.last k.last h.opens.sent k.opens.sent h.opens.moves.taken k.opens.moves.taken line after other later coming e first second
@@ -169,41 +194,66 @@ module _ (settled : SettledBehind) (limits : Limits) (url : Option (List ℕ)) (
   same_hello : (x : Connection) → IsFresh limits url x → hello_octets (client_limits (channel_of_connection x)) (url_of (channel_of_connection x)) ≡ hi
   same_hello x f = ap (λ (l : Limits). hello_octets l (url_of (channel_of_connection x))) f.limits_are ∙ ap (hello_octets limits) f.url_is
 
-  told_by : (x : ClientChannel) (taken more : List ℕ) (o : IsOpened x taken) → client_rules_of x [] ≡ R → taken ++ more ≡ coming
-      → Tells R [] coming (Agreed o.ack ∷ []) (length taken) (Opened o.channel o.token)
+  -- what comes to both
+  one_coming : OneComing a b coming h.opens.sent k.opens.sent
+  one_coming =
+      one_by a b h.last k.last h.opens.sent k.opens.sent h.opens.moves.taken k.opens.moves.taken line after other later coming first second
+      (λ goes. one_written a b coming (hi ++ open_frame_octets moment) h.opens.sent k.opens.sent
+      (opening_wrote hi (open_frame_octets moment) (channel_of_connection h.last) h.opens.sent h.opens.moves.taken a goes.0 made.had.first
+      (subst (λ (o : List ℕ). OpensAfter o (open_frame_octets moment) (channel_of_connection h.last) h.opens.sent h.opens.moves.taken a)
+      (same_hello h.begun h.fresh) (h.opens.answers h.fresh.goes)))
+      (opening_wrote hi (open_frame_octets moment) (channel_of_connection k.last) k.opens.sent k.opens.moves.taken b goes.1 made.had.second
+      (subst (λ (o : List ℕ). OpensAfter o (open_frame_octets moment) (channel_of_connection k.last) k.opens.sent k.opens.moves.taken b)
+      (same_hello k.begun k.fresh) (k.opens.answers k.fresh.goes)))) made.as_one
+
+  abbrev come : List ℕ
+  come = coming (h.opens.sent ++ one_coming.more)
+
+  first_behind : Ahead a h.opens.moves.taken come
+  first_behind =
+      ahead_by h.begun h.last h.opens.sent one_coming.more come line after coming a made.respond.first h.opens.moves made.respond.first_is brings made.few
+      h.opens.stops (λ e. one_coming.stop fault.Ended e (inl refl)) refl
+
+  second_behind : Ahead b k.opens.moves.taken come
+  second_behind =
+      ahead_by k.begun k.last k.opens.sent one_coming.rest come other later coming b made.respond.second k.opens.moves made.respond.second_is brings_too
+      made.few_too k.opens.stops (λ e. one_coming.stop_too fault.Ended e (inl refl)) (sym one_coming.same)
+
+  told_by : (x : ClientChannel) (taken more : List ℕ) (o : IsOpened x taken) → client_rules_of x [] ≡ R → taken ++ more ≡ come
+      → Tells R [] come (Agreed o.ack ∷ []) (length taken) (Opened o.channel o.token)
   told_by x taken more o rules e =
-      to_tells R x [] [] coming (Agreed o.ack ∷ []) (length taken) (Opened o.channel o.token) rules (omega (arith, ap length e, length-append taken more))
+      to_tells R x [] [] come (Agreed o.ack ∷ []) (length taken) (Opened o.channel o.token) rules (omega (arith, ap length e, length-append taken more))
       (subst (λ (t : List ℕ). ClientGoesTelling x [] t (Agreed o.ack ∷ []) (Opened o.channel o.token))
       (sym (ap (take (length taken)) (sym e) ∙ take-append_seam taken more)) o.tells)
 
-  never_waited : (x : ClientChannel) (taken more : List ℕ) (o : IsOpened x taken) → client_rules_of x [] ≡ R → taken ++ more ≡ coming
-      → (e : End Why) (told : List ClientTold) → length told < 2 → ReadsAll R coming told e → ⊥
+  never_waited : (x : ClientChannel) (taken more : List ℕ) (o : IsOpened x taken) → client_rules_of x [] ≡ R → taken ++ more ≡ come
+      → (e : End Why) (told : List ClientTold) → length told < 2 → ReadsAll R come told e → ⊥
   never_waited x taken more o rules parts e told short all =
       let g : ClientGoes x [] taken ((Agreed o.ack ∷ []) ++ Opened o.channel o.token ∷ []) =
       goes_behind x [] taken (Agreed o.ack ∷ []) (Opened o.channel o.token) o.tells in
-      let f = front_first R coming ((Agreed o.ack ∷ []) ++ Opened o.channel o.token ∷ []) told e
-      (goes_front R x [] taken more coming ((Agreed o.ack ∷ []) ++ Opened o.channel o.token ∷ []) rules parts g) all in
+      let f = front_first R come ((Agreed o.ack ∷ []) ++ Opened o.channel o.token ∷ []) told e
+      (goes_front R x [] taken more come ((Agreed o.ack ∷ []) ++ Opened o.channel o.token ∷ []) rules parts g) all in
       omega (arith, short, ap length f.1, length-append ((Agreed o.ack ∷ []) ++ Opened o.channel o.token ∷ []) f.0)
 
   same_taken : (x y : ClientChannel) (o : IsOpened x h.opens.moves.taken) (v : IsOpened y k.opens.moves.taken)
       → Meets (Agreed o.ack ∷ []) (Agreed v.ack ∷ []) (length h.opens.moves.taken) (length k.opens.moves.taken) (Opened o.channel o.token)
       (Opened v.channel v.token) → h.opens.moves.taken ≡ k.opens.moves.taken
   same_taken x y o v (AsOne n e d) =
-      sym (take-append_seam h.opens.moves.taken (untaken_of h.last ++ first.last.coming [])) ∙ (ap (take (length h.opens.moves.taken)) first.parts
-      ∙ (ap (λ (m : ℕ). take m coming) n
-      ∙ (ap (take (length k.opens.moves.taken)) (sym second.parts) ∙ take-append_seam k.opens.moves.taken (untaken_of k.last ++ second.last.coming []))))
+      sym (take-append_seam h.opens.moves.taken first_behind.more) ∙ (ap (take (length h.opens.moves.taken)) first_behind.parts
+      ∙ (ap (λ (m : ℕ). take m come) n
+      ∙ (ap (take (length k.opens.moves.taken)) (sym second_behind.parts) ∙ take-append_seam k.opens.moves.taken second_behind.more)))
   same_taken x y o v (Within more e) = absurd (omega (arith, ap length e, length-append ((Agreed o.ack ∷ []) ++ Opened o.channel o.token ∷ []) more))
   same_taken x y o v (Around more e) = absurd (omega (arith, ap length e, length-append ((Agreed v.ack ∷ []) ++ Opened v.channel v.token ∷ []) more))
 
-  stand_both : (x y : Client) → connection_of x ≡ h.last → connection_of y ≡ k.last → x.is_done ≡ false → y.is_done ≡ false
+  stand_both : (x y : Client) → h.opens.sent ≡ k.opens.sent → connection_of x ≡ h.last → connection_of y ≡ k.last → x.is_done ≡ false → y.is_done ≡ false
       → IsOpened (channel_of_connection h.last) h.opens.moves.taken → IsOpened (channel_of_connection k.last) k.opens.moves.taken
-      → StandBy false x y after later
-  stand_both x y is is_too ready ready_too o v =
+      → StandAgain x y line after later [] coming
+  stand_both x y sent_is is is_too ready ready_too o v =
       let taken : h.opens.moves.taken ≡ k.opens.moves.taken = same_taken (channel_of_connection h.last) (channel_of_connection k.last) o v
-      (tells_tells R [] coming (Agreed o.ack ∷ []) (Agreed v.ack ∷ []) (length h.opens.moves.taken) (length k.opens.moves.taken) (Opened o.channel o.token)
+      (tells_tells R [] come (Agreed o.ack ∷ []) (Agreed v.ack ∷ []) (length h.opens.moves.taken) (length k.opens.moves.taken) (Opened o.channel o.token)
       (Opened v.channel v.token)
-      (told_by (channel_of_connection h.last) h.opens.moves.taken (untaken_of h.last ++ first.last.coming []) o mine first.parts)
-      (told_by (channel_of_connection k.last) k.opens.moves.taken (untaken_of k.last ++ second.last.coming []) v theirs second.parts)) in
+      (told_by (channel_of_connection h.last) h.opens.moves.taken first_behind.more o mine first_behind.parts)
+      (told_by (channel_of_connection k.last) k.opens.moves.taken second_behind.more v theirs second_behind.parts)) in
       let s = settled (channel_of_connection h.last) h.opens.moves.taken o in
       let t = settled (channel_of_connection k.last) k.opens.moves.taken v in
       let limits_same : client_limits (channel_of_connection h.last) ≡ client_limits (channel_of_connection k.last) =
@@ -213,12 +263,15 @@ module _ (settled : SettledBehind) (limits : Limits) (url : Option (List ℕ)) (
       ∙ ((h.opens.keeps.next ∙ h.fresh.next_is) ∙ (sym (k.opens.keeps.next ∙ k.fresh.next_is) ∙ t.3.number_is)) in
       let place : s.0 ≡ t.0 = site_once (channel_of_connection h.last) (channel_of_connection k.last) s.0 t.0 s.3 t.3 limits_same (s.2 ∙ sym t.2)
       (s.1 ∙ (taken ∙ sym t.1)) number in
-      let ahead : untaken_of h.last ++ first.last.coming [] ≡ untaken_of k.last ++ second.last.coming [] =
-      append_cancel_left h.opens.moves.taken _ _
-      (first.parts ∙ (sym second.parts ∙ ap (λ (p : List ℕ). p ++ (untaken_of k.last ++ second.last.coming [])) (sym taken))) in (
-        s.0,
-        untaken_of h.last ++ first.last.coming [],
-        record {
+      record {
+        place = s.0;
+        rest = λ more. untaken_of h.last ++ first.last.coming more;
+        sent = h.opens.sent;
+        wrote = ran_wrote h.last h.opens.sent h.opens.moves.taken line after coming first;
+        taken = h.opens.moves.taken;
+        octets_are = s.1;
+        parts = first.all;
+        stand = record {
           ready = ready;
           ready_too = ready_too;
           first = subst (λ (c : Connection). StandsAt (channel_of_connection c) s.0) (sym is) s.3;
@@ -231,33 +284,34 @@ module _ (settled : SettledBehind) (limits : Limits) (url : Option (List ℕ)) (
                 ∙ ((sym h.opens.keeps.same.url ∙ h.fresh.url_is)
                 ∙ (sym (sym k.opens.keeps.same.url ∙ k.fresh.url_is) ∙ sym (ap (λ (c : Connection). url_of (channel_of_connection c)) is_too)));
           };
-          comes = ran_comes x h.last h.opens.sent h.opens.moves.taken line after coming first is;
-          comes_too = subst (ComesTo y later) (sym ahead) (ran_comes y k.last k.opens.sent k.opens.moves.taken other later coming second is_too);
-          few = subst (λ (o : List ℕ). length o < 0xFFFF_FFFF_FFFF_FFFF)
-              (sym (ap (λ (o : List ℕ). o ++ (untaken_of h.last ++ first.last.coming [])) s.1 ∙ first.parts)) lines.few;
-        },
-      )
+          comes = ran_comes x h.last h.opens.sent h.opens.moves.taken line after coming (λ more. untaken_of h.last ++ first.last.coming more) first is
+              (λ more. refl);
+          comes_too = ran_comes y k.last k.opens.sent k.opens.moves.taken other later coming (λ more. untaken_of h.last ++ first.last.coming more) second is_too
+              (λ more. ahead_same h.last k.last h.opens.sent k.opens.sent h.opens.moves.taken k.opens.moves.taken line after other later coming sent_is taken
+              first second more);
+        };
+      }
 
-  opened_by : (c d : Result Client ClientFault) (x y : Client) → a ≡ c → b ≡ d → c ≡ Ok x → d ≡ Ok y
+  opened_by : h.opens.sent ≡ k.opens.sent → (c d : Result Client ClientFault) (x y : Client) → a ≡ c → b ≡ d → c ≡ Ok x → d ≡ Ok y
       → IsOpened (channel_of_connection h.last) h.opens.moves.taken
-      → IsOpened (channel_of_connection k.last) k.opens.moves.taken → OpenAlike a b after later
-  opened_by c d x y e i p q o v =
+      → IsOpened (channel_of_connection k.last) k.opens.moves.taken → OpenAlike a b line after later coming
+  opened_by sent_is c d x y e i p q o v =
       let over = subst (λ (z : Result Client ClientFault). IsOpenedOver z h.last) (e ∙ p) h.over in
       let over_too = subst (λ (z : Result Client ClientFault). IsOpenedOver z k.last) (i ∙ q) k.over in
-      subst (λ (z : Result Client ClientFault). OpenAlike z b after later) (sym (e ∙ p))
-      (subst (λ (z : Result Client ClientFault). OpenAlike (Ok x) z after later) (sym (i ∙ q))
-      (stand_both x y over.0 over_too.0 over.1 over_too.1 o v))
+      subst (λ (z : Result Client ClientFault). OpenAlike z b line after later coming) (sym (e ∙ p))
+      (subst (λ (z : Result Client ClientFault). OpenAlike (Ok x) z line after later coming) (sym (i ∙ q))
+      (stand_both x y sent_is over.0 over_too.0 over.1 over_too.1 o v))
 
-  failed_by : (f g : ClientFault) → a ≡ Err f → b ≡ Err g → f ≡ g → OpenAlike a b after later
-  failed_by f g e d same = subst (λ (z : Result Client ClientFault). OpenAlike z b after later) (sym e)
-      (subst (λ (z : Result Client ClientFault). OpenAlike (Err f) z after later) (sym d) same)
+  failed_by : (f g : ClientFault) → a ≡ Err f → b ≡ Err g → f ≡ g → OpenAlike a b line after later coming
+  failed_by f g e d same = subst (λ (z : Result Client ClientFault). OpenAlike z b line after later coming) (sym e)
+      (subst (λ (z : Result Client ClientFault). OpenAlike (Err f) z line after later coming) (sym d) same)
 
   abbrev ToFirst : Type 0
-  ToFirst = OpensTo R coming (hello_octets (client_limits (channel_of_connection h.begun)) (url_of (channel_of_connection h.begun))) (open_frame_octets moment)
+  ToFirst = OpensTo R come (hello_octets (client_limits (channel_of_connection h.begun)) (url_of (channel_of_connection h.begun))) (open_frame_octets moment)
       (channel_of_connection h.last) h.opens.sent h.opens.moves.taken a
 
   abbrev ToSecond : Type 0
-  ToSecond = OpensTo R coming (hello_octets (client_limits (channel_of_connection k.begun)) (url_of (channel_of_connection k.begun))) (open_frame_octets moment)
+  ToSecond = OpensTo R come (hello_octets (client_limits (channel_of_connection k.begun)) (url_of (channel_of_connection k.begun))) (open_frame_octets moment)
       (channel_of_connection k.last) k.opens.sent k.opens.moves.taken b
 
   said_both : (told also : List ClientTold) → told ≡ also
@@ -271,31 +325,31 @@ module _ (settled : SettledBehind) (limits : Limits) (url : Option (List ℕ)) (
       (subst (λ (t : List ClientTold). SaidAt hi (open_frame_octets moment) k.opens.sent t) (sym e)
       (subst (λ (o : List ℕ). SaidAt o (open_frame_octets moment) k.opens.sent also) (same_hello k.begun k.fresh) q))
 
-  both : ToFirst → ToSecond → OpenedOnce a b line after other later
-  both (Done x e sent o) (Done y d also v) = record {
-    answers = opened_by a b x y refl refl e d o v;
-    written =
-        wrote_both (sent ∙ (ap (λ (t : List ℕ). t ++ open_frame_octets moment) (same_hello h.begun h.fresh ∙ sym (same_hello k.begun k.fresh)) ∙ sym also));
-  }
+  both : ToFirst → ToSecond → OpenedOnce a b line after other later coming
+  both (Done x e sent o) (Done y d also v) =
+      let sent_is : h.opens.sent ≡ k.opens.sent =
+      sent ∙ (ap (λ (t : List ℕ). t ++ open_frame_octets moment) (same_hello h.begun h.fresh ∙ sym (same_hello k.begun k.fresh)) ∙ sym also) in
+      record { answers = opened_by sent_is a b x y refl refl e d o v; written = wrote_both sent_is }
   both (Done x e sent o) (Waited f c d by told said all) =
-      absurd (never_waited (channel_of_connection h.last) h.opens.moves.taken (untaken_of h.last ++ first.last.coming []) o mine first.parts c told
+      absurd (never_waited (channel_of_connection h.last) h.opens.moves.taken first_behind.more o mine first_behind.parts c told
       (said_few _ (open_frame_octets moment) k.opens.sent told said) all)
   both (Waited f c e by told said all) (Done y d also v) =
-      absurd (never_waited (channel_of_connection k.last) k.opens.moves.taken (untaken_of k.last ++ second.last.coming []) v theirs second.parts c told
+      absurd (never_waited (channel_of_connection k.last) k.opens.moves.taken second_behind.more v theirs second_behind.parts c told
       (said_few _ (open_frame_octets moment) h.opens.sent told said) all)
   both (Waited f c e by told said all) (Waited g i d by_too also said_too all_too) =
-      let same = all_once R coming told also c i all all_too in
+      let same = all_once R come told also c i all all_too in
       record { answers = failed_by f g e d (one_fault f g c i by by_too same.1); written = wrote_both (said_both told also same.0 said said_too) }
 
-  by_faults : CallsAlike a b line after other later → OpenedOnce a b line after other later
+  by_faults : CallsAlike a b line after other later → OpenedOnce a b line after other later coming
   by_faults (NoFault f g) =
-      both (opens_to R limits url h.begun h.last moment line after coming lines.first lines.first_is brings lines.few a h.opens mine h.fresh.goes f had.first)
-      (opens_to R limits url k.begun k.last moment other later coming lines.second lines.second_is brings_too lines.few b k.opens theirs k.fresh.goes g
-      had.second)
+      both (opens_to R h.begun h.last moment line after come a h.opens first_behind mine h.fresh.goes f made.had.first)
+      (opens_to R k.begun k.last moment other later come b k.opens second_behind theirs k.fresh.goes g made.had.second)
   by_faults (AtRead f g c) =
-      let p = at_read R limits url h.begun h.last moment line after coming lines.first lines.first_is brings lines.few a h.opens mine h.fresh.goes f in
-      let q = at_read R limits url k.begun k.last moment other later coming lines.second lines.second_is brings_too lines.few b k.opens theirs k.fresh.goes g in
-      let taken = read_same h.last k.last h.opens.sent k.opens.sent h.opens.moves.taken k.opens.moves.taken line after other later coming first second p.3 q.3 c
+      let p = at_read R h.begun h.last moment line after come a h.opens first_behind mine h.fresh.goes f in
+      let q = at_read R k.begun k.last moment other later come b k.opens second_behind theirs k.fresh.goes g in
+      let taken = read_same h.last k.last h.opens.sent k.opens.sent h.opens.moves.taken k.opens.moves.taken line after other later coming first second
+      (ap (λ (o : List ℕ). coming (h.opens.sent ++ o)) (sym (one_coming.stop fault.Read f (inr refl)))
+      ∙ (one_coming.same ∙ ap (λ (o : List ℕ). coming (k.opens.sent ++ o)) (one_coming.stop_too fault.Read g (inr refl)))) p.3 q.3 c
       in
       let told =
       (all_once R k.opens.moves.taken p.0 q.0 Going Going
@@ -308,12 +362,11 @@ nothing : {A : Type 0} (a : Result A ClientFault) → a ≡ Err fault.OutOfMemor
 nothing a e had = had e
 
 pub opened_once : SettledBehind → (limits : Limits) (url again : Option (List ℕ)) (moment : DateTime) (a b : Result Client ClientFault)
-    (line after other later : Option Traffic) (coming : List ℕ) → url ≡ again → LinesAlike line other coming → HadMemory fault.OutOfMemory a b
-    → CallsAlike a b line after other later
+    (line after other later : Option Traffic) (coming : List ℕ → List ℕ) → url ≡ again → OpenInStages a b line after other later coming
     → OpensNothing line after a ⊎ OpensClient limits url moment line after a → OpensNothing other later b ⊎ OpensClient limits again moment other later b
-    → OpenedOnce a b line after other later
-opened_once settled limits url again moment a b line after other later coming e lines had faults (inl h) k = absurd (nothing a h.0 had.first)
-opened_once settled limits url again moment a b line after other later coming e lines had faults (inr h) (inl k) = absurd (nothing b k.0 had.second)
-opened_once settled limits url again moment a b line after other later coming e lines had faults (inr h) (inr k) =
-    by_faults settled limits url moment a b line after other later coming lines had h
-    (subst (λ (u : Option (List ℕ)). OpensClient limits u moment other later b) (sym e) k) faults
+    → OpenedOnce a b line after other later coming
+opened_once settled limits url again moment a b line after other later coming e made (inl h) k = absurd (nothing a h.0 made.had.first)
+opened_once settled limits url again moment a b line after other later coming e made (inr h) (inl k) = absurd (nothing b k.0 made.had.second)
+opened_once settled limits url again moment a b line after other later coming e made (inr h) (inr k) =
+    by_faults settled limits url moment a b line after other later coming made h
+    (subst (λ (u : Option (List ℕ)). OpensClient limits u moment other later b) (sym e) k) made.fails

@@ -1,5 +1,5 @@
 -- Octets that come twice to a server's channel.
-use Rattle.std.specs.Prelude.{◌≡◌, ℕ, ◌≤◌, List, [], ◌∷◌, ◌++◌, length, take, Bool, true, false, is_some, Option, Some, None, Result, Ok, Err, IfOk, IsErrOf}
+use Rattle.std.specs.Prelude.{◌≡◌, ℕ, ◌≤◌, List, [], ◌∷◌, ◌++◌, length, take, Bool, true, false, is_some, Option, Some, None, Result, Ok, Err, IsErrOf}
 use Rattle.std.specs.List.{concat}
 use Rattle.std.proofs.Common.{refl, sym, ◌∙◌, ap, subst, append-nil}
 use Rattle.ua_builtin.specs.declared.date_time.DateTime.{DateTime}
@@ -11,7 +11,7 @@ use Rattle.ua_frame.specs.declared.frame.Frame.{Frame}
 use Rattle.ua_frame.specs.declared.limits.Limits.{Limits}
 use Rattle.ua_channel.specs.Ends.{HandsOutParts}
 use Rattle.ua_channel.specs.Received.{received}
-use Rattle.ua_channel.specs.ServerAnswers.{AnswersAt, AsksInParts, ServerAnswers, parts_asked}
+use Rattle.ua_channel.specs.ServerAnswers.{AnswersAt, ServerAnswers}
 use Rattle.ua_channel.specs.ServerRules.{server_rules}
 use Rattle.ua_channel.specs.ServerSends.{AreSent, counted_by, opened_frame}
 use Rattle.ua_channel.specs.ServerStands.{limits_of, channel_of, next_of, bound_after, rules_of, server_side, Goes, GoesTelling, ClosedAt}
@@ -135,9 +135,9 @@ is_sent channel number moment (told.GaveUp id) out p = absurd p
 is_sent channel number moment told.Closed out p = absurd p
 
 module _ (channel number : ℕ) (moment : DateTime) (piece octets : List ℕ) (before : List Told) (x : ServerChannel) where
-  heard : (n : ℕ) (a : Answer) → AnswersAt channel number moment piece n a x octets before
-      → IfOk a (λ e. AsksInParts (parts_asked e) x (octets ++ take n piece)) → ¬ (IsErrOf a OutOfMemory) → Heard channel number moment piece octets before n a x
-  heard n (Ok NeedMore) h parts had = record {
+  heard : (n : ℕ) (a : Answer) → AnswersAt channel number moment piece n a x octets before → ¬ (IsErrOf a OutOfMemory)
+      → Heard channel number moment piece octets before n a x
+  heard n (Ok NeedMore) h had = record {
     came = Quietly;
     comes = (h.0, h.1.0);
     parts = None;
@@ -147,7 +147,7 @@ module _ (channel number : ℕ) (moment : DateTime) (piece octets : List ℕ) (b
     next = h.1.1;
     left = λ y s. ([], subst (λ (t : List Told). ServersAlike x y (octets ++ take n piece) t) (sym (append-nil before)) s);
   }
-  heard n (Ok (Send out)) h parts had =
+  heard n (Ok (Send out)) h had =
       let s = is_sent channel number moment h.1.said out.items h.1.are_sent in record {
         came = Telling h.1.said;
         comes = (h.0.1, s.last, h.1.goes);
@@ -158,17 +158,17 @@ module _ (channel number : ℕ) (moment : DateTime) (piece octets : List ℕ) (b
         next = h.1.counted;
         left = λ y l. (h.1.said ∷ [], l);
       }
-  heard n (Ok (Asked id message)) h parts had = record {
+  heard n (Ok (Asked id message)) h had = record {
     came = Telling (told.Asked id h.1.0.token (concat message));
     comes = (h.0.1, refl, h.1.0.goes);
     parts = Some message;
-    handed = parts;
+    handed = h.1.0.in_parts;
     some = refl;
     answer = refl;
     next = h.1.1;
     left = λ y s. (told.Asked id h.1.0.token (concat message) ∷ [], s);
   }
-  heard n (Ok (Aborted id)) h parts had = record {
+  heard n (Ok (Aborted id)) h had = record {
     came = Telling (told.GaveUp id);
     comes = (h.0.1, refl, h.1.0);
     parts = None;
@@ -178,7 +178,7 @@ module _ (channel number : ℕ) (moment : DateTime) (piece octets : List ℕ) (b
     next = h.1.1;
     left = λ y s. (told.GaveUp id ∷ [], s);
   }
-  heard n (Ok event.Closed) h parts had = record {
+  heard n (Ok event.Closed) h had = record {
     came = Lasting told.Closed;
     comes = (h.0.1, refl, h.1);
     parts = None;
@@ -188,7 +188,7 @@ module _ (channel number : ℕ) (moment : DateTime) (piece octets : List ℕ) (b
     next = tt;
     left = λ y d. d;
   }
-  heard n (Err (Refused code err)) h parts had = record {
+  heard n (Err (Refused code err)) h had = record {
     came = Stopping code.code;
     comes = (h.0, h.1);
     parts = None;
@@ -198,8 +198,8 @@ module _ (channel number : ℕ) (moment : DateTime) (piece octets : List ℕ) (b
     next = tt;
     left = λ y d. d;
   }
-  heard n (Err OutOfMemory) h parts had = absurd (had refl)
-  heard n (Err Closed) h parts had = absurd h
+  heard n (Err OutOfMemory) h had = absurd (had refl)
+  heard n (Err Closed) h had = absurd h
 
 -- ---- two answers are one
 
@@ -259,7 +259,6 @@ module _ (channel number : ℕ) (moment : DateTime) (piece octets : List ℕ) (b
 -- what a channel says of a piece, and of the limits and the id behind it
 pub record IsTaken (old new : ServerChannel) (moment : DateTime) (piece octets : List ℕ) (before : List Told) (n : ℕ) (a : Answer) : Type 0 where
   pub answers : AnswersAt (channel_of old) (next_of old) moment piece n a new octets before
-  pub parts : IfOk a (λ e. AsksInParts (parts_asked e) new (octets ++ take n piece))
   pub limits : limits_of new ≡ limits_of old
   pub channel : channel_of new ≡ channel_of old
 
@@ -269,10 +268,10 @@ pub alike : (one two x y : ServerChannel) (moment : DateTime) (piece octets : Li
     → HadMemory OutOfMemory a b → Both n m a b x y octets piece before
 alike one two x y moment piece octets before n m a b s p q had =
     both (channel_of one) (next_of one) moment piece octets before x y (p.limits ∙ (s.limits ∙ sym q.limits)) (p.channel ∙ (s.channel ∙ sym q.channel)) n m a b
-    (heard (channel_of one) (next_of one) moment piece octets before x n a p.answers p.parts had.first)
+    (heard (channel_of one) (next_of one) moment piece octets before x n a p.answers had.first)
     (heard (channel_of one) (next_of one) moment piece octets before y m b
     (subst (λ (k : ℕ). AnswersAt k (next_of one) moment piece m b y octets before) (sym s.channel)
-    (subst (λ (k : ℕ). AnswersAt (channel_of two) k moment piece m b y octets before) (sym s.next) q.answers)) q.parts had.second)
+    (subst (λ (k : ℕ). AnswersAt (channel_of two) k moment piece m b y octets before) (sym s.next) q.answers)) had.second)
 
 -- ---- where a fault does not say how many octets were taken
 
@@ -281,7 +280,6 @@ Taken = Result (ℕ × ServerEvent) ChannelFault
 
 pub record IsAnswered (old new : ServerChannel) (moment : DateTime) (piece octets : List ℕ) (before : List Told) (a : Taken) : Type 0 where
   pub answers : ServerAnswers (channel_of old) (next_of old) moment piece a new octets before
-  pub parts : IfOk a (λ r. AsksInParts (parts_asked r.1) new (octets ++ take r.0 piece))
   pub limits : limits_of new ≡ limits_of old
   pub channel : channel_of new ≡ channel_of old
 
@@ -295,9 +293,9 @@ record IsCounted (old new : ServerChannel) (moment : DateTime) (piece octets : L
 counted : (old new : ServerChannel) (moment : DateTime) (piece octets : List ℕ) (before : List Told) (a : Taken)
     → IsAnswered old new moment piece octets before a → IsCounted old new moment piece octets before a
 counted old new moment piece octets before (Ok (n, e)) p =
-    record { count = n; outcome = Ok e; is = refl; taken = record { answers = p.answers; parts = p.parts; limits = p.limits; channel = p.channel } }
+    record { count = n; outcome = Ok e; is = refl; taken = record { answers = p.answers; limits = p.limits; channel = p.channel } }
 counted old new moment piece octets before (Err fault) p =
-    record { count = p.answers.0; outcome = Err fault; is = refl; taken = record { answers = p.answers.1; parts = tt; limits = p.limits; channel = p.channel } }
+    record { count = p.answers.0; outcome = Err fault; is = refl; taken = record { answers = p.answers.1; limits = p.limits; channel = p.channel } }
 
 abbrev with_count : ℕ → Result ServerSeen ChannelFault → Result (ℕ × ServerSeen) ChannelFault
 with_count n (Ok s) = Ok (n, s)

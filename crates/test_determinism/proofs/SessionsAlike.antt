@@ -21,12 +21,13 @@ use Rattle.ua_client.specs.declared.connection.Connection.{Connection}
 use Rattle.ua_client.specs.declared.fault.ClientFault.{ClientFault}
 use Rattle.ua_client.specs.declared.fault.ClientFault.TheVariants as fault
 use Rattle.ua_client.specs.declared.reply.Reply.{Reply}
-use Rattle.test_determinism.specs.Calling.{CallsAlike, LeavesBoth, StandReady}
+use Rattle.test_determinism.specs.Calling.{LeavesBoth, MadeInStages}
 use Rattle.test_determinism.specs.Lines.{WroteAlike}
-use Rattle.test_determinism.specs.Pinned.{HadMemory}
+use Rattle.test_determinism.proofs.CallsAlike.{OneComing, one_by}
 use Rattle.test_determinism.proofs.GroupOnce.{Broke, IsDone, OneBody, broke_once, done_once, not_broken}
 use Rattle.test_determinism.proofs.GroupsAlike.{Faults, Place, broke_all, goes_on, not_going}
-use Rattle.test_determinism.proofs.LinesAlike.{Ways, fault_of, had_first, had_second, left_both, limits_are, limits_too, not_long, not_long_too, ways, wrote}
+use Rattle.test_determinism.proofs.LinesAlike.{Ways, fault_of, first, had_first, had_second, left_both, limits_are, limits_too, not_long, not_long_too}
+use Rattle.test_determinism.proofs.LinesAlike.{second, ways, wrote}
 
 -- ---- one service
 
@@ -289,10 +290,11 @@ module _ (limits : Limits) (url policy_id : Option (List ℕ)) (moment : DateTim
 
 -- ---- two sessions are one
 
-pub record SessionOnce (a b : Result NodeId ClientFault) (one two : Client) (line after other later : Option Traffic) : Type 0 where
+pub record SessionOnce (a b : Result NodeId ClientFault) (one two : Client) (line after other later : Option Traffic) (octets : List ℕ)
+    (coming : List ℕ → List ℕ) : Type 0 where
   pub answers : a ≡ b
   pub written : WroteAlike line after other later
-  pub left : LeavesBoth a one two after later
+  pub left : LeavesBoth a one two line after later octets coming
 
 same_result : (a b : Result NodeId ClientFault) → fault_of a ≡ fault_of b → token_of a ≡ token_of b → a ≡ b
 same_result (Ok token) (Ok again) e d = ap Ok (same_token token again d)
@@ -304,41 +306,50 @@ same_result (Err f) (Err g) e d = ap Err (same_fault f g e)
     same_fault h k c = cc
 
 pub session_once : (once : OneBody) (one two x y : Client) (policy_id again : Option (List ℕ)) (moment : DateTime) (a b : Result NodeId ClientFault)
-    (line after other later : Option Traffic) (s : ClientPlace) (coming : List ℕ) → policy_id ≡ again
-    → StandReady one two line other s coming → HadMemory fault.OutOfMemory a b
+    (line after other later : Option Traffic) (s : ClientPlace) (coming : List ℕ → List ℕ) → policy_id ≡ again
+    → MadeInStages ⊥ one two a b line after other later s coming
     → BeginsSessionAs policy_id moment (connection_of one) (connection_of x) line after a
     → BeginsSessionAs again moment (connection_of two) (connection_of y) other later b
-    → IsLeft a x → IsLeft b y → CallsAlike a b line after other later → SessionOnce a b x y line after other later
-session_once once one two x y policy_id again moment a b line after other later s coming same_policy stand had h k left left_too alike = record {
+    → IsLeft a x → IsLeft b y → SessionOnce a b x y line after other later s.octets coming
+session_once once one two x y policy_id again moment a b line after other later s coming same_policy made h k left left_too = record {
   answers = same_result a b both_once.once.outcome both_once.given_is;
-  written = wrote one two x y a b line after other later s coming stand h.sent k.sent h.moves k.moves h.same k.same h.stops k.stops both_once.once.sent_is;
-  left = left_both one two x y a b line after other later s coming stand h.sent k.sent h.moves k.moves h.same k.same h.stops k.stops both_once.once.outcome left
+  written = wrote one two x y a b line after other later s coming made.made h.sent k.sent h.moves k.moves h.same k.same h.stops k.stops both_once.once.sent_is;
+  left = left_both one two x y a b line after other later s coming made.made h.sent k.sent h.moves k.moves h.same k.same h.stops k.stops both_once.once.sent_is
+      both_once.once.outcome left
       left_too both_once.once.stays;
 }
   where
+    one_coming : OneComing a b coming h.sent k.sent
+    one_coming =
+        one_by a b (connection_of x) (connection_of y) h.sent k.sent h.moves.taken k.moves.taken line after other later coming
+        (first one two x y a b line after other later s coming made.made h.sent k.sent h.moves k.moves h.same k.same h.stops k.stops)
+        (second one two x y a b line after other later s coming made.made h.sent k.sent h.moves k.moves h.same k.same h.stops k.stops)
+        (λ never. absurd never) made.as_one
+
     both : Ways a b h.moves.taken k.moves.taken h.sent k.sent
-    both = ways one two x y a b line after other later s coming stand h.sent k.sent h.moves k.moves h.same k.same h.stops k.stops alike
+    both = ways one two x y a b line after other later s coming made.made h.sent k.sent h.moves k.moves h.same k.same h.stops k.stops one_coming
 
     mine : Begun (client_limits (client_channel two)) (url_of (client_channel two)) again moment s (h.moves.taken ++ both.more) (client_channel x) h.sent
         h.moves.taken (fault_of a) (token_of a)
     mine =
         subst (λ (u : Option (List ℕ)). Begun (client_limits (client_channel two)) u again moment s (h.moves.taken ++ both.more) (client_channel x) h.sent
-        h.moves.taken (fault_of a) (token_of a)) stand.same.url
+        h.moves.taken (fault_of a) (token_of a)) made.made.stand.same.url
         (subst (λ (u : Option (List ℕ)). Begun (client_limits (client_channel two)) (url_of (client_channel one)) u moment s (h.moves.taken ++ both.more)
         (client_channel x) h.sent h.moves.taken (fault_of a) (token_of a)) same_policy
         (begun_by (client_limits (client_channel two)) (url_of (client_channel one)) policy_id moment s (connection_of x) h.sent h.moves.taken both.more
-        (limits_are one two x y a b line after other later s coming stand h.sent k.sent h.moves k.moves h.same k.same h.stops k.stops) a both.stop
-        (had_first a b had)
-        (not_long one two x y a b line after other later s coming stand h.sent k.sent h.moves k.moves h.same k.same h.stops k.stops) (h.answers s stand.first)))
+        (limits_are one two x y a b line after other later s coming made.made h.sent k.sent h.moves k.moves h.same k.same h.stops k.stops) a both.stop
+        (had_first a b made.made.had)
+        (not_long one two x y a b line after other later s coming made.made h.sent k.sent h.moves k.moves h.same k.same h.stops k.stops)
+        (h.answers s made.made.stand.first)))
 
     theirs : Begun (client_limits (client_channel two)) (url_of (client_channel two)) again moment s (k.moves.taken ++ both.rest) (client_channel y) k.sent
         k.moves.taken (fault_of b) (token_of b)
     theirs =
         begun_by (client_limits (client_channel two)) (url_of (client_channel two)) again moment s (connection_of y) k.sent k.moves.taken both.rest
-        (limits_too one two x y a b line after other later s coming stand h.sent k.sent h.moves k.moves h.same k.same h.stops k.stops) b both.stop_too
-        (had_second a b had)
-        (not_long_too one two x y a b line after other later s coming stand h.sent k.sent h.moves k.moves h.same k.same h.stops k.stops)
-        (k.answers s stand.second)
+        (limits_too one two x y a b line after other later s coming made.made h.sent k.sent h.moves k.moves h.same k.same h.stops k.stops) b both.stop_too
+        (had_second a b made.made.had)
+        (not_long_too one two x y a b line after other later s coming made.made h.sent k.sent h.moves k.moves h.same k.same h.stops k.stops)
+        (k.answers s made.made.stand.second)
 
     both_once : BegunOnce (client_channel x) (client_channel y) (fault_of a) (fault_of b) s h.sent k.sent h.moves.taken k.moves.taken (token_of a) (token_of b)
     both_once =

@@ -32,7 +32,8 @@ pub use bodies::{
 };
 pub use calling::{
     begin_session_as_twice, begin_session_twice, call_all_twice, call_into_twice, call_twice,
-    close_twice, open_twice, renew_twice,
+    close_twice, each_transport_is_like_itself, open_twice, renew_twice,
+    transports_may_ignore_writes,
 };
 pub use chunks::{read_chunk_twice, read_open_twice};
 pub use clients::{

@@ -1,6 +1,6 @@
 -- What a client does for C: each clause of the calls of `ClientChannel`, over the content of a
 -- handle.
-use Rattle.std.specs.Prelude.{◌≡◌, ◌⊎◌, ◌<◌, ◌≤◌, ◌++◌, ◌∷◌, [], ℕ, List, length, take, true, false, Some, Result, Ok, Err, IfOk, OnOk, OnErr, IsErrOf}
+use Rattle.std.specs.Prelude.{◌≡◌, ◌⊎◌, ◌<◌, ◌++◌, ◌∷◌, [], ℕ, List, length, true, false, Some, Result, Ok, Err, IfOk, OnOk, OnErr, IsErrOf}
 use Rattle.std.specs.List.{concat}
 use Rattle.std.specs.declared.alloc.Global.{Global}
 use Rattle.std_alloc.specs.declared.vec.Vec.{Vec}
@@ -11,9 +11,9 @@ use Rattle.ua_frame.specs.declared.frame.Frame.{Frame}
 use Rattle.ua_frame.specs.declared.limits.Limits.{Limits}
 use Rattle.ua_channel.specs.Asks.{Placed, asked_in}
 use Rattle.ua_channel.specs.Asks.Asking.{Call, Renewal}
-use Rattle.ua_channel.specs.Client.{ClientStands, ClientGoes, ClientStarvedAt, IsClientDone, SameClient, client_limits, url_of, client_next}
+use Rattle.ua_channel.specs.Client.{ClientStands, ClientGoes, IsClientDone, SameClient, client_limits, url_of, client_next}
 use Rattle.ua_channel.specs.Client.{client_bound, call_refused, renewal_refused, closing_refused, SendsCall, SendsRenewal, SendsClosing}
-use Rattle.ua_channel.specs.ClientAnswers.{ClientAnswers, ComesInParts, ClientProgress, parts_handed}
+use Rattle.ua_channel.specs.ClientAnswers.{ClientAnswers, ClientProgress}
 use Rattle.ua_channel.specs.ClientAsks.{AnswersFor, IsCalled, IsCloseWith, IsRenewalWith, call_reasons, closing_reasons, renewing_reasons}
 use Rattle.ua_channel.specs.ClientSends.{hello_frame, hello_to}
 use Rattle.ua_channel.specs.ClientTold.{ClientTold as ToldOfFrame}
@@ -103,12 +103,8 @@ pub record TakesAs (client : ClientChannel) (piece : List ℕ) (moment : DateTim
     (new : ClientChannel) : Type 0 where
   pub answers : (asks : List Placed) (octets : List ℕ) (told : List ToldOfFrame) → ClientGoes client asks octets told
       → ClientAnswers moment piece answer new asks octets told
-  pub parts : (asks : List Placed) (octets : List ℕ) (told : List ToldOfFrame) → ClientGoes client asks octets told
-      → IfOk answer (λ r. ComesInParts (parts_handed r.1) new asks (octets ++ take r.0 piece))
   pub progress : ClientProgress piece answer
   pub closed : IsClientDone client → (answer ≡ Err take_fault.Closed) × (new ≡ client)
-  pub starves : (asks : List Placed) (octets : List ℕ) (told : List ToldOfFrame) → ClientGoes client asks octets told → IsErrOf answer take_fault.OutOfMemory
-      → (n : ℕ) × (n ≤ length piece) × ClientStarvedAt new asks (octets ++ take n piece) told
   pub starved : IsErrOf answer take_fault.OutOfMemory → client_bound new ≡ client_bound client
   pub same : SameClient client new
   pub next : client_next new ≡ client_next client

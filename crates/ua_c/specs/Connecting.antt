@@ -1,17 +1,17 @@
 -- What a connection over shared nodes does for C: each clause of the calls of `Connection`, over
 -- the contents of two handles.
-use Rattle.std.specs.Prelude.{◌≡◌, ◌⊎◌, ℕ, List, [], Option, Some, None, Result, Ok, Err, IfOk, OnErr, IsErrOf}
+use Rattle.std.specs.Prelude.{◌≡◌, ◌⊎◌, ℕ, List, [], Option, None, Result, Ok, Err, IfOk, OnErr, IsErrOf}
 use Rattle.std.specs.Map.{keys_of}
 use Rattle.ua_builtin.specs.declared.date_time.DateTime.{DateTime}
-use Rattle.ua_channel.specs.ServerStands.{limits_of, channel_of, next_of, bound_of, IsDone, Goes, ChannelStands as Holds}
+use Rattle.ua_channel.specs.ServerStands.{limits_of, channel_of, bound_of, IsDone, Goes, ChannelStands as Holds}
 use Rattle.ua_channel.specs.ServerTold.{Told}
 use Rattle.ua_frame.specs.declared.limits.Limits.{Limits}
-use Rattle.ua_server.specs.History.{ConnectionEvent, StandsOver, StepOver}
+use Rattle.ua_server.specs.History.{StandsOver}
 use Rattle.ua_server.specs.Now.{StepNow}
 use Rattle.ua_server.specs.Served.{channel_at, session_at, with_own_session}
 use Rattle.ua_server.specs.Sharing.{SharedEvent, StandsAmong, StepAmong, opened, shared_over, told_by}
 use Rattle.ua_server.specs.State.{State}
-use Rattle.ua_server.specs.Stepping.{StepStands, StepTakes}
+use Rattle.ua_server.specs.Stepping.{StepTakes}
 use Rattle.ua_server.specs.Storing.{StepStores}
 use Rattle.ua_server.specs.declared.connection.Connection.{Connection}
 use Rattle.ua_server.specs.declared.step.Step.{Step}
@@ -52,13 +52,8 @@ pub record StepsConnectionAs (connection : Connection) (services : State) (piece
       → StandsAmong channels k (channel_at connection) (session_at connection) octets es first services
       → StepAmong (limits_of (channel_at connection)) channels k moment piece answer (channel_at new) (session_at new) octets es first services left
   pub now : (octets : List ℕ) (told : List Told) → Goes (channel_at connection) octets told
-      → StepNow (limits_of (channel_at connection)) (channel_of (channel_at connection)) (next_of (channel_at connection)) moment piece answer
+      → StepNow (channel_at connection) moment piece answer
       (channel_at new) octets told (with_own_session connection services) (with_own_session new left)
-  pub history : (octets : List ℕ) (hs : List ConnectionEvent) (first : State)
-      → StandsOver (channel_at connection) octets hs first (with_own_session connection services)
-      → StepOver (limits_of (channel_at connection)) (channel_of (channel_at connection)) moment piece answer (channel_at new) octets hs first
-      (with_own_session connection services) (with_own_session new left)
-  pub stands : (octets : List ℕ) (told : List Told) → Goes (channel_at connection) octets told → StepStands piece answer (channel_at new) octets told
   pub stores : (octets : List ℕ) (told : List Told) → Goes (channel_at connection) octets told
       → StepStores piece answer written (channel_at new) octets told (with_own_session connection services)
   pub failed : OnErr answer (written ≡ [])

@@ -2,14 +2,14 @@
 use Rattle.std.specs.Prelude.{◌≡◌, ℕ, List, [], Option, Some, None, Result, Ok, Err, IfOk, IsErrOf}
 use Rattle.std.specs.Map.{keys_of}
 use Rattle.ua_builtin.specs.declared.date_time.DateTime.{DateTime}
-use Rattle.ua_channel.specs.ServerStands.{limits_of, channel_of, next_of, bound_of, IsDone, Goes, ChannelStands as Holds}
+use Rattle.ua_channel.specs.ServerStands.{limits_of, channel_of, bound_of, IsDone, Goes, ChannelStands as Holds}
 use Rattle.ua_channel.specs.ServerTold.{Told}
 use Rattle.ua_frame.specs.declared.limits.Limits.{Limits}
-use Rattle.ua_server.specs.History.{ConnectionEvent, StandsOver, StepOver}
+use Rattle.ua_server.specs.History.{StandsOver}
 use Rattle.ua_server.specs.Now.{StepNow}
 use Rattle.ua_server.specs.Served.{channel_in}
 use Rattle.ua_server.specs.State.{State, begun}
-use Rattle.ua_server.specs.Stepping.{ServerStands, StepAnswers, StepStands, StepTakes}
+use Rattle.ua_server.specs.Stepping.{ServerStands, StepTakes}
 use Rattle.ua_server.specs.declared.server.Server.{Server}
 use Rattle.ua_server.specs.declared.step.End.{End}
 use Rattle.ua_server.specs.declared.step.End.TheVariants as ending
@@ -37,16 +37,9 @@ pub record IsFreshServer (limits : Limits) (channel : ℕ) (server : Server) : T
 -- services that it leaves
 pub record StepsAs (server : Server) (services : State) (piece : List ℕ) (moment : DateTime) (answer : Result Step StepFault) (new : Server)
     (left : State) : Type 0 where
-  pub answers : (octets : List ℕ) (told : List Told) (first : State) (moments : List DateTime)
-      → ServerStands (channel_in server) octets told first moments services
-      → StepAnswers (limits_of (channel_in server)) (channel_of (channel_in server)) moment piece answer (channel_in new) octets told first moments services
-      left
   pub now : (octets : List ℕ) (told : List Told) → Goes (channel_in server) octets told
-      → StepNow (limits_of (channel_in server)) (channel_of (channel_in server)) (next_of (channel_in server)) moment piece answer (channel_in new) octets told
+      → StepNow (channel_in server) moment piece answer (channel_in new) octets told
       services left
-  pub history : (octets : List ℕ) (hs : List ConnectionEvent) (first : State) → StandsOver (channel_in server) octets hs first services
-      → StepOver (limits_of (channel_in server)) (channel_of (channel_in server)) moment piece answer (channel_in new) octets hs first services left
-  pub stands : (octets : List ℕ) (told : List Told) → Goes (channel_in server) octets told → StepStands piece answer (channel_in new) octets told
   pub endpoint : left.endpoint ≡ services.endpoint
   pub memory_limit : left.memory_limit ≡ services.memory_limit
   pub ids : keys_of left.nodes ≡ keys_of services.nodes

@@ -50,26 +50,41 @@ opened_sends x numbers moment octets sent before e id handle token lifetime numb
 
 -- ---- whole pieces
 
+-- where it stands behind the frame of an event for whose answer memory was refused
+starved_event : (mid d : ServerChannel) (octets : List ℕ) (told : List Told) (e : Event) (answer : Result ServerEvent ChannelFault)
+    → limits_of d ≡ limits_of mid → channel_of d ≡ channel_of mid → IsDone d → StandsWith e mid octets told → (e ≡ inner.Closed → answer ≡ Ok event.Closed)
+    → answer ≡ Err fault.OutOfMemory
+    → StarvedAt d octets told
+starved_event mid d octets told (inner.Agreed a) answer limits channel done h closes is = starved_behind mid d octets told _ limits channel done h.0
+starved_event mid d octets told (inner.Opened id handle token lifetime) answer limits channel done h closes is =
+    starved_behind mid d octets told _ limits channel done h.0
+starved_event mid d octets told (inner.Asked id token message) answer limits channel done h closes is =
+    starved_behind mid d octets told _ limits channel done h.0
+starved_event mid d octets told (inner.Aborted id) answer limits channel done h closes is = starved_behind mid d octets told _ limits channel done h.0
+starved_event mid d octets told inner.Closed answer limits channel done h closes is = let no = sym (closes refl) ∙ is in absurd cc
+
 counts_of : (channel number : ℕ) (moment : DateTime) (piece : List ℕ) (n : ℕ) (answer : Result ServerEvent ChannelFault) (new : ServerChannel) (octets : List ℕ)
-    (before : List Told) → 0 < n → n ≤ length piece → AnswersTo channel number moment answer new (octets ++ take n piece) before
-    → AnswersAt channel number moment piece n answer new octets before
-counts_of channel number moment piece n (Ok NeedMore) new octets before some within h = absurd h
-counts_of channel number moment piece n (Ok (Send sent)) new octets before some within h = ((some, within), h)
-counts_of channel number moment piece n (Ok (Asked id message)) new octets before some within h = ((some, within), h)
-counts_of channel number moment piece n (Ok (Aborted id)) new octets before some within h = ((some, within), h)
-counts_of channel number moment piece n (Ok event.Closed) new octets before some within h = ((some, within), h)
-counts_of channel number moment piece n (Err (fault.Refused code err)) new octets before some within h = absurd h
-counts_of channel number moment piece n (Err fault.OutOfMemory) new octets before some within h = (within, h)
-counts_of channel number moment piece n (Err fault.Closed) new octets before some within h = h
+    (before : List Told) → 0 < n → n ≤ length piece → (answer ≡ Err fault.OutOfMemory → IsDone new → StarvedAt new (octets ++ take n piece) before)
+    → AnswersTo channel number moment answer new (octets ++ take n piece) before → AnswersAt channel number moment piece n answer new octets before
+counts_of channel number moment piece n (Ok NeedMore) new octets before some within starves h = absurd h
+counts_of channel number moment piece n (Ok (Send sent)) new octets before some within starves h = ((some, within), h)
+counts_of channel number moment piece n (Ok (Asked id message)) new octets before some within starves h = ((some, within), h)
+counts_of channel number moment piece n (Ok (Aborted id)) new octets before some within starves h = ((some, within), h)
+counts_of channel number moment piece n (Ok event.Closed) new octets before some within starves h = ((some, within), h)
+counts_of channel number moment piece n (Err (fault.Refused code err)) new octets before some within starves h = absurd h
+counts_of channel number moment piece n (Err fault.OutOfMemory) new octets before some within starves h = (within, starves refl h)
+counts_of channel number moment piece n (Err fault.Closed) new octets before some within starves h = h
 
 -- an event
 pub answers_event : (channel channel' number number' : ℕ) (moment : DateTime) (piece : List ℕ) (n : ℕ) (e : Event) (answer : Result ServerEvent ChannelFault)
     (mid new : ServerChannel) (octets : List ℕ) (before : List Told) → channel' ≡ channel → number' ≡ number
     → EndNexts server_side piece n (Ok (Some e)) mid.end tt octets before
     → (StandsWith e mid (octets ++ take n piece) before → AnswersTo channel' number' moment answer new (octets ++ take n piece) before)
+    → limits_of new ≡ limits_of mid → channel_of new ≡ channel_of mid → (e ≡ inner.Closed → answer ≡ Ok event.Closed)
     → AnswersAt channel number moment piece n answer new octets before
-answers_event channel channel' number number' moment piece n e answer mid new octets before same again h by =
+answers_event channel channel' number number' moment piece n e answer mid new octets before same again h by limits ids closes =
     counts_of channel number moment piece n answer new octets before h.0 h.1
+    (λ failed done. starved_event mid new (octets ++ take n piece) before e answer limits ids done h.2 closes failed)
     (subst (λ (k : ℕ). AnswersTo channel k moment answer new (octets ++ take n piece) before) again
     (subst (λ (k : ℕ). AnswersTo k number' moment answer new (octets ++ take n piece) before) same (by h.2)))
 
@@ -84,7 +99,7 @@ answers_end : (channel number : ℕ) (moment : DateTime) (piece : List ℕ) (n :
     → EndNexts server_side piece n (Err s) new.end tt octets before → AnswersAt channel number moment piece n (Err (of_end_fault s)) new octets before
 answers_end channel number moment piece n (end_fault.Refused code) new octets before h = (h.0, h.1, refl)
 answers_end channel number moment piece n (end_fault.Peer code) new octets before h = absurd h.1
-answers_end channel number moment piece n end_fault.OutOfMemory new octets before h = (h.0, h.1.done)
+answers_end channel number moment piece n end_fault.OutOfMemory new octets before h = h
 answers_end channel number moment piece n end_fault.Closed new octets before h = absurd h.1
 
 -- a fault
@@ -97,56 +112,8 @@ answers_fault channel number moment piece n s f new octets before h is =
 
 -- ---- after want of memory
 
--- a channel that ended for want of memory is as it was but for its bound
-pub starved_with : (channel number : ℕ) (moment : DateTime) (piece : List ℕ) (n bound : ℕ) (f : ChannelFault) (x new : ServerChannel) (octets : List ℕ)
-    (before : List Told) → f ≡ fault.OutOfMemory → new ≡ record x { end = record x.end { bound = bound } }
-    → AnswersAt channel number moment piece n (Err f) x octets before
-    → AnswersAt channel number moment piece n (Err f) new octets before
-starved_with channel number moment piece n bound f x new octets before is new_is h =
-    let starved : AnswersAt channel number moment piece n (Err fault.OutOfMemory) x octets before =
-    subst (λ (g : ChannelFault). AnswersAt channel number moment piece n (Err g) x octets before) is h in
-    let done : AnswersAt channel number moment piece n (Err fault.OutOfMemory) (record x { end = record x.end { bound = bound } }) octets before =
-    (starved.0, record { phase = starved.1.phase; empty = starved.1.empty }) in
-    subst (λ (y : ServerChannel). AnswersAt channel number moment piece n (Err f) y octets before) (sym new_is)
-    (subst (λ (g : ChannelFault). AnswersAt channel number moment piece n (Err g) (record x { end = record x.end { bound = bound } }) octets before)
-    (sym is) done)
-
--- where it stands behind the frame of an event for whose answer memory was refused
-pub starved_event : (mid d : ServerChannel) (octets : List ℕ) (told : List Told) (e : Event) (answer : Result ServerEvent ChannelFault)
-    → limits_of d ≡ limits_of mid → channel_of d ≡ channel_of mid → IsDone d → StandsWith e mid octets told → (e ≡ inner.Closed → answer ≡ Ok event.Closed)
-    → answer ≡ Err fault.OutOfMemory
-    → StarvedAt d octets told
-starved_event mid d octets told (inner.Agreed a) answer limits channel done h closes is = starved_behind mid d octets told _ limits channel done h.0
-starved_event mid d octets told (inner.Opened id handle token lifetime) answer limits channel done h closes is =
-    starved_behind mid d octets told _ limits channel done h.0
-starved_event mid d octets told (inner.Asked id token message) answer limits channel done h closes is =
-    starved_behind mid d octets told _ limits channel done h.0
-starved_event mid d octets told (inner.Aborted id) answer limits channel done h closes is = starved_behind mid d octets told _ limits channel done h.0
-starved_event mid d octets told inner.Closed answer limits channel done h closes is = let no = sym (closes refl) ∙ is in absurd cc
-
--- where it stands with a fault
-starved_end : (piece : List ℕ) (n : ℕ) (s : EndFault) (new : ServerChannel) (octets : List ℕ) (told : List Told)
-    → EndNexts server_side piece n (Err s) new.end tt octets told → of_end_fault s ≡ fault.OutOfMemory → StarvedAt new (octets ++ take n piece) told
-starved_end piece n (end_fault.Refused code) new octets told h is = absurd cc
-starved_end piece n (end_fault.Peer code) new octets told h is = absurd h.1
-starved_end piece n end_fault.OutOfMemory new octets told h is = h.1
-starved_end piece n end_fault.Closed new octets told h is = absurd h.1
-
-err_is : (f g : ChannelFault) → ◌≡◌ {A = Result ServerEvent ChannelFault} (Err f) (Err g) → f ≡ g
-err_is f g e = cc
-
-pub starved_fault : (piece : List ℕ) (n : ℕ) (s : EndFault) (f : ChannelFault) (new : ServerChannel) (octets : List ℕ) (told : List Told)
-    → EndNexts server_side piece n (Err s) new.end tt octets told → f ≡ of_end_fault s
-    → ◌≡◌ {A = Result ServerEvent ChannelFault} (Err f) (Err fault.OutOfMemory)
-    → StarvedAt new (octets ++ take n piece) told
-starved_fault piece n s f new octets told h is failed = starved_end piece n s new octets told h (sym is ∙ err_is f fault.OutOfMemory failed)
-
-pub done_by : (channel number : ℕ) (moment : DateTime) (answer : Result ServerEvent ChannelFault) (d : ServerChannel) (octets : List ℕ) (told : List Told)
-    → answer ≡ Err fault.OutOfMemory → AnswersTo channel number moment answer d octets told → IsDone d
-done_by channel number moment answer d octets told is h = subst (λ (a : Result ServerEvent ChannelFault). AnswersTo channel number moment a d octets told) is h
-
 -- with another bound
-pub starved_bound : (x new : ServerChannel) (bound : ℕ) (octets : List ℕ) (told : List Told) → new ≡ record x { end = record x.end { bound = bound } }
+starved_bound : (x new : ServerChannel) (bound : ℕ) (octets : List ℕ) (told : List Told) → new ≡ record x { end = record x.end { bound = bound } }
     → StarvedAt x octets told → StarvedAt new octets told
 starved_bound x new bound octets told is s =
     subst (λ (z : ServerChannel). StarvedAt z octets told) (sym is)
@@ -161,3 +128,17 @@ starved_bound x new bound octets told is s =
       sound = s.sound;
       within = s.within;
     })
+
+-- a channel that ended for want of memory is as it was but for its bound
+pub starved_with : (channel number : ℕ) (moment : DateTime) (piece : List ℕ) (n bound : ℕ) (f : ChannelFault) (x new : ServerChannel) (octets : List ℕ)
+    (before : List Told) → f ≡ fault.OutOfMemory → new ≡ record x { end = record x.end { bound = bound } }
+    → AnswersAt channel number moment piece n (Err f) x octets before
+    → AnswersAt channel number moment piece n (Err f) new octets before
+starved_with channel number moment piece n bound f x new octets before is new_is h =
+    let starved : AnswersAt channel number moment piece n (Err fault.OutOfMemory) x octets before =
+    subst (λ (g : ChannelFault). AnswersAt channel number moment piece n (Err g) x octets before) is h in
+    let done : AnswersAt channel number moment piece n (Err fault.OutOfMemory) (record x { end = record x.end { bound = bound } }) octets before =
+    (starved.0, starved_bound x (record x { end = record x.end { bound = bound } }) bound (octets ++ take n piece) before refl starved.1) in
+    subst (λ (y : ServerChannel). AnswersAt channel number moment piece n (Err f) y octets before) (sym new_is)
+    (subst (λ (g : ChannelFault). AnswersAt channel number moment piece n (Err g) (record x { end = record x.end { bound = bound } }) octets before)
+    (sym is) done)

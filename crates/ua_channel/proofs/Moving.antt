@@ -1,10 +1,9 @@
 -- Octets that a line moves, one call after the other, and what is left of a piece.
-use Rattle.std.specs.Prelude.{◌≡◌, ℕ, ◌+◌, ◌-◌, ◌≤◌, List, [], ◌++◌, take, drop, length, Option, Some, None, Ok, Err}
+use Rattle.std.specs.Prelude.{◌≡◌, ℕ, ◌+◌, ◌-◌, ◌≤◌, List, [], ◌++◌, take, drop, length, Option, Some, None, Ok}
 use Rattle.std.proofs.Common.{refl, sym, ◌∙◌, ap, subst, append_assoc, append-nil, arith}
 use Rattle.std.proofs.Math.Seq.{take-add, take-length}
 use Rattle.std.proofs.lemmas.List.{length-drop}
 use Rattle.ua_channel.specs.Line.{Traffic, MovesTraffic, WriteTakes, IfTrafficKnown}
-use Rattle.ua_channel.specs.declared.line.LineFault.{LineFault}
 
 -- ---- a piece
 
@@ -56,29 +55,9 @@ took n octets (Some a) (Some b) t = (λ rest. sym (t.1 rest), t.0)
 took n octets (Some a) None t = t
 took n octets None b t = t
 
-pub not-took : (f : LineFault) (octets : List ℕ) (a b : Option Traffic) → IfTrafficKnown (WriteTakes (Err f) octets) a b
-    → IfTrafficKnown (MovesTraffic [] []) a b
-not-took f octets (Some a) (Some b) t = (λ rest. ap (λ (x : Traffic). x.coming rest) (sym t), ap (λ (x : Traffic). x.written) t ∙ sym (append-nil a.written))
-not-took f octets (Some a) None t = t
-not-took f octets None b t = t
-
 -- more octets are written
 pub wrote-more : (octets : List ℕ) (m n : ℕ) (a b c : Option Traffic) → IfTrafficKnown (MovesTraffic [] (take m octets)) a b
     → IfTrafficKnown (WriteTakes (Ok n) (rest_of octets m)) b c → IfTrafficKnown (MovesTraffic [] (take (m + n) octets)) a c
 wrote-more octets m n a b c w t =
     subst (λ (x : List ℕ). IfTrafficKnown (MovesTraffic [] x) a c) (joined [] octets m n)
     (told-then [] (take m octets) [] (take n (rest_of octets m)) a b c w (took n (rest_of octets m) b c t))
-
-pub wrote-no-more : (octets : List ℕ) (m : ℕ) (f : LineFault) (rest : List ℕ) (a b c : Option Traffic) → IfTrafficKnown (MovesTraffic [] (take m octets)) a b
-    → IfTrafficKnown (WriteTakes (Err f) rest) b c → IfTrafficKnown (MovesTraffic [] (take m octets)) a c
-wrote-no-more octets m f rest a b c w t =
-    subst (λ (x : List ℕ). IfTrafficKnown (MovesTraffic [] x) a c) (append-nil (take m octets))
-    (told-then [] (take m octets) [] [] a b c w (not-took f rest b c t))
-
-whole-taken : (l m : ℕ) → m ≤ l → l ≤ m → m ≡ l
-whole-taken l m h k = omega (arith, h, k)
-
-pub wrote-all : (octets : List ℕ) (m : ℕ) (a b : Option Traffic) → m ≤ length octets → length octets ≤ m → IfTrafficKnown (MovesTraffic [] (take m octets)) a b
-    → IfTrafficKnown (MovesTraffic [] octets) a b
-wrote-all octets m a b h k w = subst (λ (x : List ℕ). IfTrafficKnown (MovesTraffic [] x) a b) (ap (λ (n : ℕ). take n octets) (whole-taken (length octets) m h k)
-    ∙ take-length octets) w

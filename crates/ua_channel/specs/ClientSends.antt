@@ -1,5 +1,5 @@
 -- What a client sends: the HEL, the OPNs and the CLO, each a whole frame.
-use Rattle.std.specs.Prelude.{◌≡◌, ◌≤◌, ℕ, ◌++◌, ◌∷◌, [], pos, List, Option}
+use Rattle.std.specs.Prelude.{◌≡◌, ◌≤◌, ℕ, ◌++◌, ◌∷◌, [], pos, length, drop, List, Option}
 use Rattle.ua_builtin.specs.declared.date_time.DateTime.{DateTime}
 use Rattle.ua_frame.specs.Frames.{frame_size, frames_octets}
 use Rattle.ua_frame.specs.declared.frame.Frame.{Frame}
@@ -55,6 +55,12 @@ close_frame channel token number id moment = record {
   body = token_header.canonical (channel, token)
       ++ (sequence_header.canonical (number, id) ++ (message 452 close_request).canonical (close_request_of moment 0));
 }
+
+-- ---- what is sent behind other bytes
+
+-- what was appended to the bytes that there were
+abbrev pub appended : List ℕ → List ℕ → List ℕ
+appended before now = drop (length before) now
 
 -- ---- where the frames of what is sent end
 

@@ -1,5 +1,5 @@
 -- The outcome of a server's channel for bytes.
-use Rattle.std.specs.Prelude.{◌≡◌, ℕ, ◌<◌, ◌≤◌, length, take, List, [], ◌∷◌, ◌++◌, Option, Some, None, Result, Ok, Err}
+use Rattle.std.specs.Prelude.{◌≡◌, ℕ, ◌<◌, ◌≤◌, length, take, List, [], ◌∷◌, ◌++◌, Some, Result, Ok, Err}
 use Rattle.std.specs.List.{concat}
 use Rattle.ua_builtin.specs.declared.date_time.DateTime.{DateTime}
 use Rattle.ua_frame.specs.Frames.{frame_octets}
@@ -12,7 +12,7 @@ use Rattle.ua_channel.specs.declared.server_fault.ChannelFault.{ChannelFault}
 use Rattle.ua_channel.specs.declared.server_fault.ChannelFault.TheVariants.{Refused, Closed, OutOfMemory}
 use Rattle.ua_channel.specs.Ends.{HandsOutParts}
 use Rattle.ua_channel.specs.ServerSends.{AreSent, counted_by}
-use Rattle.ua_channel.specs.ServerStands.{next_of, server_side, IsDone, Goes, GoesTelling, ClosedAt, RefusedAt}
+use Rattle.ua_channel.specs.ServerStands.{next_of, server_side, Goes, GoesTelling, ClosedAt, RefusedAt, StarvedAt}
 use Rattle.ua_channel.specs.ServerTold.{Told}
 use Rattle.ua_channel.specs.ServerTold.{Told as told}
 
@@ -25,10 +25,12 @@ pub record SendsOctets (channel number : ℕ) (moment : DateTime) (sent : List �
   pub goes : GoesTelling new octets before said
   pub counted : next_of new ≡ counted_by said number
 
--- the last frame ends the message with these parts, under this RequestId
+-- the last frame ends the message with these parts, in which its chunks brought it, under this
+-- RequestId
 pub record Asks (id : ℕ) (parts : List (List ℕ)) (new : ServerChannel) (octets : List ℕ) (before : List Told) : Type 0 where
   pub token : ℕ
   pub goes : GoesTelling new octets before (told.Asked id token (concat parts))
+  pub in_parts : HandsOutParts server_side (Some parts) new.end tt octets
 
 -- the state of the channel with an event, after bytes whose frames but the last told this, and what
 -- the event returns; the channel and the number of its next chunk are given, and the time of an OPN
@@ -40,16 +42,6 @@ EventHandedOut channel number moment (Asked id message) new octets before = Asks
 EventHandedOut channel number moment (Aborted id) new octets before = GoesTelling new octets before (told.GaveUp id) × (next_of new ≡ number)
 EventHandedOut channel number moment event.Closed new octets before = ClosedAt new octets (before ++ told.Closed ∷ [])
 
--- the parts of the message that is returned, if one is
-abbrev pub parts_asked : ServerEvent → Option (List (List ℕ))
-parts_asked (Asked id message) = Some message
-parts_asked other = None
-
--- a message, if one is returned after these bytes, comes in the parts in which its chunks brought
--- it
-abbrev pub AsksInParts : Option (List (List ℕ)) → ServerChannel → List ℕ → Type 0
-AsksInParts parts new octets = HandsOutParts server_side parts new.end tt octets
-
 -- how many bytes of a fragment are taken with an event: all if nothing came, else some
 abbrev pub Counts : List ℕ → ℕ → ServerEvent → Type 0
 Counts piece n NeedMore = n ≡ length piece
@@ -57,12 +49,13 @@ Counts piece n other = (0 < n) × (n ≤ length piece)
 
 -- the outcome for a fragment, after bytes whose frames told this, with the number of bytes that
 -- were taken: for a rejection up to the end of the rejected frame, or to the eighth byte of the
--- rejected header
+-- rejected header; if an allocation failed, to the eighth byte of a valid header, or within its
+-- frame
 abbrev pub AnswersAt : ℕ → ℕ → DateTime → List ℕ → ℕ → Result ServerEvent ChannelFault → ServerChannel → List ℕ → List Told → Type 0
 AnswersAt channel number moment piece n (Ok e) new octets before = Counts piece n e × EventHandedOut channel number moment e new (octets ++ take n piece) before
 AnswersAt channel number moment piece n (Err (Refused code err)) new octets before = (n ≤ length piece)
     × RefusedAt new (octets ++ take n piece) before code.code × (err ≡ frame_octets (err_frame code))
-AnswersAt channel number moment piece n (Err OutOfMemory) new octets before = (n ≤ length piece) × IsDone new
+AnswersAt channel number moment piece n (Err OutOfMemory) new octets before = (n ≤ length piece) × StarvedAt new (octets ++ take n piece) before
 AnswersAt channel number moment piece n (Err Closed) new octets before = ⊥
 
 -- the same if a fault does not tell how many bytes were taken: some number of them was

@@ -44,7 +44,7 @@ pub struct ServerChannel {
 }
 
 impl ServerChannel {
-    ghost use Rattle.std.specs.Prelude.{◌≡◌, ◌<◌, ◌≤◌, ◌+◌, ◌++◌, ◌^◌, ◌↔◌, [], ℕ, List, length};
+    ghost use Rattle.std.specs.Prelude.{◌≡◌, ◌<◌, ◌≤◌, ◌+◌, ◌^◌, ◌↔◌, [], ℕ, List, length};
     ghost use Rattle.std.specs.Prelude.{take, None, Some, Ok, Err, IfOk, IfSome, MatchOption};
     ghost use Rattle.std.specs.Prelude.{MatchResult, OnOk, OnErr, IsErrOf, IsTrue, is_some};
     ghost use Rattle.ua_frame.specs.declared.frame.Frame.{Frame};
@@ -52,9 +52,9 @@ impl ServerChannel {
     ghost use Rattle.ua_chunk.specs.declared.lane.Lane.{Lane};
     ghost use Rattle.ua_chunk.specs.Open.{open_ids};
     ghost use Rattle.ua_channel.specs.Received.{received};
-    ghost use Rattle.ua_channel.specs.ServerAnswers.{Progress, AnswersAt, ServerAnswers, AsksInParts, parts_asked};
+    ghost use Rattle.ua_channel.specs.ServerAnswers.{Progress, AnswersAt, ServerAnswers};
     ghost use Rattle.ua_channel.specs.inside.ServerSteps.{AnswersTo, StandsWith};
-    ghost use Rattle.ua_channel.specs.ServerStands.{StarvedAt, limits_of, channel_of, next_of, bound_of};
+    ghost use Rattle.ua_channel.specs.ServerStands.{limits_of, channel_of, next_of, bound_of};
     ghost use Rattle.ua_channel.specs.ServerStands.{HasNoToken, IsWithoutToken, ChannelStands, Goes};
     ghost use Rattle.ua_channel.specs.ServerStands.{IsDone, bound_after, held_after};
     ghost use Rattle.ua_channel.specs.inside.ServerFrames.{LaneIs};
@@ -119,8 +119,6 @@ impl ServerChannel {
         ensures closes { event ≡ inner.Closed → result ≡ Ok handed.Closed }
         ensures answers { (octets : List ℕ) (told : List Told) → StandsWith event self.old octets told
             → AnswersTo (channel_of self.old) (next_of self.old) moment result self.new octets told }
-        ensures parts { (octets : List ℕ) (told : List Told) → StandsWith event self.old octets told
-            → IfOk result (λ e. AsksInParts (parts_asked e) self.new octets) }
         ensures limits { limits_of self.new ≡ limits_of self.old }
         ensures channel { channel_of self.new ≡ channel_of self.old }
     {
@@ -166,12 +164,7 @@ impl ServerChannel {
         ensures answers { (octets : List ℕ) (told : List Told) → Goes self.old octets told
             → AnswersAt (channel_of self.old) (next_of self.old) moment piece.now result.size result.outcome self.new
             octets told }
-        ensures parts { (octets : List ℕ) (told : List Told) → Goes self.old octets told
-            → IfOk result.outcome (λ e. AsksInParts (parts_asked e) self.new (octets ++ take result.size piece.now)) }
         ensures progress { Progress piece.now result.size result.outcome }
-        ensures starves { (octets : List ℕ) (told : List Told) → Goes self.old octets told
-            → IsErrOf result.outcome fault.OutOfMemory
-            → StarvedAt self.new (octets ++ take result.size piece.now) told }
         ensures limits { limits_of self.new ≡ limits_of self.old }
         ensures channel { channel_of self.new ≡ channel_of self.old }
     {
@@ -202,17 +195,9 @@ impl ServerChannel {
         ensures answers { (octets : List ℕ) (told : List Told) → Goes self.old octets told
             → AnswersAt (channel_of self.old) (next_of self.old) moment piece.now result.size result.outcome self.new
             octets told }
-        // A message that is returned is the bodies of its chunks, which are not joined.
-        ensures parts { (octets : List ℕ) (told : List Told) → Goes self.old octets told
-            → IfOk result.outcome (λ e. AsksInParts (parts_asked e) self.new (octets ++ take result.size piece.now)) }
         ensures progress { Progress piece.now result.size result.outcome }
         ensures closed { IsDone self.old → (result.size ≡ 0) × (result.outcome ≡ Err fault.Closed)
             × (self.new ≡ self.old) }
-        // Where an allocation fails, the bytes taken end at the eighth byte of a valid header, or
-        // within its frame.
-        ensures starves { (octets : List ℕ) (told : List Told) → Goes self.old octets told
-            → IsErrOf result.outcome fault.OutOfMemory
-            → StarvedAt self.new (octets ++ take result.size piece.now) told }
         // After `OutOfMemory` the bound is what it was before the call.
         ensures starved { IsErrOf result.outcome fault.OutOfMemory → bound_of self.new ≡ bound_of self.old }
         ensures limits { limits_of self.new ≡ limits_of self.old }
@@ -254,14 +239,7 @@ impl ServerChannel {
     ) -> Result<(usize, ServerEvent), ChannelFault>
         ensures answers { (octets : List ℕ) (told : List Told) → Goes self.old octets told
             → ServerAnswers (channel_of self.old) (next_of self.old) moment piece.now result self.new octets told }
-        // A message that is returned is the bodies of its chunks, which are not joined.
-        ensures parts { (octets : List ℕ) (told : List Told) → Goes self.old octets told
-            → IfOk result (λ r. AsksInParts (parts_asked r.1) self.new (octets ++ take r.0 piece.now)) }
         ensures closed { IsDone self.old → (result ≡ Err fault.Closed) × (self.new ≡ self.old) }
-        // Where an allocation fails, it is within a frame whose header is complete and valid.
-        ensures starves { (octets : List ℕ) (told : List Told) → Goes self.old octets told
-            → IsErrOf result fault.OutOfMemory
-            → (n : ℕ) × (n ≤ length piece.now) × StarvedAt self.new (octets ++ take n piece.now) told }
         // After `OutOfMemory` the bound is what it was before the call.
         ensures starved { IsErrOf result fault.OutOfMemory → bound_of self.new ≡ bound_of self.old }
         ensures limits { limits_of self.new ≡ limits_of self.old }

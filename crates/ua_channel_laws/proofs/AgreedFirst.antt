@@ -109,4 +109,4 @@ module _ (x : ServerChannel) (octets : List ℕ) (before : List Told) (e : Told)
   pub agrees_once : (a b : Agreement) → agreed_by before ≡ Some a → e ≡ Agreed b → ⊥
   agrees_once a b some is =
       let h = mapped (agreement_of (limits_of x)) (received g.frames).hello a (agreement_is ∙ some) in
-      later_frame (limits_of x) (received g.frames) g.frame h.0 b h.1 place (g.tells ∙ ap (λ (t : Told). t ∷ []) is)
+      later_frame (limits_of x) (received g.frames) g.frame h.0 b h.1 place (g.tells ∙ rw is)

@@ -1,6 +1,6 @@
 -- That a client whose asks are made earlier reads what it read.
-use Rattle.std.proofs.Common.{◌≡◌, ℕ, ◌<◌, ◌≤◌, Bool, true, false, cond, not, ◌||◌, eqb, ltb}
-use Rattle.std.proofs.Common.{List, [], ◌∷◌, ◌++◌, length, map, refl, sym, ◌∙◌, ap, subst, arith}
+use Rattle.std.proofs.Common.{◌≡◌, ℕ, ◌≤◌, Bool, true, false, cond, not, ◌||◌, eqb, ltb}
+use Rattle.std.proofs.Common.{List, [], ◌∷◌, ◌++◌, length, map, refl, sym, ◌∙◌, arith}
 use Rattle.std.specs.List.{AllByRecursion, filter}
 use Rattle.std.proofs.lemmas.Bool.{lt-ltb, ltb-true, or_right}
 use Rattle.std.proofs.lemmas.List.Folds.{list_any-append}
@@ -11,8 +11,8 @@ use Rattle.ua_frame.specs.Run.{Going, Run}
 use Rattle.ua_opening.specs.declared.secure_channel.OpenResponse.{OpenResponse}
 use Rattle.ua_chunk.specs.declared.chunk.Chunk.{Chunk}
 use Rattle.ua_channel_laws.specs.AskedEarlier.{AreEarlier}
-use Rattle.ua_channel.specs.Asks.{Asking, Placed, asked_before, asked_in, call_in, calls, end_of, id_of, is_finished}
-use Rattle.ua_channel.specs.Asks.{is_in, next_id, pending_calls, pending_renewals, renewal_in, renewals}
+use Rattle.ua_channel.specs.Asks.{Asking, Placed, asked_before, asked_in, call_in, calls, end_of, is_finished}
+use Rattle.ua_channel.specs.Asks.{is_in, pending_calls, pending_renewals, renewal_in, renewals}
 use Rattle.ua_channel_laws.specs.ClientConversation.{ClientConversation, MayCarryBack}
 use Rattle.ua_channel_laws.specs.ClientReads.{AtClient, ClientReads}
 use Rattle.ua_channel.specs.ClientTable.{client_rules, is_awaited}
@@ -23,6 +23,7 @@ use Rattle.ua_channel.specs.Content.Content.{Greets, Acks, Fails, Opens, Sends, 
 use Rattle.ua_channel.specs.Received.{Received, received}
 use Rattle.ua_channel.proofs.Askings.{within_filter, in_filter, passes_filter}
 use Rattle.ua_channel_laws.proofs.ClientConversing.{continues, response_as}
+use Rattle.ua_channel_laws.proofs.ClientRuns.{reads_at, stands_at}
 
 -- ---- what a test keeps
 
@@ -77,7 +78,7 @@ module _ (ids : List Asking → List ℕ) (one : Asking → List ℕ) (step : (a
           → is_in id
           (ids (map (λ (p : Placed). p.1) (cond t (a ∷ filter (λ (p : Placed). ltb p.0 place) earlier) (filter (λ (p : Placed). ltb p.0 place) earlier))))
           ≡ true
-      moved true f = ap (λ (k : Asking). is_in id (ids (k ∷ map (λ (p : Placed). p.1) (filter (λ (p : Placed). ltb p.0 place) earlier)))) are.1 ∙ f
+      moved true f = rw are.1 f
       moved false f = f
 
 calls_step : (a : Asking) (asked : List Asking) (id : ℕ) → is_in id (calls (a ∷ asked)) ≡ (is_in id (call_in a) || is_in id (calls asked))
@@ -166,8 +167,7 @@ unfolding asked_in
 in_same [] [] are = refl
 in_same [] (b ∷ asks) are = absurd are
 in_same (a ∷ earlier) [] are = absurd are
-in_same (a ∷ earlier) (b ∷ asks) are = ap (λ (k : Asking). k ∷ map (λ (p : Placed). p.1) earlier) are.1
-    ∙ ap (λ (t : List Asking). b.1 ∷ t) (in_same earlier asks are.2)
+in_same (a ∷ earlier) (b ∷ asks) are = rw (are.1, in_same earlier asks are.2)
 
 placed_earlier : (n : ℕ) (earlier asks : List Placed) → AreEarlier earlier asks → AllByRecursion (λ (a : Placed). a.0 ≤ n) asks
     → AllByRecursion (λ (a : Placed). a.0 ≤ n) earlier
@@ -182,24 +182,5 @@ pub reads_earlier : (limits : Limits) (earlier asks : List Placed) (octets : Lis
     → ClientReads limits earlier octets told at
 reads_earlier limits earlier asks octets told at are r =
     let same : asked_in earlier ≡ asked_in asks = in_same earlier asks are in
-    record {
-      frames = r.frames;
-      run = run_earlier limits earlier asks are octets r.frames [] r.run;
-      placed = placed_earlier (length octets) earlier asks are r.placed;
-      told_is = r.told_is;
-      ack_is = r.ack_is;
-      large = r.large;
-      sized = r.sized;
-      channel_is = r.channel_is;
-      tokens_are = r.tokens_are;
-      newest_is = r.newest_is;
-      pending_are = ap (pending_calls (received r.frames).messages) same ∙ r.pending_are;
-      renewals_are = ap (pending_renewals (opened_ids (received r.frames).openings)) same ∙ r.renewals_are;
-      asked_below = subst (λ (ss : List Asking). AllByRecursion (λ (a : Asking). id_of a < next_id ss) ss) (sym same) r.asked_below;
-      sent_below = subst (λ (ss : List Asking). AllByRecursion (λ (c : Chunk). c.request < next_id ss) (received r.frames).messages) (sym same) r.sent_below;
-      opened_below = subst (λ (ss : List Asking). AllByRecursion (λ (id : ℕ). id < next_id ss) (opened_ids (received r.frames).openings))
-          (sym same) r.opened_below;
-      follows = r.follows;
-      next_small = r.next_small;
-      none_open = r.none_open;
-    }
+    reads_at r.frames (run_earlier limits earlier asks are octets r.frames [] r.run) (placed_earlier (length octets) earlier asks are r.placed) r.told_is
+    (rw same (stands_at r)) (rw same r.asked_below) r.follows r.next_small r.none_open

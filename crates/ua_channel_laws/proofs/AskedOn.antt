@@ -1,19 +1,16 @@
 -- What is asked on, behind octets that came and in the middle of others, changes nothing of how those that came are read.
-use Rattle.std.proofs.Common.{◌≡◌, inl, inr, ◌⊎◌, ℕ, ◌≤◌, List, [], ◌++◌, length, refl, sym, ◌∙◌, ap, arith, append-nil, length-append}
+use Rattle.std.proofs.Common.{◌≡◌, inl, inr, ◌⊎◌, ℕ, ◌≤◌, List, [], ◌++◌, length, refl, sym, ap, arith, append-nil, length-append}
 use Rattle.std.specs.List.{AllByRecursion}
-use Rattle.ua_builtin.specs.Reasons.{first_reason}
 use Rattle.ua_frame.specs.declared.frame.Frame.{Frame}
 use Rattle.ua_frame.specs.declared.limits.Limits.{Limits}
 use Rattle.ua_frame.specs.Frames.{frame_octets, frames_octets}
 use Rattle.ua_frame.specs.Run.{Going, Run, Stopped, WrongFrame, WrongHeader}
 use Rattle.ua_frame.proofs.Streams.{frames_octets-push}
-use Rattle.ua_channel.specs.Asks.{Asking, Placed, asked_before, end_of}
+use Rattle.ua_channel.specs.Asks.{Placed, asked_before, end_of}
 use Rattle.ua_channel.specs.Client.{ClientEnded, ClientGoes, client_limits}
 use Rattle.ua_channel_laws.specs.ClientReads.{AtClient, ClientReads}
-use Rattle.ua_channel.specs.ClientTable.{client_reasons, client_rules}
+use Rattle.ua_channel.specs.ClientTable.{client_rules}
 use Rattle.ua_channel.specs.ClientTold.{ClientTold, Why}
-use Rattle.ua_channel.specs.Content.{content}
-use Rattle.ua_channel.specs.Received.{received}
 use Rattle.ua_channel.specs.declared.client.channel.ClientChannel.{ClientChannel}
 use Rattle.ua_channel.proofs.AskedLater.{asked_before-later, going_on}
 use Rattle.ua_channel.proofs.Askings.{all-weaken}
@@ -60,8 +57,7 @@ module _ (limits : Limits) (asks later : List Placed) (octets : List ℕ) (frame
         parts = w.parts;
         sized = w.sized;
         let_in = w.let_in;
-        refused = ap (λ (asked : List Asking). first_reason (client_reasons limits (received frames) asked (content w.frame)))
-            (asked_here w.frame w.more w.parts) ∙ w.refused;
+        refused = rw (asked_here w.frame w.more w.parts) w.refused;
       })
 
   -- and so are octets that are refused

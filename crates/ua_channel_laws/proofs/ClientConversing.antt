@@ -1,5 +1,5 @@
 -- That the frames which a client takes are those of a conversation.
-use Rattle.std.proofs.Common.{◌≡◌, ℕ, Bool, true, false, IsTrue, not, leb, List, [], ◌∷◌, ◌++◌, Option, Some, None, map, refl, sym, ◌∙◌, ap, subst, ◌≤◌}
+use Rattle.std.proofs.Common.{◌≡◌, ℕ, Bool, true, false, IsTrue, not, leb, List, [], ◌∷◌, ◌++◌, Option, Some, None, map, refl, sym, ◌∙◌, ap, ◌≤◌}
 use Rattle.std.proofs.lemmas.Bool.{not-false, not_from_true}
 use Rattle.std.specs.List.{AllByRecursion}
 use Rattle.std.specs.Prelude.{◌↔◌}
@@ -76,7 +76,7 @@ response_as n m ts us awaits more o p q wait g = record {
   response = g.response;
   answer_is = g.answer_is;
   good = g.good;
-  on = ap (λ (k : Option ℕ). is_other k g.response.channel_id) (sym p) ∙ g.on;
+  on = rw (sym p) g.on;
   fresh = ap (is_in g.response.token_id) (sym q) ∙ g.fresh;
   numbered = g.numbered;
   numbers_are = g.numbers_are;
@@ -204,7 +204,7 @@ accepted limits asked b (Acks ack) g = rw (g.carries.reads, g.carries.within) re
 accepted limits asked b (Fails error) g = absurd g.carries
 accepted limits asked b (Opens o) g = response_taken limits asked b o g.carries g.ordered
 accepted limits asked b (Sends c) g = reply_taken limits asked b c g.carries g.ordered.0 g.message
-accepted limits asked b (Closes c) g = ap (λ (t : Bool). first_reason ((ours 0x8088_0000, t) ∷ [])) (not_from_true (may_follow b.last c.sequence) g.ordered.0)
+accepted limits asked b (Closes c) g = rw (not_from_true (may_follow b.last c.sequence) g.ordered.0)
 accepted limits asked b Nothing g = refl
 
 -- ---- the order
@@ -224,8 +224,7 @@ IsPlaced b = b.ack ≡ None → open_responses b.openings ≡ []
 
 order_is : (b : Received) (ks : List Kind) (o : Option Ack) (rs : List OpenResponse) → b.ack ≡ o → open_responses b.openings ≡ rs
     → Order b ks ↔ order_by o rs ks
-order_is b ks o rs q r = subst (λ (t : Option Ack). Order b ks ↔ order_by t rs ks) q
-    (subst (λ (t : List OpenResponse). Order b ks ↔ order_by b.ack t ks) r (λ h. h, λ h. h))
+order_is b ks o rs q r = rw (← q, ← r) (λ h. h, λ h. h)
 
 nil_by : (o : Option Ack) (rs : List OpenResponse) → order_by o rs []
 nil_by None rs = tt
@@ -239,7 +238,7 @@ some_open a (r ∷ rs) n ks e order = order
 module _ (limits : Limits) (asked : List Asking) (b : Received) (f : Frame) (ks : List Kind) where
   more_responses : (rs : List OpenResponse) (g : IsResponse limits asked b (opening_of f.body)) → open_responses b.openings ≡ rs
       → open_responses (b.openings ++ opening_of f.body ∷ []) ≡ rs ++ g.response ∷ []
-  more_responses rs g r = responses-push b.openings (opening_of f.body) g.response g.answer_is ∙ ap (λ (t : List OpenResponse). t ++ g.response ∷ []) r
+  more_responses rs g r = responses-push b.openings (opening_of f.body) g.response g.answer_is ∙ rw r
 
   msg_order : (found : Option Chunk) (o : Option Ack) (rs : List OpenResponse) → b.ack ≡ o → open_responses b.openings ≡ rs
       → Order (after b (sends found)) ks ↔ order_by o rs ks
@@ -305,14 +304,13 @@ placed_more b f Clo placed kind none = absurd (no_close b.ack (open_responses b.
 module _ (limits : Limits) (asks : List Placed) where
   pub placed_next : (start : List Frame) (f : Frame) → IsPlaced (received start) → IsTrue (lets_in (client_gate (received start)) f.kind)
       → IsPlaced (received (start ++ f ∷ []))
-  placed_next start f placed kind = subst IsPlaced (sym (received-push start f ∙ ap (after (received start)) (content_kind f)))
+  placed_next start f placed kind = rw (received-push start f ∙ ap (after (received start)) (content_kind f))
       (placed_more (received start) f f.kind placed kind)
 
   order_frame : (asked : List Asking) (b : Received) (f : Frame) (ks : List Kind) → IsPlaced b → MayCarryBack limits b asked (content f)
       → InOrder (client_gate b) f.kind (Order (after b (content f)) ks) (Order b (f.kind ∷ ks))
   order_frame asked b f ks placed =
-      subst (λ (c : Content). MayCarryBack limits b asked c → InOrder (client_gate b) f.kind (Order (after b c) ks) (Order b (f.kind ∷ ks)))
-      (sym (content_kind f)) (order_here limits asked b f ks b.ack (open_responses b.openings) f.kind refl refl placed)
+      rw (content_kind f) (order_here limits asked b f ks b.ack (open_responses b.openings) f.kind refl refl placed)
 
   rules_converse : Converses (client_rules limits asks) limits (λ (f : Frame). f.kind) Order IsPlaced (λ b. largest_taken b.ack)
       (λ before f. MayCarryBack limits (received before) (asked_before (end_of before f) asks) (content f))
@@ -350,13 +348,13 @@ module _ (limits : Limits) (asks : List Placed) where
       })
 
   nothing_there : open_responses (received []).openings ≡ []
-  nothing_there = ap (λ (b : Received). open_responses b.openings) received-nil ∙ no_responses
+  nothing_there = rw received-nil no_responses
 
   pub nothing_placed : IsPlaced (received [])
   nothing_placed none = nothing_there
 
   nothing_order : (frames : List Frame) → Order (received []) (map (λ (f : Frame). f.kind) frames) ↔ order_by None [] (map (λ (f : Frame). f.kind) frames)
-  nothing_order frames = order_is (received []) (map (λ (f : Frame). f.kind) frames) None [] (ap (λ (b : Received). b.ack) received-nil) nothing_there
+  nothing_order frames = order_is (received []) (map (λ (f : Frame). f.kind) frames) None [] (rw received-nil) nothing_there
 
   -- the frames that a client takes are those of a conversation, or the beginning of one
   pub converses : (frames : List Frame) → AllAfter (Fits (client_rules limits asks)) frames ↔ ClientConversation limits asks frames
@@ -414,7 +412,7 @@ none_wrong limits asks octets raws rest framed = (
       (λ why e.
       never why
       (first_of_stop (client_rules limits asks) octets raws rest why framed
-      (record { frames = r.frames; rest = r.rest; run = subst (λ (d : End Why). Run (client_rules limits asks) octets r.frames r.rest d) e r.run }))),
+      (record { frames = r.frames; rest = r.rest; run = rw (← e) r.run }))),
   λ c why wrong.
       let s = stop_of_first (client_rules limits asks) octets raws rest why framed wrong in
       let ends : Stopped why ≡ Going =

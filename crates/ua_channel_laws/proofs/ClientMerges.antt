@@ -1,13 +1,12 @@
 -- That a client reads merged replies from where it stands, with what it asks on in the middle of them, what they tell it, and where it stands behind
 -- them.
 use Rattle.std.proofs.Common.{◌≡◌, ℕ, zero, suc, ◌+◌, ◌<◌, ◌≤◌, Bool, true, false, cond, not, ◌&&◌, eqb, ltb, List, [], ◌∷◌, ◌++◌}
-use Rattle.std.proofs.Common.{Option, Some, None, length, map, refl, sym, ◌∙◌, ap, subst, arith, append-nil, append_assoc, length-append}
+use Rattle.std.proofs.Common.{Option, Some, None, length, map, refl, sym, ◌∙◌, ap, arith, append-nil, append_assoc, length-append}
 use Rattle.std.specs.List.{AllByRecursion, filter, range_with_len}
 use Rattle.std.proofs.lemmas.List.{length-map, map-append}
 use Rattle.std.proofs.lemmas.List.Concat.{flat_map-append}
 use Rattle.std.proofs.lemmas.List.Elements.{filter-append}
 use Rattle.std.proofs.lemmas.List.Folds.{list_any-append}
-use Rattle.ua_frame.specs.declared.ack.Ack.{Ack}
 use Rattle.ua_frame.specs.declared.frame.Frame.{Frame}
 use Rattle.ua_frame.specs.declared.kind.Kind.{Kind}
 use Rattle.ua_frame.specs.declared.kind.Kind.TheVariants.{Hel, Msg, Opn, Clo}
@@ -21,22 +20,21 @@ use Rattle.ua_frame.proofs.Streams.{frames_octets-push}
 use Rattle.ua_opening.specs.declared.open.OpenAnswer.TheVariants.{Open}
 use Rattle.ua_opening.specs.declared.secure_channel.OpenResponse.{OpenResponse}
 use Rattle.ua_chunk.specs.declared.chunk.Chunk.{Chunk}
-use Rattle.ua_chunk.specs.Delivered.{delivered, given}
+use Rattle.ua_chunk.specs.Delivered.{given}
 use Rattle.ua_chunk.specs.Gathered.{ends, is_of}
 use Rattle.ua_chunk.specs.Item.{Item}
 use Rattle.ua_chunk.specs.Item.Item.{Whole, Aborted}
 use Rattle.ua_chunk.specs.Layout.{chunk_in}
 use Rattle.ua_chunk.specs.Merge.{Sent, is_item_of, outcome_under, outcomes, sent_under}
 use Rattle.ua_chunk.specs.Open.{open_ids}
-use Rattle.ua_chunk.specs.Refusal.{TakesMessages}
 use Rattle.ua_chunk.specs.Sequence.{may_follow}
 use Rattle.ua_channel.specs.Asks.{Asking, Placed, asked_before, asked_in, calls, end_of, id_of}
 use Rattle.ua_channel.specs.Asks.{is_finished, is_in, next_id, pending_calls, pending_renewals, renewals}
 use Rattle.ua_channel_laws.specs.ClientConversation.{IsClientOrderOpen, IsGoodReply, IsGoodResponse, MayCarryBack, largest_taken}
 use Rattle.ua_channel_laws.specs.ClientReads.{AtClient, ClientReads}
-use Rattle.ua_channel.specs.ClientTable.{client_rules, is_awaited, is_other}
+use Rattle.ua_channel.specs.ClientTable.{client_rules, is_awaited}
 use Rattle.ua_channel.specs.ClientTokens.{answer_in, first_channel, from_last, held_by, held_tokens}
-use Rattle.ua_channel.specs.ClientTokens.{id_listed, opened_ids, response_listed, open_responses, tokens_of}
+use Rattle.ua_channel.specs.ClientTokens.{opened_ids, response_listed, open_responses, tokens_of}
 use Rattle.ua_channel.specs.ClientTold.{ClientTold, client_tells, told_item, told_response}
 use Rattle.ua_channel.specs.ClientTold.ClientTold.{Agreed, Opened, Answered, GaveUp, Renewed}
 use Rattle.ua_channel.specs.Content.{Content, Opening, closes, content, content_by}
@@ -46,14 +44,15 @@ use Rattle.ua_channel_laws.specs.Merges.{renewed_in, tokens_renewed, told_back, 
 use Rattle.ua_channel_laws.specs.Paired.{is_of_call, told_of_calls}
 use Rattle.ua_channel.specs.Received.{Received, after, chunks_in, latest, messages, numbers, openings, openings_in, received, tokens_in, used_tokens}
 use Rattle.ua_channel.proofs.AskedLater.{frames_octets-append, going_on}
-use Rattle.ua_channel.proofs.Askings.{all-weaken, all_append, all_filter, all_in, asked_before-all, asked_in-append, calls-append, calls_all}
-use Rattle.ua_channel.proofs.Askings.{in_filter, next-append, not_in, renewals-append, renewals_all, unfinished_at, within_filter, filter_behind}
+use Rattle.ua_channel.proofs.Askings.{all-weaken, all_append, asked_before-all, asked_in-append, calls-append, calls_all}
+use Rattle.ua_channel.proofs.Askings.{in_filter, next-append, not_in, renewals-append, renewals_all, unfinished_at, filter_behind}
 use Rattle.ua_channel_laws.proofs.ClientConversing.{response_as, taken_open}
-use Rattle.ua_channel_laws.proofs.ClientTakes.{tokens_used}
+use Rattle.ua_channel_laws.proofs.ClientRuns.{before_all, of_map, reads_at}
+use Rattle.ua_channel_laws.proofs.ClientTakes.{held_renewed, tokens_used}
 use Rattle.ua_channel.proofs.ClientTalks.{awaited_later, channel_in-push, no_ids, no_responses, no_tokens, opened_ids-push, responses-push, tokens_of-push}
 use Rattle.ua_channel.proofs.HeldTokens.{held_by-push, held_by-used, latest-from_last, latest-push}
 use Rattle.ua_channel_laws.proofs.MergedChunks.{Comes, EachEnds, closed_fresh, comes, given_fresh, outcomes_once, takes_fresh, told_new, names_kept}
-use Rattle.ua_channel_laws.proofs.MergedFrames.{all_told, at_end, each_along, each_chunk, goes_follows, goes_ordered}
+use Rattle.ua_channel_laws.proofs.MergedFrames.{all_told, at_end, each_along, goes_follows, goes_ordered}
 use Rattle.ua_channel_laws.proofs.MergedFrames.{goes_small, latest_or-append, of_either, sized, next_follows}
 use Rattle.ua_channel_laws.proofs.PairedCalls.{tells_delivered}
 use Rattle.ua_channel_laws.proofs.ReadOn.{events_on, run_on}
@@ -83,11 +82,11 @@ order_frame opens sends f ks is h = order_kind opens sends f.kind f ks is h
 renewed_told : (n : ℕ) (qs rs : List OpenResponse) → first_channel qs ≡ Some n → map (told_response qs) rs ≡ map told_renewed rs
 renewed_told n [] rs e = absurd cc
 renewed_told n (q ∷ qs) [] e = refl
-renewed_told n (q ∷ qs) (r ∷ rs) e = ap (λ (ts : List ClientTold). Renewed r.token_id ∷ ts) (renewed_told n (q ∷ qs) rs e)
+renewed_told n (q ∷ qs) (r ∷ rs) e = rw (renewed_told n (q ∷ qs) rs e)
 
 told_flat : (ms : List Sent) (us fs : List Frame) → each_from (λ vs f. told_back ms (content f)) us fs ≡ told_merged_back ms fs
 told_flat ms us [] = refl
-told_flat ms us (f ∷ fs) = ap (λ (ts : List ClientTold). told_back ms (content f) ++ ts) (told_flat ms (us ++ f ∷ []) fs)
+told_flat ms us (f ∷ fs) = rw (told_flat ms (us ++ f ∷ []) fs)
 
 responses-append : (os more : List Opening) → open_responses (os ++ more) ≡ open_responses os ++ open_responses more
 unfolding open_responses
@@ -98,7 +97,7 @@ responses-append os more = flat_map-append (λ (o : Opening). response_listed (a
 tokens_listed : (rs : List OpenResponse) → tokens_renewed (map told_renewed rs) ≡ tokens_of rs
 unfolding tokens_of
 tokens_listed [] = refl
-tokens_listed (r ∷ rs) = ap (λ (ts : List ℕ). r.token_id ∷ ts) (tokens_listed rs)
+tokens_listed (r ∷ rs) = rw (tokens_listed rs)
 
 no_token : (items : List Item) → tokens_renewed (map told_item items) ≡ []
 no_token [] = refl
@@ -124,10 +123,9 @@ unfolding openings
 tokens_from ms May one us [] may = sym nothing_opened
 tokens_from ms May one us (f ∷ fs) may =
     flat_map-append renewed_in (told_back ms (content f)) (told_merged_back ms fs)
-    ∙ (ap (λ (ts : List ℕ). ts ++ tokens_renewed (told_merged_back ms fs)) (one us f may.0)
-    ∙ (ap (λ (ts : List ℕ). tokens_of (open_responses (openings_in (content f))) ++ ts) (tokens_from ms May one (us ++ f ∷ []) fs may.1)
-    ∙ (sym (tokens_of-append (open_responses (openings_in (content f))) (open_responses (openings fs)))
-    ∙ ap tokens_of (sym (responses-append (openings_in (content f)) (openings fs))))))
+    ∙ (rw (one us f may.0, tokens_from ms May one (us ++ f ∷ []) fs may.1)
+    (sym (tokens_of-append (open_responses (openings_in (content f))) (open_responses (openings fs)))
+    ∙ ap tokens_of (sym (responses-append (openings_in (content f)) (openings fs)))))
 
 -- ---- calls of one request id
 
@@ -136,7 +134,7 @@ told_names id (Whole i octets) = refl
 told_names id (Aborted i code reason) = refl
 
 same_step : (b : Bool) (t : ClientTold) (xs ys : List ClientTold) → xs ≡ ys → cond b (t ∷ xs) xs ≡ cond b (t ∷ ys) ys
-same_step true t xs ys e = ap (λ (ts : List ClientTold). t ∷ ts) e
+same_step true t xs ys e = rw e
 same_step false t xs ys e = e
 
 -- what is told of one call is told of calls
@@ -162,21 +160,11 @@ holds_used : (at : AtClient) (b : Received) (c : Chunk) (ts : List ℕ) (rs : Li
     → Holds at (after b (Sends c)) (ts ++ c.token ∷ []) rs
 holds_used at b c ts rs h held =
     let same : held_by (latest (ts ++ c.token ∷ [])) (at.tokens ++ tokens_of rs) ≡ from_last c.token (held_by (latest ts) (at.tokens ++ tokens_of rs)) =
-    ap (λ (o : Option ℕ). held_by o (at.tokens ++ tokens_of rs)) (latest-push ts c.token) ∙ held_by-used (latest ts) c.token (at.tokens ++ tokens_of rs) held in
+    rw (latest-push ts c.token) (held_by-used (latest ts) c.token (at.tokens ++ tokens_of rs) held) in
     record {
       tokens_are = tokens_used b c (ap (is_in c.token) h.tokens_are ∙ held) ∙ (ap (from_last c.token) h.tokens_are ∙ sym same);
       newest_is = ap latest same ∙ (latest-from_last c.token (held_by (latest ts) (at.tokens ++ tokens_of rs)) held ∙ h.newest_is);
     }
-
--- a token more is held
-pub held_renewed : (b : Received) (o : Opening) (r : OpenResponse) (newest : ℕ) → answer_in o ≡ Some (Open r) → latest (held_tokens b) ≡ Some newest
-    → is_in r.token_id (held_tokens b) ≡ false
-    → held_tokens (after b (Opens o)) ≡ held_tokens b ++ r.token_id ∷ []
-unfolding held_tokens
-held_renewed b o r newest answers is fresh =
-    ap (λ (rs : List OpenResponse). held_by b.used (tokens_of rs)) (responses-push b.openings o r answers)
-    ∙ (ap (held_by b.used) (tokens_of-push (open_responses b.openings) r)
-    ∙ held_by-push b.used r.token_id newest (tokens_of (open_responses b.openings)) is fresh)
 
 holds_renewed : (at : AtClient) (b : Received) (o : Opening) (r : OpenResponse) (ts : List ℕ) (rs : List OpenResponse) → answer_in o ≡ Some (Open r)
     → Holds at b ts rs
@@ -184,13 +172,13 @@ holds_renewed : (at : AtClient) (b : Received) (o : Opening) (r : OpenResponse) 
     → Holds at (after b (Opens o)) ts (rs ++ r ∷ [])
 holds_renewed at b o r ts rs answers h fresh =
     let there : at.tokens ++ tokens_of (rs ++ r ∷ []) ≡ (at.tokens ++ tokens_of rs) ++ r.token_id ∷ [] =
-    ap (λ (t : List ℕ). at.tokens ++ t) (tokens_of-push rs r) ∙ sym (append_assoc at.tokens (tokens_of rs) (r.token_id ∷ [])) in
+    rw (tokens_of-push rs r) (sym (append_assoc at.tokens (tokens_of rs) (r.token_id ∷ []))) in
     let more : held_by (latest ts) (at.tokens ++ tokens_of (rs ++ r ∷ [])) ≡ held_by (latest ts) (at.tokens ++ tokens_of rs) ++ r.token_id ∷ [] =
     ap (held_by (latest ts)) there ∙ held_by-push (latest ts) r.token_id (latest_or at.newest (tokens_of rs)) (at.tokens ++ tokens_of rs) h.newest_is fresh in
     record {
       tokens_are =
           held_renewed b o r (latest_or at.newest (tokens_of rs)) answers (ap latest h.tokens_are ∙ h.newest_is) (ap (is_in r.token_id) h.tokens_are ∙ fresh)
-          ∙ (ap (λ (t : List ℕ). t ++ r.token_id ∷ []) h.tokens_are ∙ sym more);
+          ∙ (rw h.tokens_are (sym more));
       newest_is =
           ap latest more
           ∙ (latest-push (held_by (latest ts) (at.tokens ++ tokens_of rs)) r.token_id
@@ -217,14 +205,12 @@ module _ (at : AtClient) (base : List Chunk) (opened : List ℕ) (b : Received) 
         ack_is = p.ack_is;
         channel_is = ap first_channel (responses-push b.openings o g.response g.answer_is)
             ∙ channel_in-push (open_responses b.openings) g.response at.channel p.channel_is;
-        holds = subst (Holds at (after b (Opens o)) ts) (sym (responses-push os o g.response g.answer_is))
-            (holds_renewed at b o g.response ts (open_responses os) g.answer_is p.holds g.fresh);
+        holds = rw (responses-push os o g.response g.answer_is) (holds_renewed at b o g.response ts (open_responses os) g.answer_is p.holds g.fresh);
         messages_are = p.messages_are;
         opened_are =
             opened_ids-push b.openings o g.numbered g.numbers_are
-            ∙ (ap (λ (t : List ℕ). t ++ g.numbered.1 ∷ []) p.opened_are
-            ∙ (append_assoc opened (opened_ids os) (g.numbered.1 ∷ [])
-            ∙ ap (λ (t : List ℕ). opened ++ t) (sym (opened_ids-push os o g.numbered g.numbers_are))));
+            ∙ (rw p.opened_are (append_assoc opened (opened_ids os) (g.numbered.1 ∷ [])
+            ∙ rw (sym (opened_ids-push os o g.numbered g.numbers_are))));
       })
 
   then_sent : (c : Chunk) → is_in c.token (held_by (latest ts) (at.tokens ++ tokens_of (open_responses os))) ≡ true
@@ -235,7 +221,7 @@ module _ (at : AtClient) (base : List Chunk) (opened : List ℕ) (b : Received) 
         ack_is = p.ack_is;
         channel_is = p.channel_is;
         holds = holds_used at b c ts (open_responses os) p.holds held;
-        messages_are = ap (λ (t : List Chunk). t ++ c ∷ []) p.messages_are ∙ append_assoc base cs (c ∷ []);
+        messages_are = rw p.messages_are (append_assoc base cs (c ∷ []));
         opened_are = p.opened_are;
       })
 
@@ -271,21 +257,6 @@ ranged n (suc k) = (
       (ranged (n + 1) k),
 )
 
-of_map : {X Y : Type 0} (P : Y → Type 0) (f : X → Y) (xs : List X) → AllByRecursion P (map f xs) → AllByRecursion (λ (x : X). P (f x)) xs
-of_map P f [] all = tt
-of_map P f (x ∷ xs) all = (all.0, of_map P f xs all.1)
-
-to_map : {X Y : Type 0} (P : Y → Type 0) (f : X → Y) (xs : List X) → AllByRecursion (λ (x : X). P (f x)) xs → AllByRecursion P (map f xs)
-to_map P f [] all = tt
-to_map P f (x ∷ xs) all = (all.0, to_map P f xs all.1)
-
--- what holds of all that is asked holds of what is asked before a place
-before_all : (P : Asking → Type 0) (place : ℕ) (later : List Placed) → AllByRecursion P (asked_in later) → AllByRecursion P (asked_before place later)
-unfolding asked_in asked_before
-before_all P place later all =
-    to_map P (λ (a : Placed). a.1) (filter (λ (a : Placed). ltb a.0 place) later)
-    (all_filter (λ (a : Placed). P a.1) (λ (a : Placed). ltb a.0 place) later (of_map P (λ (a : Placed). a.1) later all))
-
 -- ---- places
 
 before-append : (place : ℕ) (asks more : List Placed) → asked_before place (asks ++ more) ≡ asked_before place asks ++ asked_before place more
@@ -299,7 +270,7 @@ same_before n a place = grind arith
 
 moved : (n : ℕ) (later : List Placed) → map (λ (a : Placed). a.1) (placed_later n later) ≡ map (λ (a : Placed). a.1) later
 moved n [] = refl
-moved n (a ∷ later) = ap (λ (t : List Asking). a.1 ∷ t) (moved n later)
+moved n (a ∷ later) = rw (moved n later)
 
 before_later : (n place : ℕ) (later : List Placed) → asked_before (n + place) (placed_later n later) ≡ asked_before place later
 unfolding asked_before
@@ -324,8 +295,8 @@ later_behind n (a ∷ later) = (omega arith, later_behind n later)
 -- the place where a frame ends behind others
 end_behind : (before us : List Frame) (f : Frame) → end_of (before ++ us) f ≡ length (frames_octets before) + end_of us f
 end_behind before us f =
-    ap (λ (fs : List Frame). length (frames_octets fs)) (append_assoc before us (f ∷ []))
-    ∙ (ap length (frames_octets-append before (us ++ f ∷ [])) ∙ length-append (frames_octets before) (frames_octets (us ++ f ∷ [])))
+    rw (append_assoc before us (f ∷ [])) (ap length (frames_octets-append before (us ++ f ∷ []))
+    ∙ length-append (frames_octets before) (frames_octets (us ++ f ∷ [])))
 
 some_end : (us : List Frame) (f : Frame) → 0 < end_of us f
 some_end us f = omega (arith, ap length (frames_octets-push us f), length-append (frames_octets us) (frame_octets f), length-frame_octets f)
@@ -335,28 +306,11 @@ asked_at : (n : ℕ) (asks later : List Placed) (before us : List Frame) (f : Fr
     → AllByRecursion (λ (a : Placed). a.0 ≤ n) asks
     → asked_before (end_of (before ++ us) f) (asks ++ placed_later n later) ≡ asked_in asks ++ asked_before (end_of us f) later
 asked_at n asks later before us f same placed =
-    let place : end_of (before ++ us) f ≡ n + end_of us f = end_behind before us f ∙ ap (λ (k : ℕ). k + end_of us f) (sym same) in
-    ap (λ (p : ℕ). asked_before p (asks ++ placed_later n later)) place
-    ∙ (before-append (n + end_of us f) asks (placed_later n later)
-    ∙ (ap (λ (t : List Asking). t ++ asked_before (n + end_of us f) (placed_later n later))
-    (asked_before-all (n + end_of us f) n asks (omega (arith, some_end us f)) placed)
-    ∙ ap (λ (t : List Asking). asked_in asks ++ t) (before_later n (end_of us f) later)))
-
-below_pending : (P : ℕ → Type 0) (base : List Chunk) (asked : List Asking) → AllByRecursion (λ (a : Asking). P (id_of a)) asked
-    → AllByRecursion P (pending_calls base asked)
-unfolding pending_calls
-below_pending P base asked all = all_filter P (λ (id : ℕ). not (is_finished base id)) (calls asked) (calls_all P asked all)
-
-below_renewals : (P : ℕ → Type 0) (opened : List ℕ) (asked : List Asking) → AllByRecursion (λ (a : Asking). P (id_of a)) asked
-    → AllByRecursion P (pending_renewals opened asked)
-unfolding pending_renewals
-below_renewals P opened asked all = all_filter P (λ (id : ℕ). not (is_in id opened)) (renewals asked) (renewals_all P asked all)
+    let place : end_of (before ++ us) f ≡ n + end_of us f = end_behind before us f ∙ rw (sym same) in
+    rw place (before-append (n + end_of us f) asks (placed_later n later)
+    ∙ (rw (asked_before-all (n + end_of us f) n asks (omega (arith, some_end us f)) placed, before_later n (end_of us f) later)))
 
 -- ---- the law
-
-ids-append : (os more : List Opening) → opened_ids (os ++ more) ≡ opened_ids os ++ opened_ids more
-unfolding opened_ids
-ids-append os more = flat_map-append (λ (o : Opening). id_listed o.numbers) os more
 
 module _ (limits : Limits) (asks later : List Placed) (octets : List ℕ) (told : List ClientTold) (stood : AtClient) (start : ℕ) (ms : List Sent)
     (more : List Frame) (next : ℕ)
@@ -393,7 +347,7 @@ module _ (limits : Limits) (asks later : List Placed) (octets : List ℕ) (told 
   all_new : AllByRecursion (λ (a : Asking). IsNext a) (asked_in later)
   all_new =
       of_map (IsNew (next_id asked) (length later)) id_of (asked_in later)
-      (subst (AllByRecursion (IsNew (next_id asked) (length later))) (sym m.counted) (ranged (next_id asked) (length later)))
+      (rw m.counted (ranged (next_id asked) (length later)))
 
   old_below : AllByRecursion (λ (a : Asking). id_of a < end) asked
   old_below = all-weaken (λ (a : Asking). id_of a < next_id asked) (λ (a : Asking). id_of a < end) asked (λ a less. omega (arith, less)) r.asked_below
@@ -409,7 +363,7 @@ module _ (limits : Limits) (asks later : List Placed) (octets : List ℕ) (told 
         (calls_all (λ (id : ℕ). is_finished base id ≡ false) new
         (all-weaken (λ (a : Asking). IsNext a) (λ (a : Asking). is_finished base (id_of a) ≡ false) new
         (λ a is. unfinished_at (next_id asked) (id_of a) base is.0 r.sent_below) are))
-        ∙ ap (λ (ids : List ℕ). filter (λ (id : ℕ). not (is_finished us id)) (ids ++ calls new)) r.pending_are
+        ∙ rw r.pending_are
 
     left_renewals : (ids : List ℕ) → pending_renewals (opened ++ ids) (asked ++ new) ≡ filter (λ (id : ℕ). not (is_in id ids)) (at.renewals ++ renewals new)
     left_renewals ids =
@@ -417,19 +371,7 @@ module _ (limits : Limits) (asks later : List Placed) (octets : List ℕ) (told 
         (renewals_all (λ (id : ℕ). is_in id opened ≡ false) new
         (all-weaken (λ (a : Asking). IsNext a) (λ (a : Asking). is_in (id_of a) opened ≡ false) new
         (λ a is. not_in (next_id asked) (id_of a) opened is.0 r.opened_below) are))
-        ∙ ap (λ (js : List ℕ). filter (λ (id : ℕ). not (is_in id ids)) (js ++ renewals new)) r.renewals_are
-
-    calls_below : AllByRecursion (λ (id : ℕ). id < end) (at.pending ++ calls new)
-    calls_below =
-        all_append (λ (id : ℕ). id < end) at.pending (calls new)
-        (subst (AllByRecursion (λ (id : ℕ). id < end)) r.pending_are (below_pending (λ (id : ℕ). id < end) base asked old_below))
-        (calls_all (λ (id : ℕ). id < end) new new_below)
-
-    waiting_below : AllByRecursion (λ (id : ℕ). id < end) (at.renewals ++ renewals new)
-    waiting_below =
-        all_append (λ (id : ℕ). id < end) at.renewals (renewals new)
-        (subst (AllByRecursion (λ (id : ℕ). id < end)) r.renewals_are (below_renewals (λ (id : ℕ). id < end) opened asked old_below))
-        (renewals_all (λ (id : ℕ). id < end) new new_below)
+        ∙ rw r.renewals_are
 
   -- ---- frame by frame
 
@@ -482,15 +424,13 @@ module _ (limits : Limits) (asks later : List Placed) (octets : List ℕ) (told 
       (is_awaited (open_responses b.openings) (opened_ids b.openings) (asked ++ new_at us f)) o (sym p.channel_is) (sym p.holds.tokens_are)
       (λ id e.
       awaited_later (open_responses b.openings) (opened_ids b.openings) (asked ++ new_at us f) id at.channel p.channel_is
-      ∙ (ap (λ (ids : List ℕ). is_in id (pending_renewals ids (asked ++ new_at us f))) p.opened_are
-      ∙ (ap (is_in id) (left_renewals (new_at us f) (news us f) (opened_ids (openings us))) ∙ e))) g)
+      ∙ (rw p.opened_are (ap (is_in id) (left_renewals (new_at us f) (news us f) (opened_ids (openings us))) ∙ e))) g)
       (λ c g unended.
       record {
-        on = ap (λ (n : Option ℕ). is_other n c.channel) p.channel_is ∙ g.on;
+        on = rw p.channel_is g.on;
         held = ap (is_in c.token) p.holds.tokens_are ∙ g.held;
         awaited =
-            ap (λ (cs : List Chunk). is_in c.request (pending_calls cs (asked ++ new_at us f))) p.messages_are
-            ∙ (ap (is_in c.request) (left_calls (new_at us f) (news us f) (messages us))
+            rw p.messages_are (ap (is_in c.request) (left_calls (new_at us f) (news us f) (messages us))
             ∙ in_filter (λ (id : ℕ). not (is_finished (messages us) id)) c.request (at.pending ++ calls (new_at us f)) (ap not unended.0) g.awaited);
       }) may
 
@@ -500,39 +440,13 @@ module _ (limits : Limits) (asks later : List Placed) (octets : List ℕ) (told 
   tells us f b rest may p =
       by_either us f (λ (k : Content). EachEnds ms (messages us) (chunks_in k ++ rest) → client_tells b k ≡ told_back ms k)
       (λ o g each. renewed_told at.channel (open_responses b.openings) (response_listed (answer_in o)) p.channel_is)
-      (λ c g each. ap (map told_item) (ap (λ (cs : List Chunk). given cs c) p.messages_are ∙ (given_fresh base (messages us) c r.none_open ∙ each.0))) may
+      (λ c g each. ap (map told_item) (rw p.messages_are (given_fresh base (messages us) c r.none_open ∙ each.0))) may
 
   token_told : (us : List Frame) (f : Frame) → May us f → tokens_renewed (told_back ms (content f)) ≡ tokens_of (open_responses (openings_in (content f)))
   token_told us f may =
       by_either us f (λ (k : Content). tokens_renewed (told_back ms k) ≡ tokens_of (open_responses (openings_in k)))
       (λ o g. tokens_listed (response_listed (answer_in o)) ∙ sym (tokens_of-one o))
       (λ c g. no_token (ended_by ms c) ∙ sym nothing_opened) may
-
-  chunk_below : (us : List Frame) (f : Frame) → May us f → AllByRecursion (λ (c : Chunk). c.request < end) (chunks_in (content f))
-  chunk_below us f may =
-      by_either us f (λ (k : Content). AllByRecursion (λ (c : Chunk). c.request < end) (chunks_in k)) (λ o g. tt)
-      (λ c g. (all_in (λ (id : ℕ). id < end) c.request (at.pending ++ calls (new_at us f)) g.awaited (calls_below (new_at us f) (news us f)), tt)) may
-
-  opening_below : (us : List Frame) (f : Frame) → May us f → AllByRecursion (λ (id : ℕ). id < end) (opened_ids (openings_in (content f)))
-  opening_below us f may =
-      by_either us f (λ (k : Content). AllByRecursion (λ (id : ℕ). id < end) (opened_ids (openings_in k)))
-      (λ o g.
-      subst (AllByRecursion (λ (id : ℕ). id < end))
-      (sym (opened_ids-push [] o g.numbered g.numbers_are ∙ ap (λ (ids : List ℕ). ids ++ g.numbered.1 ∷ []) no_ids)) (
-        all_in (λ (id : ℕ). id < end) g.numbered.1 (at.renewals ++ renewals (new_at us f))
-            (within_filter (λ (id : ℕ). not (is_in id (opened_ids (openings us)))) g.numbered.1 (at.renewals ++ renewals (new_at us f)) g.awaited)
-            (waiting_below (new_at us f) (news us f)),
-        tt,
-      ))
-      (λ c g. subst (AllByRecursion (λ (id : ℕ). id < end)) (sym no_ids) tt) may
-
-  openings_below : (us fs : List Frame) → AllFrom (λ vs f. May vs f) us fs → AllByRecursion (λ (id : ℕ). id < end) (opened_ids (openings fs))
-  unfolding openings
-  openings_below us [] may = subst (AllByRecursion (λ (id : ℕ). id < end)) (sym no_ids) tt
-  openings_below us (f ∷ fs) may =
-      subst (AllByRecursion (λ (id : ℕ). id < end)) (sym (ids-append (openings_in (content f)) (openings fs)))
-      (all_append (λ (id : ℕ). id < end) (opened_ids (openings_in (content f))) (opened_ids (openings fs)) (opening_below us f may.0)
-      (openings_below (us ++ f ∷ []) fs may.1))
 
   -- ---- all of them
 
@@ -545,13 +459,13 @@ module _ (limits : Limits) (asks later : List Placed) (octets : List ℕ) (told 
     ack_is = r.ack_is;
     channel_is = r.channel_is;
     holds = record {
-      tokens_are = r.tokens_are ∙ (sym (append-nil at.tokens) ∙ ap (λ (t : List ℕ). at.tokens ++ t) (sym nothing_opened));
+      tokens_are = r.tokens_are ∙ (sym (append-nil at.tokens) ∙ rw (sym nothing_opened));
       newest_is =
           ap latest (ap (λ (t : List ℕ). at.tokens ++ t) nothing_opened ∙ append-nil at.tokens)
           ∙ (r.newest_is ∙ ap (λ (t : List ℕ). Some (latest_or at.newest t)) (sym nothing_opened));
     };
     messages_are = sym (append-nil base);
-    opened_are = sym (append-nil opened) ∙ ap (λ (t : List ℕ). opened ++ t) (sym no_ids);
+    opened_are = sym (append-nil opened) ∙ rw (sym no_ids);
   }
 
   there : Place at base opened (received (r.frames ++ more)) (used_tokens more) (openings more) (messages more)
@@ -565,16 +479,13 @@ module _ (limits : Limits) (asks later : List Placed) (octets : List ℕ) (told 
       taken_open limits all at.ack at.channel r.frames more r.ack_is r.channel_is (order_from [] more may) m.framed
       (each_along r.frames (Place at base opened) (λ us f. May us f) step more first may (λ us c. is_finished us c.request ≡ false) merge.unended
       (λ us f. frame_size f ≤ largest_taken (received us).ack)
-      (λ us f rest can p unended. subst (λ (a : Option Ack). frame_size f ≤ largest_taken a) (sym p.ack_is) can.0))
+      (λ us f rest can p unended. rw p.ack_is can.0))
       (each_along r.frames (Place at base opened) (λ us f. May us f) step more first may (λ us c. is_finished us c.request ≡ false) merge.unended
       (λ us f. MayCarryBack limits (received us) (asked_before (end_of us f) all) (content f))
       (λ us f rest can p unended.
-      subst (λ (t : List Asking). MayCarryBack limits (received (r.frames ++ us)) t (content f))
-      (sym (asked_at (length octets) asks later r.frames us f reached r.placed))
-      (carried us f (received (r.frames ++ us)) rest can p unended)))
+      rw (asked_at (length octets) asks later r.frames us f reached r.placed) (carried us f (received (r.frames ++ us)) rest can p unended)))
       (goes_ordered (received r.frames).last start next (numbers more) follows m.numbered)
-      (subst (λ (us : List Chunk). TakesMessages limits.max_message_size limits.max_chunk_count us (messages more)) (append-nil base)
-      (takes_fresh limits.max_message_size limits.max_chunk_count base [] (messages more) r.none_open merge.taken))
+      (rw (← append-nil base) (takes_fresh limits.max_message_size limits.max_chunk_count base [] (messages more) r.none_open merge.taken))
 
   run_asked : Run (client_rules limits all) octets r.frames [] Going
   run_asked = going_on limits asks (placed_later (length octets) later) octets r.frames [] (later_behind (length octets) later) r.run
@@ -589,11 +500,10 @@ module _ (limits : Limits) (asks later : List Placed) (octets : List ℕ) (told 
   tells_all : events (client_rules limits all) (r.frames ++ more) ≡ told ++ told_merged_back ms more
   tells_all =
       events_on (client_rules limits all) r.frames more
-      ∙ (ap (λ (ts : List ClientTold). ts ++ each_from (client_rules limits all).tells r.frames more) r.told_is
-      ∙ ap (λ (ts : List ClientTold). told ++ ts) told_here)
+      ∙ (rw (r.told_is, told_here))
 
   asked_all : asked_in all ≡ asked ++ asked_in later
-  asked_all = asked_in-append asks (placed_later (length octets) later) ∙ ap (λ (t : List Asking). asked ++ t) (in_later (length octets) later)
+  asked_all = asked_in-append asks (placed_later (length octets) later) ∙ rw (in_later (length octets) later)
 
   count : next_id (asked_in all) ≡ end
   count = omega (arith, next-append asks (placed_later (length octets) later), length-map {B = Placed} later (λ (a : Placed). (length octets + a.0, a.1)))
@@ -604,51 +514,27 @@ module _ (limits : Limits) (asks later : List Placed) (octets : List ℕ) (told 
       all_append (λ (a : Placed). a.0 ≤ length (octets ++ frames_octets more)) asks (placed_later (length octets) later)
       (all-weaken (λ (a : Placed). a.0 ≤ length octets) (λ (a : Placed). a.0 ≤ length (octets ++ frames_octets more)) asks (λ a le. omega (arith, le, long))
       r.placed)
-      (subst (λ (n : ℕ). AllByRecursion (λ (a : Placed). a.0 ≤ n) (placed_later (length octets) later)) (sym long)
-      (later_placed (length octets) (length (frames_octets more)) later m.placed))
+      (rw long (later_placed (length octets) (length (frames_octets more)) later m.placed))
 
   asked_below : AllByRecursion (λ (a : Asking). id_of a < end) (asked ++ asked_in later)
   asked_below = all_append (λ (a : Asking). id_of a < end) asked (asked_in later) old_below (new_below (asked_in later) all_new)
 
-  sent_below : AllByRecursion (λ (c : Chunk). c.request < end) (base ++ messages more)
-  sent_below =
-      all_append (λ (c : Chunk). c.request < end) base (messages more)
-      (all-weaken (λ (c : Chunk). c.request < next_id asked) (λ (c : Chunk). c.request < end) base (λ c less. omega (arith, less)) r.sent_below)
-      (each_chunk (λ us f. May us f) (λ (c : Chunk). c.request < end) chunk_below [] more may)
-
-  opened_below : AllByRecursion (λ (id : ℕ). id < end) (opened ++ opened_ids (openings more))
-  opened_below =
-      all_append (λ (id : ℕ). id < end) opened (opened_ids (openings more))
-      (all-weaken (λ (id : ℕ). id < next_id asked) (λ (id : ℕ). id < end) opened (λ id less. omega (arith, less)) r.opened_below)
-      (openings_below [] more may)
-
   pub reads_merged : ClientReads limits (asks ++ placed_later (length octets) later) (octets ++ frames_octets more) (told ++ told_merged_back ms more)
       (with_merged_back at (asked_in later) more next)
-  reads_merged = record {
-    frames = r.frames ++ more;
-    run = run_on (client_rules limits all) octets r.frames more run_asked fit refl;
-    placed = placed_all;
-    told_is = tells_all;
-    ack_is = there.ack_is;
-    large = r.large;
-    sized = r.sized;
-    channel_is = there.channel_is;
-    tokens_are = there.holds.tokens_are;
-    newest_is = there.holds.newest_is;
-    pending_are =
-        ap (pending_calls (received (r.frames ++ more)).messages) asked_all
-        ∙ (ap (λ (cs : List Chunk). pending_calls cs (asked ++ asked_in later)) there.messages_are ∙ left_calls (asked_in later) all_new (messages more));
-    renewals_are =
-        ap (pending_renewals (opened_ids (received (r.frames ++ more)).openings)) asked_all
-        ∙ (ap (λ (ids : List ℕ). pending_renewals ids (asked ++ asked_in later)) there.opened_are
-        ∙ left_renewals (asked_in later) all_new (opened_ids (openings more)));
-    asked_below = rw (count, asked_all) asked_below;
-    sent_below = rw (count, there.messages_are) sent_below;
-    opened_below = rw (count, there.opened_are) opened_below;
-    follows = goes_follows r.frames more start next follows m.numbered;
-    next_small = goes_small start next (numbers more) m.numbered;
-    none_open = ap open_ids there.messages_are ∙ closed_fresh base (messages more) r.none_open merge.none_open;
-  }
+  reads_merged =
+      reads_at (r.frames ++ more) (run_on (client_rules limits all) octets r.frames more run_asked fit refl) placed_all tells_all
+      (rw (
+        there.holds.tokens_are,
+        there.holds.newest_is,
+        asked_all,
+        there.messages_are,
+        left_calls (asked_in later) all_new (messages more),
+        there.opened_are,
+        left_renewals (asked_in later) all_new (opened_ids (openings more)),
+        there.channel_is,
+        there.ack_is,
+      ) refl) (rw (count, asked_all) asked_below) (goes_follows r.frames more start next follows m.numbered) (goes_small start next (numbers more) m.numbered)
+      (ap open_ids there.messages_are ∙ closed_fresh base (messages more) r.none_open merge.none_open)
 
   pub reads_messages : told_of_calls (told_merged_back ms more) ≡ map told_item (outcomes ms (messages more))
   reads_messages =
@@ -656,7 +542,7 @@ module _ (limits : Limits) (asks later : List Placed) (octets : List ℕ) (told 
       (filter-append is_of_call told (told_merged_back ms more)) r.none_open merge.all
       (ap told_of_calls (sym r.told_is) ∙ tells_delivered limits asks r.frames)
       (ap told_of_calls (sym tells_all)
-      ∙ (tells_delivered limits all (r.frames ++ more) ∙ ap (λ (cs : List Chunk). map told_item (delivered cs)) there.messages_are))
+      ∙ (tells_delivered limits all (r.frames ++ more) ∙ rw there.messages_are))
 
   pub reads_once : (id : ℕ) → filter (is_told_under id) (told_merged_back ms more) ≡ map told_item (outcome_under (sent_under id ms))
   reads_once id =

@@ -1,8 +1,8 @@
 -- That a client takes what a server writes, one message after the other.
-use Rattle.std.proofs.Common.{◌≡◌, ℕ, ◌<◌, ◌≤◌, ◌^◌, min, Bool, true, false, IsTrue, ◌||◌, eqb, ltb, List, [], ◌∷◌, ◌++◌}
+use Rattle.std.proofs.Common.{◌≡◌, ℕ, ◌+◌, ◌<◌, ◌≤◌, ◌^◌, min, Bool, true, false, IsTrue, ◌||◌, eqb, ltb, List, [], ◌∷◌, ◌++◌}
 use Rattle.std.proofs.Common.{Option, Some, None, length, map, refl, sym, ◌∙◌, ap, subst, arith, append-nil, length-append, not}
 use Rattle.std.specs.List.{AllByRecursion, filter}
-use Rattle.std.proofs.lemmas.Bool.{and_from, and_parts, eq-eqb, le-ltb, ltb-true, or_left}
+use Rattle.std.proofs.lemmas.Bool.{and_from, eq-eqb, le-ltb, or_left}
 use Rattle.ua_builtin.specs.NodeId.{node_id}
 use Rattle.ua_builtin.specs.Reasons.{first_reason}
 use Rattle.ua_builtin.specs.Status.{of_code, status_code}
@@ -11,7 +11,6 @@ use Rattle.ua_wire.specs.Counted.{counted, text}
 use Rattle.ua_builtin.specs.declared.date_time.DateTime.{DateTime}
 use Rattle.ua_frame.specs.declared.ack.Ack.{Ack}
 use Rattle.ua_frame.specs.declared.frame.Frame.{Frame}
-use Rattle.ua_frame.specs.declared.gate.Gate.{Gate}
 use Rattle.ua_frame.specs.declared.limits.Limits.{Limits}
 use Rattle.ua_frame.specs.declared.kind.Kind.TheVariants as kind
 use Rattle.ua_frame.specs.Agreement.{ack_to}
@@ -43,7 +42,7 @@ use Rattle.ua_chunk.specs.declared.flag.Flag.TheVariants.{A}
 use Rattle.ua_chunk.specs.declared.lane.Lane.{Lane}
 use Rattle.ua_chunk.specs.Abort.{abort_body}
 use Rattle.ua_chunk.specs.Cutting.{abort_chunk, chunk_of, chunks_octets, chunks_of, cut_refusal, numbered, number_after, pieces, flag_before}
-use Rattle.ua_chunk.specs.Delivered.{aborted, delivered}
+use Rattle.ua_chunk.specs.Delivered.{delivered}
 use Rattle.ua_chunk.specs.Item.{Item}
 use Rattle.ua_chunk.specs.Item.Item.{Whole, Aborted}
 use Rattle.ua_chunk.specs.Layout.{frame_of}
@@ -67,12 +66,12 @@ use Rattle.ua_channel_laws.specs.ClientReads.{AtClient, ClientAgrees, ClientRead
 use Rattle.ua_channel_laws.specs.ClientReads.{with_answer, with_call, with_renewal, with_reply, without_id}
 use Rattle.ua_channel.specs.ClientSends.{hello_to}
 use Rattle.ua_channel.specs.ClientTable.{answer_gate, client_gate, client_reasons, client_rules, gate_agreed, is_outside, reply_gate}
-use Rattle.ua_channel.specs.ClientTokens.{answer_in, first_channel, from_last, held_by, held_tokens, opened_ids, open_responses, tokens_of, response_listed}
+use Rattle.ua_channel.specs.ClientTokens.{answer_in, from_last, held_by, held_tokens, opened_ids, open_responses, tokens_of, response_listed}
 use Rattle.ua_channel.specs.ClientTold.{ClientTold, ClientTold as event, client_tells, told_item}
 use Rattle.ua_channel.specs.Content.{Content, Opening, content}
 use Rattle.ua_channel.specs.Content.Content.{Acks, Opens}
 use Rattle.ua_channel.specs.Received.{Received, after, latest, nothing_received, number_or, received, messages, openings}
-use Rattle.ua_channel.specs.Received.{openings_in, tokens_in, used_tokens, chunks_in, numbers, numbers_in, number_listed}
+use Rattle.ua_channel.specs.Received.{used_tokens, numbers, numbers_in, number_listed}
 use Rattle.ua_channel_laws.specs.ServerReads.{IsBodyFor}
 use Rattle.ua_channel.specs.ServerSends.{opened_frame, replied, replied_by}
 use Rattle.ua_channel.proofs.AskedLater.{asked_later}
@@ -92,6 +91,7 @@ use Rattle.std.specs.Prelude.{if◌then◌else◌}
 use Rattle.ua_channel_laws.proofs.CutChunks.{AreSentIn, IsSentIn, cut_alone, cut_finished, cut_goes, ends_own, frames_fit, frames_framed, frames_messages}
 use Rattle.ua_channel_laws.proofs.CutChunks.{frames_numbers, frames_openings, frames_tokens, latest_token, one_merge, sent_in, all_under}
 use Rattle.ua_channel_laws.proofs.ClientMerges.{nothing_opened, reads_merged}
+use Rattle.ua_channel_laws.proofs.ClientRuns.{all_known, reads_at}
 use Rattle.ua_channel_laws.proofs.MergedChunks.{comes}
 use Rattle.ua_channel_laws.proofs.MergedFrames.{nothing_yet, openings-more, tokens-more}
 use Rattle.ua_channel_laws.specs.Merges.{AreMerged, ClientMerge, MayComeDown, NumbersGoOn, ended_by, latest_or}
@@ -103,14 +103,6 @@ use Rattle.ua_channel.proofs.OpeningFrames.{none_header, opening_size}
 
 outside_none : (a b c d : Bool) → a ≡ false → b ≡ false → c ≡ false → d ≡ false → (((a || b) || c) || d) ≡ false
 outside_none a b c d e f g h = rw (e, f, g, h) refl
-
-ack_sized : (a : Ack) → IsTrue (ack.encodable a) → a.send_buffer_size < 2 ^ 32
-unfolding ack
-ack_sized a e =
-    let x = and_parts (ltb a.protocol_version (256 ^ 4)) _ e in
-    let y = and_parts (ltb a.receive_buffer_size (256 ^ 4)) _ x.1 in
-    let z = and_parts (ltb a.send_buffer_size (256 ^ 4)) _ y.1 in
-    omega (arith, ltb-true a.send_buffer_size (256 ^ 4) z.0)
 
 ack_length : (a : Ack) → length (ack.canonical a) ≡ 20
 unfolding ack
@@ -133,7 +125,11 @@ ack_length a =
       length-number_octets 4 a.max_chunk_count,
     )
 
-module _ (limits : Limits) (a : Ack) (fits : IsTrue (ack.encodable a)) (inside : is_outside limits a ≡ false) (large : 8192 ≤ a.send_buffer_size) where
+-- where nothing was asked
+none_below : AllByRecursion (λ (x : Asking). id_of x < next_id (asked_in [])) (asked_in [])
+none_below = rw no_asks tt
+
+module _ (limits : Limits) (a : Ack) (fits : IsTrue (ack.encodable a)) (inside : is_outside limits a ≡ false) where
   ack_carried : content (ack_frame a) ≡ Acks (Some a)
   ack_carried = content_ack (ack_frame a) refl ∙ ap Acks (whole_encodes ack sound_ack (ack.canonical a) a (sound_ack.canonical_encodes a fits))
 
@@ -142,30 +138,31 @@ module _ (limits : Limits) (a : Ack) (fits : IsTrue (ack.encodable a)) (inside :
 
   ack_received : received (ack_frame a ∷ []) ≡ record nothing_received { ack = Some a }
   ack_received = received-push [] (ack_frame a)
-      ∙ (ap (λ (b : Received). after b (content (ack_frame a))) received-nil ∙ ap (after nothing_received) ack_carried)
+      ∙ (rw received-nil (ap (after nothing_received) ack_carried))
 
   ack_size : frame_size (ack_frame a) ≡ 28
   ack_size = omega (arith, ack_length a)
 
+  ack_run : Run (client_rules limits []) (frame_octets (ack_frame a)) (ack_frame a ∷ []) [] Going
+  ack_run = run_one (client_rules limits []) [] [] (ack_frame a) (run_nil (client_rules limits []) refl) (record {
+    goes_on = refl;
+    sized = omega (arith, ack_size);
+    let_in = rw (ap client_gate received-nil) (record { kind = refl; flag = refl; largest = omega (arith, ack_size); least = omega (arith, ack_size) });
+    accepted = rw ack_carried (ack_good (received []) (asked_before (end_of [] (ack_frame a)) []));
+  }) refl
+
   reads_acknowledge : ClientAgrees limits (frame_octets (ack_frame a)) (event.Agreed a ∷ []) a
-  reads_acknowledge = record {
-    frames = ack_frame a ∷ [];
-    run =
-        run_one (client_rules limits []) [] [] (ack_frame a) (run_nil (client_rules limits []) refl) (record {
-          goes_on = refl;
-          sized = omega (arith, ack_size);
-          let_in = subst (λ (g : Gate). LetsIn g (ack_frame a)) (sym (ap client_gate received-nil))
-              (record { kind = refl; flag = refl; largest = omega (arith, ack_size); least = omega (arith, ack_size) });
-          accepted = ap (λ (k : Content). first_reason (client_reasons limits (received []) (asked_before (end_of [] (ack_frame a)) []) k)) ack_carried
-              ∙ ack_good (received []) (asked_before (end_of [] (ack_frame a)) []);
-        }) refl;
-    told_is = events-push (client_rules limits []) [] (ack_frame a)
-        ∙ (ap (λ (ts : List ClientTold). ts ++ client_tells (received []) (content (ack_frame a))) (no_events (client_rules limits []))
-        ∙ ap (client_tells (received [])) ack_carried);
-    received_is = ack_received;
-    large = large;
-    sized = ack_sized a fits;
-  }
+  reads_acknowledge =
+      let known = (all_known limits [] (next_id (asked_in [])) (omega arith) none_below (ack_frame a ∷ []) ack_run.good).1 in
+      record {
+        frames = ack_frame a ∷ [];
+        run = ack_run;
+        told_is = events-push (client_rules limits []) [] (ack_frame a)
+            ∙ (rw (no_events (client_rules limits [])) (ap (client_tells (received [])) ack_carried));
+        received_is = ack_received;
+        large = known.large a (rw ack_received);
+        sized = known.sized a (rw ack_received);
+      }
 
 -- the ACK of a server to this client's HEL
 pub reads_ack : (limits server : Limits) (url : Option (List ℕ)) → IsTrue (ack.encodable (ack_to (hello_to limits url) server))
@@ -180,7 +177,6 @@ reads_ack limits server url fits =
     (le-ltb (min server.send_buffer_size limits.receive_buffer_size) 8192 (omega (arith, server.sends, limits.receives)))
     (le-ltb limits.send_buffer_size (min server.receive_buffer_size limits.send_buffer_size) (omega arith))
     (le-ltb limits.receive_buffer_size (min server.send_buffer_size limits.receive_buffer_size) (omega arith)))
-    (omega (arith, server.sends, limits.receives))
 
 -- ---- OPN
 
@@ -260,74 +256,49 @@ module _ (limits : Limits) (octets : List ℕ) (told : List ClientTold) (a : Ack
   o_numbers = refl
 
   now : received (r.frames ++ f ∷ []) ≡ after before (Opens o)
-  now = received-push r.frames f ∙ (ap (λ (b : Received). after b (content f)) r.received_is ∙ ap (after (record nothing_received { ack = Some a })) o_carried)
+  now = received-push r.frames f ∙ (rw r.received_is (ap (after (record nothing_received { ack = Some a })) o_carried))
 
   one_response : open_responses (o ∷ []) ≡ open_response_of moment handle channel token lifetime ∷ []
   one_response = responses-push [] o (open_response_of moment handle channel token lifetime) o_answers
-      ∙ ap (λ (rs : List OpenResponse). rs ++ open_response_of moment handle channel token lifetime ∷ []) no_responses
-
-  one_id : opened_ids (o ∷ []) ≡ 1 ∷ []
-  one_id = opened_ids-push [] o (number, 1) o_numbers ∙ ap (λ (ids : List ℕ). ids ++ 1 ∷ []) no_ids
+      ∙ rw no_responses
 
   one_token : held_tokens (after before (Opens o)) ≡ token ∷ []
   unfolding held_tokens
   one_token = ap tokens_of one_response
-      ∙ (tokens_of-push [] (open_response_of moment handle channel token lifetime) ∙ ap (λ (ts : List ℕ). ts ++ token ∷ []) no_tokens)
+      ∙ (tokens_of-push [] (open_response_of moment handle channel token lifetime) ∙ rw no_tokens)
 
   f_size : frame_size f ≡ 135
   f_size = opened_size channel number 1 handle token lifetime moment is
 
   f_in : LetsIn ((client_rules limits []).gate r.frames) f
   f_in =
-      subst (λ (g : Gate). LetsIn g f) (sym (ap client_gate r.received_is))
-      (opn_by a (open_responses []) f refl refl (omega (arith, f_size, r.large)) (omega (arith, f_size)))
+      rw (ap client_gate r.received_is) (opn_by a (open_responses []) f refl refl (omega (arith, f_size, r.large)) (omega (arith, f_size)))
 
   pub reads_opened : ClientReads limits [] (octets ++ frame_octets (opened_frame channel number 1 handle token lifetime moment))
       (told ++ event.Opened channel token ∷ [])
       (record { ack = a; channel = channel; tokens = token ∷ []; newest = token; pending = []; renewals = []; next = next_number number })
-  reads_opened = record {
-    frames = r.frames ++ f ∷ [];
-    run =
-        run_one (client_rules limits []) octets r.frames f r.run (record {
-          goes_on = refl;
-          sized = omega (arith, f_size);
-          let_in = f_in;
-          accepted =
-              ap (λ (b : Received). first_reason (client_reasons limits b (asked_before (end_of r.frames f) []) (content f))) r.received_is
-              ∙ (ap (λ (k : Content). first_reason (client_reasons limits (record nothing_received { ack = Some a }) (asked_before (end_of r.frames f) []) k))
-              o_carried
-              ∙ first_good channel number 1 handle token lifetime moment is limits a (asked_before (end_of r.frames f) []) refl);
-        }) refl;
-    placed = tt;
-    told_is =
-        events-push (client_rules limits []) r.frames f
-        ∙ (ap (λ (ts : List ClientTold). ts ++ client_tells (received r.frames) (content f)) r.told_is
-        ∙ ap (λ (ts : List ClientTold). told ++ ts) (ap (λ (b : Received). client_tells b (content f)) r.received_is
-        ∙ (ap (client_tells (record nothing_received { ack = Some a })) o_carried ∙ first_tells channel number 1 handle token lifetime moment is a)));
-    ack_is = ap (λ (b : Received). b.ack) now;
-    large = r.large;
-    sized = r.sized;
-    channel_is = ap (λ (b : Received). first_channel (open_responses b.openings)) now ∙ ap first_channel one_response;
-    tokens_are = ap held_tokens now ∙ one_token;
-    newest_is = refl;
-    pending_are = ap (λ (b : Received). pending_calls b.messages (asked_in [])) now ∙ (ap (pending_calls []) no_asks ∙ nothing_pending []);
-    renewals_are = ap (λ (b : Received). pending_renewals (opened_ids b.openings) (asked_in [])) now
-        ∙ (ap (pending_renewals (opened_ids (o ∷ []))) no_asks ∙ nothing_renewed (opened_ids (o ∷ [])));
-    asked_below = subst (λ (ss : List Asking). AllByRecursion (λ (x : Asking). id_of x < next_id ss) ss) (sym no_asks) tt;
-    sent_below = subst (λ (b : Received). AllByRecursion (λ (c : Chunk). c.request < next_id (asked_in [])) b.messages) (sym now) tt;
-    opened_below =
-        subst (λ (b : Received). AllByRecursion (λ (id : ℕ). id < next_id (asked_in [])) (opened_ids b.openings)) (sym now)
-        (subst (λ (ids : List ℕ). AllByRecursion (λ (id : ℕ). id < next_id (asked_in [])) ids) (sym one_id) (omega arith, tt));
-    follows = ap (λ (b : Received). may_follow b.last (next_number number)) now
-        ∙ (ap (λ (n : Option (ℕ × ℕ)). may_follow (number_or None n) (next_number number)) o_numbers ∙ follows_next number);
-    next_small = next_small number is.number_small;
-    none_open = ap (λ (b : Received). open_ids b.messages) now;
-  }
+  reads_opened =
+      reads_at (r.frames ++ f ∷ [])
+      (run_one (client_rules limits []) octets r.frames f r.run (record {
+        goes_on = refl;
+        sized = omega (arith, f_size);
+        let_in = f_in;
+        accepted =
+            rw r.received_is
+            (ap (λ (k : Content). first_reason (client_reasons limits (record nothing_received { ack = Some a }) (asked_before (end_of r.frames f) []) k))
+            o_carried
+            ∙ first_good channel number 1 handle token lifetime moment is limits a (asked_before (end_of r.frames f) []) refl);
+      }) refl) tt
+      (events-push (client_rules limits []) r.frames f
+      ∙ (ap (λ (ts : List ClientTold). ts ++ client_tells (received r.frames) (content f)) r.told_is
+      ∙ ap (λ (ts : List ClientTold). told ++ ts)
+      (rw r.received_is (ap (client_tells (record nothing_received { ack = Some a })) o_carried
+      ∙ first_tells channel number 1 handle token lifetime moment is a))))
+      (rw (now, one_response, one_token, no_asks, nothing_pending [], nothing_renewed (opened_ids (o ∷ []))) refl) none_below
+      (rw now (ap (λ (n : Option (ℕ × ℕ)). may_follow (number_or None n) (next_number number)) o_numbers ∙ follows_next number))
+      (next_small number is.number_small) (ap (λ (b : Received). open_ids b.messages) now)
 
 -- ---- asks
-
-below_more : {X : Type 0} (id : X → ℕ) (n m : ℕ) (xs : List X) → n ≤ m → AllByRecursion (λ (x : X). id x < n) xs → AllByRecursion (λ (x : X). id x < m) xs
-below_more {X = X} id n m xs le all = all-weaken (λ (x : X). id x < n) (λ (x : X). id x < m) xs (λ x less. omega (arith, less, le)) all
 
 module _ (limits : Limits) (asks : List Placed) (octets : List ℕ) (told : List ClientTold) (at : AtClient) (ask : Asking)
     (r : ClientReads limits asks octets told at) (id_is : id_of ask ≡ next_id (asked_in asks)) where
@@ -341,34 +312,16 @@ module _ (limits : Limits) (asks : List Placed) (octets : List ℕ) (told : List
   reads_asked : (pending waiting : List ℕ) → pending_calls (received r.frames).messages (asked_in asks ++ ask ∷ []) ≡ pending
       → pending_renewals (opened_ids (received r.frames).openings) (asked_in asks ++ ask ∷ []) ≡ waiting
       → ClientReads limits (asks ++ (length octets, ask) ∷ []) octets told (record at { pending = pending; renewals = waiting })
-  reads_asked pending waiting calls_are answers_are = record {
-    frames = r.frames;
-    run = run_asked;
-    placed = all-push (λ (p : Placed). p.0 ≤ length octets) asks (length octets, ask) r.placed (omega arith);
-    told_is = r.told_is;
-    ack_is = r.ack_is;
-    large = r.large;
-    sized = r.sized;
-    channel_is = r.channel_is;
-    tokens_are = r.tokens_are;
-    newest_is = r.newest_is;
-    pending_are = ap (pending_calls (received r.frames).messages) (asked_in-push asks (length octets, ask)) ∙ calls_are;
-    renewals_are = ap (pending_renewals (opened_ids (received r.frames).openings)) (asked_in-push asks (length octets, ask)) ∙ answers_are;
-    asked_below =
-        subst (λ (ss : List Asking). AllByRecursion (λ (x : Asking). id_of x < next_id (asked_in (asks ++ (length octets, ask) ∷ []))) ss)
-        (sym (asked_in-push asks (length octets, ask)))
-        (all-push (λ (x : Asking). id_of x < next_id (asked_in (asks ++ (length octets, ask) ∷ []))) (asked_in asks) ask
-        (below_more id_of (next_id (asked_in asks)) (next_id (asked_in (asks ++ (length octets, ask) ∷ []))) (asked_in asks)
-        (omega (arith, next-append asks ((length octets, ask) ∷ []))) r.asked_below)
-        (omega (arith, id_is, next-append asks ((length octets, ask) ∷ []))));
-    sent_below = below_more (λ (c : Chunk). c.request) (next_id (asked_in asks)) (next_id (asked_in (asks ++ (length octets, ask) ∷ [])))
-        (received r.frames).messages (omega (arith, next-append asks ((length octets, ask) ∷ []))) r.sent_below;
-    opened_below = below_more (λ (id : ℕ). id) (next_id (asked_in asks)) (next_id (asked_in (asks ++ (length octets, ask) ∷ [])))
-        (opened_ids (received r.frames).openings) (omega (arith, next-append asks ((length octets, ask) ∷ []))) r.opened_below;
-    follows = r.follows;
-    next_small = r.next_small;
-    none_open = r.none_open;
-  }
+  reads_asked pending waiting calls_are answers_are =
+      let more_asked = asked_in-push asks (length octets, ask) in
+      let next : next_id (asked_in (asks ++ (length octets, ask) ∷ [])) ≡ next_id (asked_in asks) + 1 =
+      omega (arith, next-append asks ((length octets, ask) ∷ [])) in
+      reads_at r.frames run_asked (all-push (λ (p : Placed). p.0 ≤ length octets) asks (length octets, ask) r.placed (omega arith)) r.told_is
+      (rw (r.tokens_are, r.newest_is, more_asked, calls_are, answers_are, r.channel_is, r.ack_is) refl)
+      (rw (next, more_asked)
+      (all-push (λ (x : Asking). id_of x < next_id (asked_in asks) + 1) (asked_in asks) ask
+      (all-weaken (λ (x : Asking). id_of x < next_id (asked_in asks)) (λ (x : Asking). id_of x < next_id (asked_in asks) + 1) (asked_in asks)
+      (λ x less. omega (arith, less)) r.asked_below) (omega (arith, id_is)))) r.follows r.next_small r.none_open
 
 -- a call
 pub reads_call : (limits : Limits) (asks : List Placed) (octets : List ℕ) (told : List ClientTold) (at : AtClient) → ClientReads limits asks octets told at
@@ -376,7 +329,7 @@ pub reads_call : (limits : Limits) (asks : List Placed) (octets : List ℕ) (tol
 reads_call limits asks octets told at r =
     let id = next_id (asked_in asks) in
     reads_asked limits asks octets told at (Call id) r refl (at.pending ++ id ∷ []) at.renewals
-    (pending_calls-call (received r.frames).messages (asked_in asks) id r.sent_below ∙ ap (λ (ids : List ℕ). ids ++ id ∷ []) r.pending_are)
+    (pending_calls-call (received r.frames).messages (asked_in asks) id r.sent_below ∙ rw r.pending_are)
     (pending_renewals-call (opened_ids (received r.frames).openings) (asked_in asks) id ∙ r.renewals_are)
 
 -- a renewal
@@ -387,7 +340,7 @@ reads_renewal limits asks octets told at r =
     reads_asked limits asks octets told at (Renewal id) r refl at.pending (at.renewals ++ id ∷ [])
     (pending_calls-renewal (received r.frames).messages (asked_in asks) id ∙ r.pending_are)
     (pending_renewals-renewal (opened_ids (received r.frames).openings) (asked_in asks) id r.opened_below
-    ∙ ap (λ (ids : List ℕ). ids ++ id ∷ []) r.renewals_are)
+    ∙ rw r.renewals_are)
 
 -- ---- replies
 
@@ -397,7 +350,7 @@ no_later = (refl, refl)
 
 all_stay : (ids : List ℕ) → filter (λ (i : ℕ). not (is_in i [])) ids ≡ ids
 all_stay [] = refl
-all_stay (id ∷ ids) = ap (λ (js : List ℕ). id ∷ js) (all_stay ids)
+all_stay (id ∷ ids) = rw (all_stay ids)
 
 in_front : (id : ℕ) (xs ys : List ℕ) → is_in id xs ≡ true → is_in id (xs ++ ys) ≡ true
 in_front id xs ys e = list_any-append (λ (n : ℕ). eqb n id) xs ys ∙ or_left (is_in id xs) (is_in id ys) e
@@ -415,9 +368,7 @@ told_sent : (size : ℕ) (lane : Lane) (id : ℕ) (ms : List Sent) (cs : List Ch
     → told_merged_back ms (map frame_of cs) ≡ map told_item (outcomes ms cs)
 told_sent size lane id ms [] s = refl
 told_sent size lane id ms (c ∷ cs) s =
-    ap (λ (k : Content). told_back ms k ++ told_merged_back ms (map frame_of cs)) (chunk_carried c s.0.numbers)
-    ∙ (ap (λ (ts : List ClientTold). map told_item (ended_by ms c) ++ ts) (told_sent size lane id ms cs s.1)
-    ∙ sym (map-append told_item (ended_by ms c) (outcomes ms cs)))
+    rw (chunk_carried c s.0.numbers) (rw (told_sent size lane id ms cs s.1) (sym (map-append told_item (ended_by ms c) (outcomes ms cs))))
 
 module _ (limits : Limits) (asks : List Placed) (octets : List ℕ) (told : List ClientTold) (at : AtClient) (r : ClientReads limits asks octets told at) where
   -- frames of a merge, where the client asks nothing on and these tokens, calls and renewals are left
@@ -429,31 +380,12 @@ module _ (limits : Limits) (asks : List Placed) (octets : List ℕ) (told : List
       → ClientReads limits asks (octets ++ frames_octets fs) (told ++ told_merged_back ms fs)
       (record at { tokens = tokens; newest = newest; pending = pending; renewals = waiting; next = next })
   reads_frames ms fs next newest tokens pending waiting m held last calls_are answers_are =
-      let left : filter (λ (i : ℕ). not (is_finished (messages fs) i)) (at.pending ++ calls (asked_in [])) ≡ pending =
-      ap (λ (t : List ℕ). filter (λ (i : ℕ). not (is_finished (messages fs) i)) (at.pending ++ t)) no_later.0
-      ∙ (ap (filter (λ (i : ℕ). not (is_finished (messages fs) i))) (append-nil at.pending) ∙ calls_are) in
+      let left : filter (λ (i : ℕ). not (is_finished (messages fs) i)) (at.pending ++ calls (asked_in [])) ≡ pending = rw (no_later.0, append-nil) calls_are in
       let waits : filter (λ (i : ℕ). not (is_in i (opened_ids (openings fs)))) (at.renewals ++ renewals (asked_in [])) ≡ waiting =
-      ap (λ (t : List ℕ). filter (λ (i : ℕ). not (is_in i (opened_ids (openings fs)))) (at.renewals ++ t)) no_later.1
-      ∙ (ap (filter (λ (i : ℕ). not (is_in i (opened_ids (openings fs))))) (append-nil at.renewals) ∙ answers_are) in
-      let read : ClientReads limits asks (octets ++ frames_octets fs) (told ++ told_merged_back ms fs) (with_merged_back at (asked_in []) fs next) =
-      subst (λ (t : List Placed). ClientReads limits t (octets ++ frames_octets fs) (told ++ told_merged_back ms fs)
-      (with_merged_back at (asked_in []) fs next)) (append-nil asks)
-      (reads_merged limits asks [] octets told at at.next ms fs next r (record { frames = r.frames; run = r.run; follows = r.follows }) m) in
-      at_as (held_by (latest (used_tokens fs)) (at.tokens ++ tokens_of (open_responses (openings fs)))) tokens
-      (latest_or at.newest (tokens_of (open_responses (openings fs)))) newest _ pending _ waiting held last left waits read
-    where
-      at_as : (ts us : List ℕ) (n o : ℕ) (ps qs ws vs : List ℕ) → ts ≡ us → n ≡ o → ps ≡ qs → ws ≡ vs
-          → ClientReads limits asks (octets ++ frames_octets fs) (told ++ told_merged_back ms fs)
-          (record at { tokens = ts; newest = n; pending = ps; renewals = ws; next = next })
-          → ClientReads limits asks (octets ++ frames_octets fs) (told ++ told_merged_back ms fs)
-          (record at { tokens = us; newest = o; pending = qs; renewals = vs; next = next })
-      at_as ts us n o ps qs ws vs a b c d h = subst (λ (x : AtClient). ClientReads limits asks (octets ++ frames_octets fs) (told ++ told_merged_back ms fs) x)
-          (same a b c d) h
-        where
-          same : ts ≡ us → n ≡ o → ps ≡ qs → ws ≡ vs
-              → ◌≡◌ {A = AtClient} (record at { tokens = ts; newest = n; pending = ps; renewals = ws; next = next })
-              (record at { tokens = us; newest = o; pending = qs; renewals = vs; next = next })
-          same a b c d = cc
+      rw (no_later.1, append-nil) answers_are in
+      rw (← held, ← last, ← left, ← waits)
+      (rw (← append-nil asks) (reads_merged limits asks [] octets told at at.next ms fs next r (record { frames = r.frames; run = r.run; follows = r.follows })
+      m))
 
 module _ (limits : Limits) (asks : List Placed) (octets : List ℕ) (told : List ClientTold) (at : AtClient) (lane : Lane) (id : ℕ)
     (r : ClientReads limits asks octets told at) (back : IsLaneBack limits at lane)
@@ -468,9 +400,8 @@ module _ (limits : Limits) (asks : List Placed) (octets : List ℕ) (told : List
   held_on : (ts : List ℕ) (os : List Opening) (token : ℕ) → token ≡ lane.token → IsHeld ts os → IsHeld (ts ++ token ∷ []) os
   held_on ts os token is held =
       let tokens : List ℕ = at.tokens ++ tokens_of (open_responses os) in
-      ap (λ (o : Option ℕ). is_in lane.token (held_by o tokens)) (latest-push ts token)
-      ∙ (ap (is_in lane.token) (held_by-used (latest ts) token tokens (ap (λ (t : ℕ). is_in t (held_by (latest ts) tokens)) is ∙ held))
-      ∙ (ap (λ (t : ℕ). is_in lane.token (from_last t (held_by (latest ts) tokens))) is ∙ stays_in lane.token (held_by (latest ts) tokens) held))
+      rw (latest-push ts token) (ap (is_in lane.token) (held_by-used (latest ts) token tokens (rw is held))
+      ∙ (rw is (stays_in lane.token (held_by (latest ts) tokens) held)))
 
   carries_from : (us : List Frame) (cs : List Chunk) → AreSentIn size lane id cs → IsHeld (used_tokens us) (openings us)
       → AllFrom (λ vs f. MayComeDown (with_merged_back at (asked_before (end_of vs f) []) vs at.next) (at.pending ++ calls (asked_before (end_of vs f) []))
@@ -479,18 +410,16 @@ module _ (limits : Limits) (asks : List Placed) (octets : List ℕ) (told : List
   carries_from us (c ∷ cs) s held =
       let f : Frame = frame_of c in
       let tokens : used_tokens (us ++ f ∷ []) ≡ used_tokens us ++ c.token ∷ [] = tokens-more us f
-      ∙ ap (λ (k : Content). used_tokens us ++ tokens_in k) (chunk_carried c s.0.numbers) in
+      ∙ rw (chunk_carried c s.0.numbers) in
       let opens : openings (us ++ f ∷ []) ≡ openings us = openings-more us f
-      ∙ (ap (λ (k : Content). openings us ++ openings_in k) (chunk_carried c s.0.numbers) ∙ append-nil (openings us)) in (
-        subst (MayComeDown (with_merged_back at (asked_before (end_of us f) []) us at.next) (at.pending ++ calls (asked_before (end_of us f) [])))
-            (sym (chunk_carried c s.0.numbers))
-            (record {
-              on = ap not (eq-eqb c.channel at.channel (s.0.channel_is ∙ back.on));
-              held = ap (λ (t : ℕ). is_in t (held_by (latest (used_tokens us)) (at.tokens ++ tokens_of (open_responses (openings us))))) s.0.token_is ∙ held;
-              awaited =
-                  ap (λ (i : ℕ). is_in i (at.pending ++ calls (asked_before (end_of us f) []))) s.0.request_is
-                  ∙ in_front id at.pending (calls (asked_before (end_of us f) [])) awaited;
-            }),
+      ∙ (rw (chunk_carried c s.0.numbers) (append-nil (openings us))) in (
+        rw (chunk_carried c s.0.numbers) (record {
+          on = ap not (eq-eqb c.channel at.channel (s.0.channel_is ∙ back.on));
+          held = rw s.0.token_is held;
+          awaited =
+              ap (λ (i : ℕ). is_in i (at.pending ++ calls (asked_before (end_of us f) []))) s.0.request_is
+              ∙ in_front id at.pending (calls (asked_before (end_of us f) [])) awaited;
+        }),
         carries_from (us ++ f ∷ []) cs s.1 (rw (tokens, opens) (held_on (used_tokens us) (openings us) c.token s.0.token_is held)),
       )
 
@@ -501,9 +430,8 @@ module _ (limits : Limits) (asks : List Placed) (octets : List ℕ) (told : List
   reads_sent c cs next m items sent merged goes finished delivers =
       let fs : List Frame = map frame_of (c ∷ cs) in
       let none : openings fs ≡ [] = frames_openings size lane id (c ∷ cs) sent in
-      let no_more : tokens_of (open_responses (openings fs)) ≡ [] = ap (λ (os : List Opening). tokens_of (open_responses os)) none ∙ nothing_opened in
-      subst (λ (ts : List ClientTold). ClientReads limits asks (octets ++ chunks_octets (c ∷ cs)) (told ++ ts) (with_reply at lane.token id next))
-      (told_sent size lane id (m ∷ []) (c ∷ cs) sent ∙ ap (map told_item) (sym (comes limits (m ∷ []) (c ∷ cs) merged).all ∙ delivers))
+      let no_more : tokens_of (open_responses (openings fs)) ≡ [] = rw none nothing_opened in
+      rw (← told_sent size lane id (m ∷ []) (c ∷ cs) sent ∙ ap (map told_item) (sym (comes limits (m ∷ []) (c ∷ cs) merged).all ∙ delivers))
       (reads_frames limits asks octets told at r (m ∷ []) fs next at.newest (from_last lane.token at.tokens) (without_id id at.pending) at.renewals
       (record {
         counted = ap (map id_of) no_asks;
@@ -512,18 +440,16 @@ module _ (limits : Limits) (asks : List Placed) (octets : List ℕ) (told : List
         fits = frames_fit size lane id (c ∷ cs) sent;
         carries =
             carries_from [] (c ∷ cs) sent
-            (nothing_yet (λ ts os us. IsHeld ts os) (ap (λ (t : List ℕ). is_in lane.token (at.tokens ++ t)) nothing_opened
-            ∙ (ap (is_in lane.token) (append-nil at.tokens) ∙ back.held)));
-        numbered = subst (λ (ns : List ℕ). NumbersGoOn at.next ns next) (sym (frames_numbers size lane id (c ∷ cs) sent)) goes;
-        merged = subst (AreMerged limits (m ∷ [])) (sym (frames_messages size lane id (c ∷ cs) sent)) merged;
+            (nothing_yet (λ ts os us. IsHeld ts os) (rw nothing_opened (ap (is_in lane.token) (append-nil at.tokens) ∙ back.held)));
+        numbered = rw (frames_numbers size lane id (c ∷ cs) sent) goes;
+        merged = rw (frames_messages size lane id (c ∷ cs) sent) merged;
       })
-      (ap (λ (ts : List ℕ). held_by (latest ts) (at.tokens ++ tokens_of (open_responses (openings fs)))) (frames_tokens size lane id (c ∷ cs) sent)
-      ∙ (ap (λ (o : Option ℕ). held_by o (at.tokens ++ tokens_of (open_responses (openings fs)))) (latest_token lane.token None c cs)
-      ∙ ap (from_last lane.token) (ap (λ (t : List ℕ). at.tokens ++ t) no_more ∙ append-nil at.tokens)))
+      (rw (frames_tokens size lane id (c ∷ cs) sent)
+      (rw (latest_token lane.token None c cs) (ap (from_last lane.token) (rw no_more (append-nil at.tokens)))))
       (ap (latest_or at.newest) no_more)
-      (ap (λ (us : List Chunk). filter (λ (i : ℕ). not (is_finished us i)) at.pending) (frames_messages size lane id (c ∷ cs) sent)
-      ∙ filter_same (λ (i : ℕ). not (is_finished (c ∷ cs) i)) (λ (i : ℕ). not (eqb i id)) at.pending (λ i. ap not (finished i)))
-      (ap (λ (ids : List ℕ). filter (λ (i : ℕ). not (is_in i ids)) at.renewals) (ap opened_ids none ∙ no_ids) ∙ all_stay at.renewals))
+      (rw (frames_messages size lane id (c ∷ cs) sent) (filter_same (λ (i : ℕ). not (is_finished (c ∷ cs) i)) (λ (i : ℕ). not (eqb i id)) at.pending
+      (λ i. ap not (finished i))))
+      (rw (ap opened_ids none ∙ no_ids) (all_stay at.renewals)))
 
   -- a reply
   reads_reply : (body : List ℕ) → IsBodyFor limits lane.room body
@@ -535,9 +461,7 @@ module _ (limits : Limits) (asks : List Placed) (octets : List ℕ) (told : List
       let sent : AreSentIn size lane id (chunks_of lane body at.next id) =
       all-weaken (IsOf lane id) (IsSentIn size lane id) (chunks_of lane body at.next id) (sent_in size lane id back.on_small back.token_small few back.fits)
       (chunks_are lane body at.next id r.next_small back.some w.some) in
-      subst (λ (t : List (List ℕ)). ClientReads limits asks (octets ++ chunks_octets (numbered lane at.next id t)) (told ++ event.Answered id body ∷ [])
-      (with_reply at lane.token id (number_after at.next t))) (sym ps.are)
-      (reads_sent (chunk_of lane (flag_before ps.others) at.next id ps.first) (numbered lane (next_number at.next) id ps.others)
+      rw ps.are (reads_sent (chunk_of lane (flag_before ps.others) at.next id ps.first) (numbered lane (next_number at.next) id ps.others)
       (number_after at.next (ps.first ∷ ps.others)) alone.message (Whole id body ∷ [])
       (subst (λ (t : List (List ℕ)). AreSentIn size lane id (numbered lane at.next id t)) ps.are sent)
       (subst (λ (t : List (List ℕ)). AreMerged limits (alone.message ∷ []) (numbered lane at.next id t)) ps.are alone.merged)
@@ -552,9 +476,7 @@ module _ (limits : Limits) (asks : List Placed) (octets : List ℕ) (told : List
       let c : Chunk = abort_chunk lane at.next id code in
       let body : List ℕ = abort_body.canonical (code, None) in
       let sent : Sent = record { request = id; pieces = []; end = A; last = body } in
-      subst (λ (t : List ℕ). ClientReads limits asks (octets ++ t) (told ++ event.GaveUp id code ∷ []) (with_reply at lane.token id (next_number at.next)))
-      (one_octets (frame_of c))
-      (reads_sent c [] (next_number at.next) sent (Aborted id code None ∷ []) (
+      rw (← one_octets (frame_of c)) (reads_sent c [] (next_number at.next) sent (Aborted id code None ∷ []) (
         record {
           numbers = record { channel = back.on_small; token = back.token_small; sequence = omega (arith, r.next_small); request = few };
           channel_is = refl;
@@ -580,7 +502,7 @@ module _ (limits : Limits) (asks : List Placed) (octets : List ℕ) (told : List
         few_open = (omega arith, tt);
       })
       (refl, tt, follows_next at.next, next_small at.next r.next_small) (λ i. ends_own id i)
-      (delivered_from (c ∷ []) ∙ ap (λ (a : Option (StatusCode × Option (List ℕ))). aborted id a ++ []) (abort_written code small)))
+      (delivered_from (c ∷ []) ∙ rw (abort_written code small)))
 
   -- ---- a reply, or its abort
 
@@ -598,7 +520,7 @@ module _ (limits : Limits) (asks : List Placed) (octets : List ℕ) (told : List
       reads_reply body (record {
         some = some;
         octets_fit = back.octets (length body) (cut_octets body e);
-        chunks_fit = ap (λ (n : ℕ). passes n (length (pieces lane.room body))) (sym back.chunks) ∙ cut_chunks body e;
+        chunks_fit = rw (sym back.chunks) (cut_chunks body e);
       })
   replied_so body (Some fault) some e = reads_abort (of_code 0x80B9_0000) (omega arith)
 
@@ -610,7 +532,7 @@ module _ (limits : Limits) (asks : List Placed) (octets : List ℕ) (told : List
 -- ---- the answer to a renewal
 
 one_in : (id : ℕ) (ids : List ℕ) → ids ≡ id ∷ [] → is_in id ids ≡ true
-one_in id ids one = ap (is_in id) one ∙ ap (λ (b : Bool). b || false) (eq-eqb id id refl)
+one_in id ids one = ap (is_in id) one ∙ rw (eq-eqb id id refl)
 
 module _ (limits : Limits) (asks : List Placed) (octets : List ℕ) (told : List ClientTold) (at : AtClient) (id handle token lifetime : ℕ) (moment : DateTime)
     (r : ClientReads limits asks octets told at)
@@ -634,21 +556,20 @@ module _ (limits : Limits) (asks : List Placed) (octets : List ℕ) (told : List
   brings : (openings (g ∷ []) ≡ p ∷ []) × (messages (g ∷ []) ≡ []) × (used_tokens (g ∷ []) ≡ []) × (numbers (g ∷ []) ≡ at.next ∷ [])
   unfolding openings messages used_tokens numbers
   brings = (
-    ap (λ (k : Content). openings_in k ++ []) p_carried,
-    ap (λ (k : Content). chunks_in k ++ []) p_carried,
-    ap (λ (k : Content). tokens_in k ++ []) p_carried,
+    rw p_carried,
+    rw p_carried,
+    rw p_carried,
     ap (λ (k : Content). numbers_in k ++ []) p_carried ∙ ap (λ (n : Option (ℕ × ℕ)). number_listed n ++ []) p_numbers,
   )
 
   p_tokens : tokens_of (open_responses (openings (g ∷ []))) ≡ token ∷ []
   p_tokens =
-      ap (λ (os : List Opening). tokens_of (open_responses os)) brings.0
-      ∙ (ap tokens_of (responses-push [] p (open_response_of moment handle at.channel token lifetime) p_answers
-      ∙ ap (λ (rs : List OpenResponse). rs ++ open_response_of moment handle at.channel token lifetime ∷ []) no_responses)
-      ∙ (tokens_of-push [] (open_response_of moment handle at.channel token lifetime) ∙ ap (λ (ts : List ℕ). ts ++ token ∷ []) no_tokens))
+      rw brings.0 (ap tokens_of (responses-push [] p (open_response_of moment handle at.channel token lifetime) p_answers
+      ∙ rw no_responses)
+      ∙ (tokens_of-push [] (open_response_of moment handle at.channel token lifetime) ∙ rw no_tokens))
 
   p_ids : opened_ids (openings (g ∷ [])) ≡ id ∷ []
-  p_ids = ap opened_ids brings.0 ∙ (opened_ids-push [] p (at.next, id) p_numbers ∙ ap (λ (ids : List ℕ). ids ++ id ∷ []) no_ids)
+  p_ids = ap opened_ids brings.0 ∙ (opened_ids-push [] p (at.next, id) p_numbers ∙ rw no_ids)
 
   g_size : frame_size g ≡ 135
   g_size = opened_size at.channel at.next id handle token lifetime moment is
@@ -675,19 +596,19 @@ module _ (limits : Limits) (asks : List Placed) (octets : List ℕ) (told : List
       response_as (Some at.channel) (Some at.channel) at.tokens (with_merged_back at new [] at.next).tokens (λ (i : ℕ). is_in i at.renewals)
       (λ (i : ℕ). is_in i (with_merged_back at new [] at.next).renewals) p refl
       (nothing_yet (λ ts os us. at.tokens ≡ held_by (latest ts) (at.tokens ++ tokens_of (open_responses os))) (sym (append-nil at.tokens)
-      ∙ ap (λ (t : List ℕ). at.tokens ++ t) (sym nothing_opened)))
+      ∙ rw (sym nothing_opened)))
       (λ i e.
       nothing_yet (λ ts os us. is_in i (filter (λ (j : ℕ). not (is_in j (opened_ids os))) (at.renewals ++ renewals new)) ≡ true)
-      (ap (λ (ids : List ℕ). is_in i (filter (λ (j : ℕ). not (is_in j ids)) (at.renewals ++ renewals new))) no_ids
-      ∙ (ap (is_in i) (all_stay (at.renewals ++ renewals new)) ∙ in_front i at.renewals (renewals new) e))) good
+      (rw no_ids (ap (is_in i) (all_stay (at.renewals ++ renewals new)) ∙ in_front i at.renewals (renewals new) e))) good
 
   pub reads_renewed : ClientReads limits asks (octets ++ frame_octets (opened_frame at.channel at.next id handle token lifetime moment))
       (told ++ event.Renewed token ∷ []) (with_answer at token (next_number at.next))
   reads_renewed =
-      subst (λ (t : List ℕ). ClientReads limits asks (octets ++ t) (told ++ event.Renewed token ∷ []) (with_answer at token (next_number at.next)))
-      (one_octets g)
-      (subst (λ (ts : List ClientTold). ClientReads limits asks (octets ++ frames_octets (g ∷ [])) (told ++ ts) (with_answer at token (next_number at.next)))
-      (ap (λ (k : Content). told_back [] k ++ []) p_carried ∙ ap (λ (a : Option OpenAnswer). map told_renewed (response_listed a) ++ []) p_answers)
+      rw (
+        ← one_octets g,
+        ← ap (λ (k : Content). told_back [] k ++ []) p_carried
+            ∙ ap (λ (a : Option OpenAnswer). map told_renewed (response_listed a) ++ []) p_answers,
+      )
       (reads_frames limits asks octets told at r [] (g ∷ []) (next_number at.next) token (at.tokens ++ token ∷ []) at.pending []
       (record {
         counted = ap (map id_of) no_asks;
@@ -695,16 +616,13 @@ module _ (limits : Limits) (asks : List Placed) (octets : List ℕ) (told : List
         framed = (record { sized = omega (arith, g_size); flag = refl; least = omega (arith, g_size) }, tt);
         fits = (omega (arith, g_size, r.large), tt);
         carries = (
-          subst (MayComeDown (with_merged_back at (asked_before (end_of [] g) []) [] at.next) (at.pending ++ calls (asked_before (end_of [] g) [])))
-              (sym p_carried) (comes_here (asked_before (end_of [] g) [])),
+          rw p_carried (comes_here (asked_before (end_of [] g) [])),
           tt,
         );
-        numbered = subst (λ (ns : List ℕ). NumbersGoOn at.next ns (next_number at.next)) (sym brings.3)
-            (refl, tt, follows_next at.next, next_small at.next r.next_small);
-        merged = subst (AreMerged limits []) (sym brings.1) (record { own_ids = tt; within = λ i m e. absurd cc; merged = refl; few_open = tt });
+        numbered = rw brings.3 (refl, tt, follows_next at.next, next_small at.next r.next_small);
+        merged = rw brings.1 (record { own_ids = tt; within = λ i m e. absurd cc; merged = refl; few_open = tt });
       })
       (ap (λ (ts : List ℕ). held_by (latest ts) (at.tokens ++ tokens_of (open_responses (openings (g ∷ []))))) brings.2
       ∙ ap (λ (t : List ℕ). at.tokens ++ t) p_tokens)
       (ap (latest_or at.newest) p_tokens) (ap (λ (us : List Chunk). filter (λ (i : ℕ). not (is_finished us i)) at.pending) brings.1 ∙ all_stay at.pending)
-      (ap (λ (ids : List ℕ). filter (λ (i : ℕ). not (is_in i ids)) at.renewals) p_ids
-      ∙ (ap (filter (λ (i : ℕ). not (is_in i (id ∷ [])))) one ∙ ap (λ (b : Bool). if not b then id ∷ [] else []) (one_in id (id ∷ []) refl)))))
+      (rw p_ids (ap (filter (λ (i : ℕ). not (is_in i (id ∷ [])))) one ∙ ap (λ (b : Bool). if not b then id ∷ [] else []) (one_in id (id ∷ []) refl))))

@@ -1,8 +1,10 @@
 -- That a client stands as its laws say it behind any good frames, where its channel is open and no message is unfinished.
+use Rattle.std.specs.Prelude.{◌↔◌}
 use Rattle.std.proofs.Common.{◌≡◌, ℕ, ◌<◌, ◌≤◌, ◌^◌, Bool, true, false, IsTrue, ◌||◌, ltb, List, [], ◌∷◌, ◌++◌, Option}
-use Rattle.std.proofs.Common.{Some, None, length, map, refl, sym, ◌∙◌, ap, subst, arith, append-nil, append_assoc}
+use Rattle.std.proofs.Common.{Some, None, length, map, refl, sym, ◌∙◌, ap, arith, append-nil, append_assoc}
 use Rattle.std.specs.List.{AllByRecursion, filter, range_with_len}
 use Rattle.std.proofs.lemmas.Bool.{eqb-true, ltb-false}
+use Rattle.ua_wire.proofs.Readers.{some_is}
 use Rattle.ua_frame.specs.After.{AllAfter, AllFrom}
 use Rattle.ua_frame.specs.Kinds.{lets_in}
 use Rattle.ua_frame.specs.Messages.{ack}
@@ -25,9 +27,10 @@ use Rattle.ua_chunk.specs.declared.chunk.Chunk.{Chunk}
 use Rattle.ua_channel.specs.Asks.{Asking, Placed, asked_before, asked_in, end_of, id_of, is_in, next_id, pending_calls, pending_renewals}
 use Rattle.ua_channel.specs.Client.{ClientStands, InPhase, client_limits, phase_of}
 use Rattle.ua_channel_laws.specs.ClientConversation.{IsGoodAck, IsGoodResponse, MayCarryBack}
-use Rattle.ua_channel_laws.specs.ClientReads.{ClientReads}
+use Rattle.ua_channel_laws.specs.ClientReads.{AtClient, ClientReads, at_client, client_with}
 use Rattle.ua_channel.specs.ClientTable.{client_gate, client_rules, is_awaited, is_outside}
-use Rattle.ua_channel.specs.ClientTokens.{answer_in, first_channel, held_by, held_tokens, opened_ids, open_responses, tokens_of}
+use Rattle.ua_channel.specs.ClientTokens.{answer_in, first_channel, held_by, held_tokens, opened_ids, open_responses}
+use Rattle.ua_channel.specs.ClientTold.{ClientTold}
 use Rattle.ua_channel.specs.Content.{Opening, content, content_by, opening_of, sends}
 use Rattle.ua_channel.specs.Content.Content.{Acks, Opens, Sends}
 use Rattle.ua_channel.specs.Received.{Received, after, latest, or_before, received}
@@ -36,8 +39,7 @@ use Rattle.ua_channel.specs.declared.client.phase.Phase.{Phase}
 use Rattle.ua_channel.specs.declared.client.phase.Phase.TheVariants as phase
 use Rattle.ua_channel.proofs.Askings.{all-push, all_filter, pending_below, renewal_below}
 use Rattle.ua_channel_laws.proofs.ClientConversing.{IsPlaced, converses, no_close, nothing_placed, placed_next}
-use Rattle.ua_channel_laws.proofs.ClientMerges.{held_renewed}
-use Rattle.ua_channel_laws.proofs.ClientTakes.{tokens_used}
+use Rattle.ua_channel_laws.proofs.ClientTakes.{held_renewed, tokens_used}
 use Rattle.ua_channel.proofs.ClientTalks.{no_ids, no_responses, no_tokens, opened_ids-push, responses-push, tokens_of-push}
 use Rattle.ua_channel_laws.proofs.Conversing.{content_kind}
 use Rattle.ua_channel.proofs.HeldTokens.{latest-from_last, latest-push}
@@ -64,18 +66,20 @@ large_within limits a e =
 
 -- ---- what was asked before a place
 
-all_first : (P : Asking → Type 0) (asks : List Placed) → AllByRecursion P (map (λ (a : Placed). a.1) asks) → AllByRecursion (λ (a : Placed). P a.1) asks
-all_first P [] h = tt
-all_first P (a ∷ asks) h = (h.0, all_first P asks h.1)
+pub of_map : {X Y : Type 0} (P : Y → Type 0) (f : X → Y) (xs : List X) → AllByRecursion P (map f xs) → AllByRecursion (λ (x : X). P (f x)) xs
+of_map P f [] all = tt
+of_map P f (x ∷ xs) all = (all.0, of_map P f xs all.1)
 
-all_second : (P : Asking → Type 0) (asks : List Placed) → AllByRecursion (λ (a : Placed). P a.1) asks → AllByRecursion P (map (λ (a : Placed). a.1) asks)
-all_second P [] h = tt
-all_second P (a ∷ asks) h = (h.0, all_second P asks h.1)
+to_map : {X Y : Type 0} (P : Y → Type 0) (f : X → Y) (xs : List X) → AllByRecursion (λ (x : X). P (f x)) xs → AllByRecursion P (map f xs)
+to_map P f [] all = tt
+to_map P f (x ∷ xs) all = (all.0, to_map P f xs all.1)
 
-all_before : (P : Asking → Type 0) (place : ℕ) (asks : List Placed) → AllByRecursion P (asked_in asks) → AllByRecursion P (asked_before place asks)
+-- what holds of all that is asked holds of what is asked before a place
+pub before_all : (P : Asking → Type 0) (place : ℕ) (asks : List Placed) → AllByRecursion P (asked_in asks) → AllByRecursion P (asked_before place asks)
 unfolding asked_in asked_before
-all_before P place asks h =
-    all_second P (filter (λ (a : Placed). ltb a.0 place) asks) (all_filter (λ (a : Placed). P a.1) (λ (a : Placed). ltb a.0 place) asks (all_first P asks h))
+before_all P place asks all =
+    to_map P (λ (a : Placed). a.1) (filter (λ (a : Placed). ltb a.0 place) asks)
+    (all_filter (λ (a : Placed). P a.1) (λ (a : Placed). ltb a.0 place) asks (of_map P (λ (a : Placed). a.1) asks all))
 
 -- ---- tokens
 
@@ -85,15 +89,14 @@ none_of (Some n) = refl
 
 none_held : (b : Received) → open_responses b.openings ≡ [] → held_tokens b ≡ []
 unfolding held_tokens
-none_held b none = ap (λ (rs : List OpenResponse). held_by b.used (tokens_of rs)) none ∙ (ap (held_by b.used) no_tokens ∙ none_of b.used)
+none_held b none = rw none (ap (held_by b.used) no_tokens ∙ none_of b.used)
 
 first_held : (b : Received) (o : Opening) (r : OpenResponse) → answer_in o ≡ Some (Open r) → open_responses b.openings ≡ [] → b.used ≡ None
     → held_tokens (after b (Opens o)) ≡ r.token_id ∷ []
 unfolding held_tokens
 first_held b o r answers none unused =
-    ap (λ (rs : List OpenResponse). held_by b.used (tokens_of rs)) (responses-push b.openings o r answers ∙ ap (λ (rs : List OpenResponse). rs ++ r ∷ []) none)
-    ∙ (ap (λ (u : Option ℕ). held_by u (tokens_of (r ∷ []))) unused
-    ∙ (tokens_of-push [] r ∙ ap (λ (ts : List ℕ). ts ++ r.token_id ∷ []) no_tokens))
+    rw (responses-push b.openings o r answers ∙ ap (λ (rs : List OpenResponse). rs ++ r ∷ []) none, unused) (tokens_of-push [] r
+    ∙ ap (λ (ts : List ℕ). ts ++ r.token_id ∷ []) no_tokens)
 
 -- there is a newest token
 abbrev HasNewest : Received → Type 0
@@ -102,9 +105,9 @@ HasNewest b = (t : ℕ) × (latest (held_tokens b) ≡ Some t)
 -- ---- with a frame more
 
 -- what is so of all that a client took, with request ids below this number
-record Known (n : ℕ) (b : Received) : Type 0 where
-  large : (a : Ack) → b.ack ≡ Some a → 8192 ≤ a.send_buffer_size
-  sized : (a : Ack) → b.ack ≡ Some a → a.send_buffer_size < 2 ^ 32
+pub record Known (n : ℕ) (b : Received) : Type 0 where
+  pub large : (a : Ack) → b.ack ≡ Some a → 8192 ≤ a.send_buffer_size
+  pub sized : (a : Ack) → b.ack ≡ Some a → a.send_buffer_size < 2 ^ 32
   newest : (c : ℕ) → first_channel (open_responses b.openings) ≡ Some c → HasNewest b
   unused : open_responses b.openings ≡ [] → b.used ≡ None
   sent_below : AllByRecursion (λ (c : Chunk). c.request < n) b.messages
@@ -129,8 +132,8 @@ module _ (limits : Limits) (n : ℕ) (least : 2 ≤ n) (asked : List Asking) (be
   agreed : (body : List ℕ) → IsGoodAck limits (whole_of ack body) → Known n (after b (Acks (whole_of ack body)))
   unfolding held_tokens
   agreed body g = record {
-    large = λ a e. subst (λ (x : Ack). 8192 ≤ x.send_buffer_size) (said_is (whole_of ack body) g a e) (large_within limits g.said g.within);
-    sized = λ a e. subst (λ (x : Ack). x.send_buffer_size < 2 ^ 32) (said_is (whole_of ack body) g a e) (small_read body g.said g.reads);
+    large = λ a e. rw (← said_is (whole_of ack body) g a e) (large_within limits g.said g.within);
+    sized = λ a e. rw (← said_is (whole_of ack body) g a e) (small_read body g.said g.reads);
     newest = known.newest;
     unused = known.unused;
     sent_below = known.sent_below;
@@ -155,8 +158,7 @@ module _ (limits : Limits) (n : ℕ) (least : 2 ≤ n) (asked : List Asking) (be
     unused = λ none. absurd (none_behind (open_responses b.openings) g.response (sym (responses-push b.openings o g.response g.answer_is) ∙ none));
     sent_below = known.sent_below;
     opened_below =
-        subst (AllByRecursion (λ (id : ℕ). id < n)) (sym (opened_ids-push b.openings o g.numbered g.numbers_are))
-        (all-push (λ (id : ℕ). id < n) (opened_ids b.openings) g.numbered.1 known.opened_below
+        rw (opened_ids-push b.openings o g.numbered g.numbers_are) (all-push (λ (id : ℕ). id < n) (opened_ids b.openings) g.numbered.1 known.opened_below
         (awaited_below n (open_responses b.openings) (opened_ids b.openings) asked g.numbered.1 least below g.awaited));
   }
 
@@ -206,28 +208,28 @@ nothing_known n =
       newest = λ c e. let never : None ≡ Some c = sym (ap first_channel no_responses) ∙ e in absurd cc;
       unused = λ none. refl;
       sent_below = tt;
-      opened_below = subst (AllByRecursion (λ (id : ℕ). id < n)) (sym no_ids) tt;
+      opened_below = rw no_ids tt;
     })
 
 module _ (limits : Limits) (asks : List Placed) (n : ℕ) (least : 2 ≤ n) (below : AllByRecursion (λ (a : Asking). id_of a < n) (asked_in asks)) where
   known_next : (start : List Frame) (f : Frame) → Known n (received start) → IsTrue (lets_in (client_gate (received start)) f.kind)
       → MayCarryBack limits (received start) (asked_before (end_of start f) asks) (content f) → Known n (received (start ++ f ∷ []))
   known_next start f known place may =
-      subst (Known n) (sym (received-push start f ∙ ap (after (received start)) (content_kind f)))
-      (known_more limits n least (asked_before (end_of start f) asks) (all_before (λ (a : Asking). id_of a < n) (end_of start f) asks below)
+      rw (received-push start f ∙ ap (after (received start)) (content_kind f))
+      (known_more limits n least (asked_before (end_of start f) asks) (before_all (λ (a : Asking). id_of a < n) (end_of start f) asks below)
       (received start) known f f.kind place
-      (subst (MayCarryBack limits (received start) (asked_before (end_of start f) asks)) (content_kind f) may))
+      (rw (← content_kind f) may))
 
   all_from : (start fs : List Frame) → IsPlaced (received start) → Known n (received start) → AllFrom (Fits (client_rules limits asks)) start fs
       → AllFrom (λ us f. MayCarryBack limits (received us) (asked_before (end_of us f) asks) (content f)) start fs
       → IsPlaced (received (start ++ fs)) × Known n (received (start ++ fs))
-  all_from start [] placed known fits may = subst (λ (us : List Frame). IsPlaced (received us) × Known n (received us)) (sym (append-nil start)) (placed, known)
+  all_from start [] placed known fits may = rw (append-nil start) (placed, known)
   all_from start (f ∷ fs) placed known fits may =
-      subst (λ (us : List Frame). IsPlaced (received us) × Known n (received us)) (append_assoc start (f ∷ []) fs)
-      (all_from (start ++ f ∷ []) fs (placed_next limits asks start f placed fits.0.let_in.kind) (known_next start f known fits.0.let_in.kind may.0) fits.1
+      rw (← append_assoc start (f ∷ []) fs) (all_from (start ++ f ∷ []) fs (placed_next limits asks start f placed fits.0.let_in.kind)
+      (known_next start f known fits.0.let_in.kind may.0) fits.1
       may.1)
 
-  all_known : (frames : List Frame) → AllAfter (Fits (client_rules limits asks)) frames → IsPlaced (received frames) × Known n (received frames)
+  pub all_known : (frames : List Frame) → AllAfter (Fits (client_rules limits asks)) frames → IsPlaced (received frames) × Known n (received frames)
   unfolding AllAfter
   all_known frames fits = all_from [] frames (nothing_placed limits asks) (nothing_known n) fits ((converses limits asks frames).0 fits).carries
 
@@ -237,64 +239,103 @@ said_by : (o : Option Ack) (rs : List OpenResponse) (c : ℕ) → (o ≡ None �
 said_by None rs c placed is = let never : None ≡ Some c = sym (ap first_channel (placed refl)) ∙ is in absurd cc
 said_by (Some a) rs c placed is = (a, refl)
 
--- a client stands so behind its frames
-pub reads_run : (limits : Limits) (asks : List Placed) (octets : List ℕ) (frames : List Frame) → Run (client_rules limits asks) octets frames [] Going
-    → AllByRecursion (λ (a : Placed). a.0 ≤ length octets) asks → AllByRecursion (λ (a : Asking). id_of a < next_id (asked_in asks)) (asked_in asks)
-    → (channel : ℕ) → first_channel (open_responses (received frames).openings) ≡ Some channel → open_ids (received frames).messages ≡ []
-    → (next : ℕ) → IsTrue (may_follow (received frames).last next) → next ≤ 4294966272
-    → (said : Ack) × ((received frames).ack ≡ Some said) × (newest : ℕ) × (latest (held_tokens (received frames)) ≡ Some newest)
-    × ClientReads limits asks octets (events (client_rules limits asks) frames)
-    (record {
-      ack = said;
-      channel = channel;
-      tokens = held_tokens (received frames);
-      newest = newest;
-      pending = pending_calls (received frames).messages (asked_in asks);
-      renewals = pending_renewals (opened_ids (received frames).openings) (asked_in asks);
-      next = next;
-    })
-reads_run limits asks octets frames run placed below channel is none next follows small =
+-- the parts of a state
+stated : (o : Option Ack) (c n : Option ℕ) (tokens pending renewals : List ℕ) (next : ℕ) (at : AtClient)
+    → client_with o c n tokens pending renewals next ≡ Some at
+    → (o ≡ Some at.ack) × (c ≡ Some at.channel) × (n ≡ Some at.newest) × (tokens ≡ at.tokens) × (pending ≡ at.pending) × (renewals ≡ at.renewals)
+stated None c n tokens pending renewals next at e = absurd cc
+stated (Some a) None n tokens pending renewals next at e = absurd cc
+stated (Some a) (Some c) None tokens pending renewals next at e = absurd cc
+stated (Some a) (Some c) (Some n) tokens pending renewals next at e =
+    let same =
+    some_is (record { ack = a; channel = c; tokens = tokens; newest = n; pending = pending; renewals = renewals; next = next }) at e in (
+      ap (λ (x : AtClient). Some x.ack) same,
+      ap (λ (x : AtClient). Some x.channel) same,
+      ap (λ (x : AtClient). Some x.newest) same,
+      ap (λ (x : AtClient). x.tokens) same,
+      ap (λ (x : AtClient). x.pending) same,
+      ap (λ (x : AtClient). x.renewals) same,
+    )
+
+-- a client stands behind its frames where they, what it asked and the next number say
+pub reads_at : {limits : Limits} {asks : List Placed} {octets : List ℕ} {told : List ClientTold} {at : AtClient} (frames : List Frame)
+    → Run (client_rules limits asks) octets frames [] Going → AllByRecursion (λ (a : Placed). a.0 ≤ length octets) asks
+    → events (client_rules limits asks) frames ≡ told → at_client (received frames) (asked_in asks) at.next ≡ Some at
+    → AllByRecursion (λ (a : Asking). id_of a < next_id (asked_in asks)) (asked_in asks) → IsTrue (may_follow (received frames).last at.next)
+    → at.next ≤ 4294966272 → open_ids (received frames).messages ≡ [] → ClientReads limits asks octets told at
+reads_at {limits = limits} {asks = asks} {at = at} frames run placed told_is is below follows small none =
+    let known = (all_known limits asks (next_id (asked_in asks)) (omega arith) below frames run.good).1 in
+    let parts = stated (received frames).ack (first_channel (open_responses (received frames).openings)) (latest (held_tokens (received frames)))
+    (held_tokens (received frames)) (pending_calls (received frames).messages (asked_in asks))
+    (pending_renewals (opened_ids (received frames).openings) (asked_in asks)) at.next at is in
+    record {
+      frames = frames;
+      run = run;
+      placed = placed;
+      told_is = told_is;
+      ack_is = parts.0;
+      large = known.large at.ack parts.0;
+      sized = known.sized at.ack parts.0;
+      channel_is = parts.1;
+      tokens_are = parts.3;
+      newest_is = ap latest (sym parts.3) ∙ parts.2;
+      pending_are = parts.4;
+      renewals_are = parts.5;
+      asked_below = below;
+      sent_below = known.sent_below;
+      opened_below = known.opened_below;
+      follows = follows;
+      next_small = small;
+      none_open = none;
+    }
+
+-- and they say it where it stands so
+pub stands_at : {limits : Limits} {asks : List Placed} {octets : List ℕ} {told : List ClientTold} {at : AtClient} (r : ClientReads limits asks octets told at)
+    → at_client (received r.frames) (asked_in asks) at.next ≡ Some at
+stands_at r = rw (r.tokens_are, r.newest_is, r.pending_are, r.renewals_are, r.channel_is, r.ack_is) refl
+
+pub reads_by : (limits : Limits) (asks : List Placed) (octets : List ℕ) (told : List ClientTold) (at : AtClient) → ClientReads limits asks octets told at
+    ↔ ((frames : List Frame) × Run (client_rules limits asks) octets frames [] Going × AllByRecursion (λ (a : Placed). a.0 ≤ length octets) asks
+    × (events (client_rules limits asks) frames ≡ told) × (at_client (received frames) (asked_in asks) at.next ≡ Some at)
+    × AllByRecursion (λ (a : Asking). id_of a < next_id (asked_in asks)) (asked_in asks) × IsTrue (may_follow (received frames).last at.next)
+    × (at.next ≤ 4294966272) × (open_ids (received frames).messages ≡ []))
+reads_by limits asks octets told at = (
+  λ r. (r.frames, r.run, r.placed, r.told_is, stands_at r, r.asked_below, r.follows, r.next_small, r.none_open),
+  λ h. reads_at h.0 h.1 h.2 h.3 h.4 h.5 h.6 h.7 h.8,
+)
+
+-- an open channel has a state
+pub open_at : (limits : Limits) (asks : List Placed) (octets : List ℕ) (frames : List Frame) (channel next : ℕ)
+    → Run (client_rules limits asks) octets frames [] Going → AllByRecursion (λ (a : Asking). id_of a < next_id (asked_in asks)) (asked_in asks)
+    → first_channel (open_responses (received frames).openings) ≡ Some channel → (at : AtClient) × (at_client (received frames) (asked_in asks) next ≡ Some at)
+open_at limits asks octets frames channel next run below is =
     let all = all_known limits asks (next_id (asked_in asks)) (omega arith) below frames run.good in
     let a = said_by (received frames).ack (open_responses (received frames).openings) channel all.0 is in
     let t = all.1.newest channel is in (
-      a.0,
-      a.1,
-      t.0,
-      t.1,
       record {
-        frames = frames;
-        run = run;
-        placed = placed;
-        told_is = refl;
-        ack_is = a.1;
-        large = all.1.large a.0 a.1;
-        sized = all.1.sized a.0 a.1;
-        channel_is = is;
-        tokens_are = refl;
-        newest_is = t.1;
-        pending_are = refl;
-        renewals_are = refl;
-        asked_below = below;
-        sent_below = all.1.sent_below;
-        opened_below = all.1.opened_below;
-        follows = follows;
-        next_small = small;
-        none_open = none;
+        ack = a.0;
+        channel = channel;
+        tokens = held_tokens (received frames);
+        newest = t.0;
+        pending = pending_calls (received frames).messages (asked_in asks);
+        renewals = pending_renewals (opened_ids (received frames).openings) (asked_in asks);
+        next = next;
       },
+      simp (a.1, is, t.1),
     )
 
 -- ---- the asks of a channel
 
 own_below : (limits : Limits) (p : Phase) (b : Received) (asked : List Asking) → InPhase limits p b asked
     → AllByRecursion (λ (a : Asking). id_of a < next_id asked) asked
-own_below limits phase.Waiting b asked h = subst (λ (ss : List Asking). AllByRecursion (λ (a : Asking). id_of a < next_id ss) ss) (sym h.1) tt
-own_below limits (phase.Agreed g) b asked h = subst (λ (ss : List Asking). AllByRecursion (λ (a : Asking). id_of a < next_id ss) ss) (sym h.1) tt
-own_below limits (phase.Open t) b asked h = subst (λ (m : ℕ). AllByRecursion (λ (a : Asking). id_of a < m) asked) h.next_is h.asked_below
+own_below limits phase.Waiting b asked h = rw h.1 tt
+own_below limits (phase.Agreed g) b asked h = rw h.1 tt
+own_below limits (phase.Open t) b asked h = rw (← h.next_is) h.asked_below
 own_below limits phase.Done b asked h = absurd h
 
 own_counted : (limits : Limits) (p : Phase) (b : Received) (asked : List Asking) → InPhase limits p b asked → map id_of asked ≡ range_with_len 2 (length asked)
-own_counted limits phase.Waiting b asked h = subst (λ (ss : List Asking). map id_of ss ≡ range_with_len 2 (length ss)) (sym h.1) refl
-own_counted limits (phase.Agreed g) b asked h = subst (λ (ss : List Asking). map id_of ss ≡ range_with_len 2 (length ss)) (sym h.1) refl
+own_counted limits phase.Waiting b asked h = rw h.1 refl
+own_counted limits (phase.Agreed g) b asked h = rw h.1 refl
 own_counted limits (phase.Open t) b asked h = h.counted
 own_counted limits phase.Done b asked h = absurd h
 

@@ -1,5 +1,5 @@
 -- What a client sends between two messages, and behind calls more, by what it received and asked.
-use Rattle.std.proofs.Common.{◌≡◌, ℕ, ◌+◌, ◌<◌, List, [], ◌∷◌, ◌++◌, Bool, false, Some, None, length, refl}
+use Rattle.std.proofs.Common.{◌≡◌, ℕ, ◌+◌, ◌<◌, List, [], ◌∷◌, ◌++◌, false, Some, None, length, refl}
 use Rattle.std.proofs.Common.{sym, ◌∙◌, ap, subst, arith, append-nil, append_assoc, length-append, map}
 use Rattle.std.specs.Prelude.{is_none}
 use Rattle.std.specs.List.{AllByRecursion}
@@ -19,7 +19,7 @@ use Rattle.ua_channel.specs.Asks.{Placed, asked_in, next_id, pending_calls, pend
 use Rattle.ua_channel.specs.Asks.Asking.{Call}
 use Rattle.ua_channel.specs.Client.{InPhase, IsCall, IsClosing, IsRenewal, ClientStands, ask_refusal}
 use Rattle.ua_channel.specs.Client.{close_refusal, client_limits, phase_of, renew_refusal, client_rules_of}
-use Rattle.ua_channel.specs.ClientAsks.{call_lane, call_reasons, has_no_channel, is_too_large, reasons_of_call, reasons_of_renewal, renewing_reasons, room_of}
+use Rattle.ua_channel.specs.ClientAsks.{call_reasons, has_no_channel, is_too_large, reasons_of_call, reasons_of_renewal, renewing_reasons, room_of}
 use Rattle.ua_channel_laws.specs.ClientReads.{AtClient, ClientReads, lane_from}
 use Rattle.ua_channel.specs.ClientSends.{close_frame, renewal_frame}
 use Rattle.ua_channel.specs.ClientTable.{of_ack}
@@ -50,7 +50,7 @@ module _ (place : ℕ) where
   step_asked asks body bodies =
       let one : Placed = (place, Call (next_id (asked_in asks))) in
       sym (append_assoc asks (one ∷ []) (asks_at place (next_id (asked_in asks) + 1) (map CallWith bodies)))
-      ∙ ap (λ (n : ℕ). (asks ++ one ∷ []) ++ asks_at place n (map CallWith bodies)) (sym (next-append asks (one ∷ [])))
+      ∙ rw (sym (next-append asks (one ∷ [])))
 
   pending_later : (ms : List Chunk) (bodies : List (List ℕ)) (asks : List Placed) → AllByRecursion (λ (c : Chunk). c.request < next_id (asked_in asks)) ms
       → length (pending_calls ms (asked_in (asks ++ asks_at place (next_id (asked_in asks)) (map CallWith bodies)))) ≡ length (pending_calls ms (asked_in asks))
@@ -89,9 +89,7 @@ judged_later x y asks octets frames rest bodies body s t =
     let next : next_id (asked_in asks) + length bodies ≡ next_id (asked_in later) + 0 =
     omega (arith, next-asks asks (length octets) (next_id (asked_in asks)) (map CallWith bodies), length-map bodies CallWith) in
     call_judged (client_limits x) before (asked_in asks) (phase_of x) (length bodies) body s.phase_is
-    ∙ (ap (λ (n : ℕ). first_reason ((NotOpen, none) ∷ reasons_of_call n (next_id (asked_in asks) + length bodies) large)) pending
-    ∙ (ap (λ (n : ℕ). first_reason ((NotOpen, none) ∷ reasons_of_call (length (pending_calls before.messages (asked_in later)) + 0) n large)) next
-    ∙ sym (call_judged (client_limits y) before (asked_in later) (phase_of y) 0 body t.phase_is)))
+    ∙ (rw pending (rw next (sym (call_judged (client_limits y) before (asked_in later) (phase_of y) 0 body t.phase_is))))
 
 -- ---- between two messages
 
@@ -122,36 +120,31 @@ module _ (x : ClientChannel) (asks : List Placed) (octets : List ℕ) (frames : 
   sends_call number body id out next is =
       let c = call_sent (client_limits x) before (asked_in asks) (phase_of x) number body id out next in_phase is in (
         c.id_is,
-        c.out_is ∙ (ap (λ (a : Ack). chunks_octets (chunks_of (call_lane a c.channel c.newest) body number id)) (same_ack c.ack c.is_open.ack_is)
-            ∙ (ap (λ (n : ℕ). chunks_octets (chunks_of (call_lane at.ack n c.newest) body number id)) (same_channel c.channel c.is_open.channel_is)
-            ∙ ap (λ (n : ℕ). chunks_octets (chunks_of (call_lane at.ack at.channel n) body number id)) (same_newest c.newest c.is_open.newest_is))),
-        c.next_is ∙ ap (λ (a : Ack). number_after number (pieces (room_of a) body)) (same_ack c.ack c.is_open.ack_is),
+        c.out_is
+            ∙ (rw (same_ack c.ack c.is_open.ack_is)
+            (rw (same_channel c.channel c.is_open.channel_is, same_newest c.newest c.is_open.newest_is))),
+        c.next_is ∙ rw (same_ack c.ack c.is_open.ack_is),
       )
 
   pub sends_renewal : (number : ℕ) (moment : DateTime) (id : ℕ) (out : List ℕ) (next : ℕ) → IsRenewal (phase_of x) number moment id out next
       → (id ≡ next_id (asked_in asks)) × (out ≡ frame_octets (renewal_frame at.channel number id moment)) × (next ≡ next_number number)
   sends_renewal number moment id out next is =
       let c = renewal_sent (client_limits x) before (asked_in asks) (phase_of x) number moment id out next in_phase is in
-      (c.id_is, c.out_is ∙ ap (λ (n : ℕ). frame_octets (renewal_frame n number id moment)) (same_channel c.channel c.channel_is), c.next_is)
+      (c.id_is, c.out_is ∙ rw (same_channel c.channel c.channel_is), c.next_is)
 
   pub sends_closing : (number : ℕ) (moment : DateTime) (out : List ℕ) → IsClosing (phase_of x) number moment out
       → out ≡ frame_octets (close_frame at.channel at.newest number (next_id (asked_in asks)) moment)
   sends_closing number moment out is =
       let c = close_sent (client_limits x) before (asked_in asks) (phase_of x) number moment out in_phase is in
       c.out_is
-      ∙ (ap (λ (n : ℕ). frame_octets (close_frame n c.newest number (next_id (asked_in asks)) moment)) (same_channel c.channel c.channel_is)
-      ∙ ap (λ (n : ℕ). frame_octets (close_frame at.channel n number (next_id (asked_in asks)) moment)) (same_newest c.newest c.newest_is))
+      ∙ (rw (same_channel c.channel c.channel_is, same_newest c.newest c.newest_is))
 
   same_reasons : (more : ℕ) (body : List ℕ) → first_reason (call_reasons before (asked_in asks) more body)
       ≡ first_reason (reasons_of_call (length at.pending + more) (next_id (asked_in asks) + more) (is_too_large at.ack body))
   same_reasons more body =
       first_skip NotOpen (has_no_channel (received r.frames)) (reasons_of_call (length (pending_calls (received r.frames).messages (asked_in asks)) + more)
       (next_id (asked_in asks) + more) (of_ack (λ (a : Ack). is_too_large a body) (received r.frames).ack)) there
-      ∙ (ap (λ (n : ℕ).
-      first_reason (reasons_of_call (n + more) (next_id (asked_in asks) + more) (of_ack (λ (a : Ack). is_too_large a body) (received r.frames).ack)))
-      (ap length r.pending_are)
-      ∙ ap (λ (b : Bool). first_reason (reasons_of_call (length at.pending + more) (next_id (asked_in asks) + more) b))
-      (ap (of_ack (λ (a : Ack). is_too_large a body)) r.ack_is))
+      ∙ (rw (ap length r.pending_are, ap (of_ack (λ (a : Ack). is_too_large a body)) r.ack_is))
 
   pub refuses_call : (more : ℕ) (body : List ℕ)
       → ask_refusal (phase_of x) more body
@@ -164,9 +157,7 @@ module _ (x : ClientChannel) (asks : List Placed) (octets : List ℕ) (frames : 
       first_skip NotOpen (has_no_channel (received r.frames))
       (reasons_of_renewal (has_some (pending_renewals (opened_ids (received r.frames).openings) (asked_in asks))) (length (held_tokens (received r.frames)))
       (next_id (asked_in asks))) there
-      ∙ (ap (λ (ids : List ℕ). first_reason (reasons_of_renewal (has_some ids) (length (held_tokens (received r.frames))) (next_id (asked_in asks))))
-      r.renewals_are
-      ∙ ap (λ (ns : List ℕ). first_reason (reasons_of_renewal (has_some at.renewals) (length ns) (next_id (asked_in asks)))) r.tokens_are)
+      ∙ (rw (r.renewals_are, r.tokens_are))
 
   pub refuses_renewal : renew_refusal (phase_of x) ≡ first_reason (reasons_of_renewal (has_some at.renewals) (length at.tokens) (next_id (asked_in asks)))
   refuses_renewal = renewal_judged (client_limits x) before (asked_in asks) (phase_of x) in_phase ∙ same_renew_reasons

@@ -1,6 +1,6 @@
 -- That both ends stay connected behind rounds of what a client sends and a server answers.
 use Rattle.std.proofs.Common.{◌≡◌, ℕ, ◌<◌, ◌≤◌, ◌^◌, IsTrue, List, [], ◌∷◌, ◌++◌, Option, length, refl}
-use Rattle.std.proofs.Common.{sym, ◌∙◌, ap, subst, arith, append-nil, append_assoc, length-append}
+use Rattle.std.proofs.Common.{sym, ◌∙◌, arith, append-nil, append_assoc, length-append}
 use Rattle.ua_builtin.specs.DateTime.{date_time}
 use Rattle.ua_builtin.specs.declared.date_time.DateTime.{DateTime}
 use Rattle.ua_frame.specs.Agreement.{ack_to, url_length}
@@ -14,7 +14,7 @@ use Rattle.ua_channel_laws.specs.ClientReads.{ClientReads, IsAnswered, opened_at
 use Rattle.ua_channel.specs.ClientSends.{first_open, hello_frame, hello_to}
 use Rattle.ua_channel.specs.ClientTold.{ClientTold, ClientTold as heard}
 use Rattle.ua_channel_laws.specs.InStep.{AreInStep}
-use Rattle.ua_channel_laws.specs.Outgoing.{asks_at, client_behind, outgoing_told}
+use Rattle.ua_channel_laws.specs.Outgoing.{asks_at, outgoing_told}
 use Rattle.ua_channel_laws.specs.Rounds.{AreConnected, AreRounds, BothEnds, IsRound, Round, answers_lane, both_sent, round_behind}
 use Rattle.ua_channel_laws.specs.Rounds.{round_down, round_up, rounds_asks, rounds_behind, rounds_down, rounds_heard, rounds_told, rounds_up}
 use Rattle.ua_channel_laws.specs.ServerReads.{ServerReads, greeted_at, with_token}
@@ -60,11 +60,7 @@ module _ (server client : Limits) (url : Option (List ℕ)) (channel : ℕ) (on 
       → asks ≡ asks' → down ≡ down' → hs ≡ hs'
       → Connected at up ts asks down hs → Connected at up' ts' asks' down' hs'
   connected_as at {up = up} {up' = up'} {down = down} {down' = down'} {ts = ts} {ts' = ts'} {asks = asks} {asks' = asks'} {hs = hs} {hs' = hs'} a b c d e h =
-      subst (λ (x : List ℕ). Connected at x ts' asks' down' hs') a
-      (subst (λ (x : List Told). Connected at up x asks' down' hs') b
-      (subst (λ (x : List Placed). Connected at up ts x down' hs') c
-      (subst (λ (x : List ℕ). Connected at up ts asks x hs') d
-      (subst (λ (x : List ClientTold). Connected at up ts asks down x) e h))))
+      rw (← a, ← b, ← c, ← d, ← e) h
 
   -- one round
   module _ (up : List ℕ) (ts : List Told) (asks : List Placed) (down : List ℕ) (hs : List ClientTold) (at : BothEnds) (r : Round)
@@ -77,8 +73,7 @@ module _ (server client : Limits) (url : Option (List ℕ)) (channel : ℕ) (on 
 
     asked : ClientReads client (asks ++ asks_at (length down) at.id r.outgoing) down hs (both_sent at r.outgoing).client
     asked =
-        subst (λ (id : ℕ). ClientReads client (asks ++ asks_at (length down) id r.outgoing) down hs (client_behind at.client id r.outgoing)) (sym k.id_is)
-        (asks_outgoing client down hs asks at.client r.outgoing k.client_reads)
+        rw k.id_is (asks_outgoing client down hs asks at.client r.outgoing k.client_reads)
 
     connected_round : Connected (round_behind server channel at r) (up ++ round_up at r)
         (ts ++ outgoing_told at.client.newest at.server.issued at.id r.outgoing) (asks ++ asks_at (length down) at.id r.outgoing)
@@ -109,7 +104,7 @@ module _ (server client : Limits) (url : Option (List ℕ)) (channel : ℕ) (on 
       connected_as (rounds_behind server channel now rs) (append_assoc up (round_up at r) (rounds_up server channel now rs))
       (append_assoc ts (outgoing_told at.client.newest at.server.issued at.id r.outgoing) (rounds_told server channel now rs))
       (append_assoc asks asked_here (rounds_asks server channel (length (down ++ out)) now rs)
-      ∙ ap (λ (place : ℕ). asks ++ (asked_here ++ rounds_asks server channel place now rs)) (length-append down out))
+      ∙ rw (length-append down out))
       (append_assoc down out (rounds_down server channel now rs))
       (append_assoc hs (answers_told (answers_lane server channel at r.outgoing) r.answers) (rounds_heard server channel now rs))
       (connected_rounds (up ++ round_up at r) (ts ++ outgoing_told at.client.newest at.server.issued at.id r.outgoing) (asks ++ asked_here) (down ++ out)

@@ -225,15 +225,15 @@ module _ {E X A : Type 0} (R : Rules E X) (limits : Limits) (name : Frame → A)
       let now = received-push start f in
       record {
         order = (w.in_order start f (map name fs) one.goes_on placed g.carries).comes one.let_in.kind
-            (subst (λ (b : Received). Order b (map name fs)) now rest.order);
+            (rw (← now) rest.order);
         framed = (record { sized = one.sized; flag = one.let_in.flag; least = one.let_in.least }, rest.framed);
         fits = (omega (arith, one.let_in.largest, w.largest start), rest.fits);
         carries = (g.carries, rest.carries);
         ordered = (ordered_apart (received start) (content f) (numbers fs)).1
-            (g.ordered, subst (λ (b : Received). AreOrdered b.last (numbers fs)) now rest.ordered);
+            (g.ordered, rw (← now) rest.ordered);
         messages_fit =
             (messages_apart limits (received start) (content f) (messages fs)).1
-            (g.message, subst (λ (b : Received). TakesMessages limits.max_message_size limits.max_chunk_count b.messages (messages fs)) now rest.messages_fit);
+            (g.message, rw (← now) rest.messages_fit);
       }
 
   -- and the other way round
@@ -253,12 +253,12 @@ module _ {E X A : Type 0} (R : Rules E X) (limits : Limits) (name : Frame → A)
           accepted = w.accepted start f (record { carries = c.carries.0; ordered = number.0; message = message.0 });
         },
         taken (start ++ f ∷ []) fs (w.placed start f placed next.0) (record {
-          order = subst (λ (b : Received). Order b (map name fs)) (sym now) next.1;
+          order = rw now next.1;
           framed = c.framed.1;
           fits = c.fits.1;
           carries = c.carries.1;
-          ordered = subst (λ (b : Received). AreOrdered b.last (numbers fs)) (sym now) number.1;
-          messages_fit = subst (λ (b : Received). TakesMessages limits.max_message_size limits.max_chunk_count b.messages (messages fs)) (sym now) message.1;
+          ordered = rw now number.1;
+          messages_fit = rw now message.1;
         }),
       )
 
@@ -268,5 +268,4 @@ ordered_first ns = (subst (λ (b : Received). AreOrdered b.last ns) received-nil
 
 pub fit_first : (limits : Limits) (cs : List Chunk) → TakesMessages limits.max_message_size limits.max_chunk_count (received []).messages cs ↔ FitMessages
     limits cs
-fit_first limits cs = subst (λ (b : Received). TakesMessages limits.max_message_size limits.max_chunk_count b.messages cs ↔ FitMessages limits cs)
-    (sym received-nil) (messages_fit limits cs)
+fit_first limits cs = rw received-nil (messages_fit limits cs)

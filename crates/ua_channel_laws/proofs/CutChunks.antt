@@ -1,7 +1,7 @@
 -- What the frames of the chunks of one message bring, and that these chunks are a merge of that message alone.
 use Rattle.std.proofs.Common.{◌≡◌, ℕ, ◌+◌, ◌<◌, ◌≤◌, ◌^◌, Bool, true, false, ◌&&◌, ◌||◌, eqb, List, []}
-use Rattle.std.proofs.Common.{◌∷◌, ◌++◌, Option, Some, length, map, refl, sym, ◌∙◌, ap, subst, arith}
-use Rattle.std.specs.List.{AllByRecursion, flat_map}
+use Rattle.std.proofs.Common.{◌∷◌, ◌++◌, Option, Some, length, map, refl, sym, ◌∙◌, ap, arith}
+use Rattle.std.specs.List.{AllByRecursion}
 use Rattle.std.specs.Prelude.{if◌then◌else◌}
 use Rattle.ua_frame.specs.Frames.{frame_size}
 use Rattle.ua_frame.specs.declared.frame.Frame.{Frame}
@@ -9,11 +9,10 @@ use Rattle.ua_frame.specs.declared.limits.Limits.{Limits}
 use Rattle.ua_chunk.specs.Cutting.{chunks_of, number_after, numbered, pieces}
 use Rattle.ua_chunk.specs.Layout.{frame_of}
 use Rattle.ua_chunk.specs.Merge.{Interleaves, Interleaves as interleaves, IsMessageWithin, Merges, Part, Sent}
-use Rattle.ua_chunk.specs.Merge.{more_part, part_of, parts_of, HaveOwnIds, bodies_by, sent_under}
-use Rattle.ua_chunk.specs.Refusal.{passes, FewOpen}
+use Rattle.ua_chunk.specs.Merge.{more_part, part_of, parts_of, HaveOwnIds, sent_under}
+use Rattle.ua_chunk.specs.Refusal.{FewOpen}
 use Rattle.ua_chunk.specs.Sequence.{may_follow, next_number}
 use Rattle.ua_chunk.specs.declared.chunk.Chunk.{Chunk}
-use Rattle.ua_chunk.specs.declared.flag.Flag.{Flag}
 use Rattle.ua_chunk.specs.declared.flag.Flag.TheVariants.{F, A}
 use Rattle.ua_chunk.specs.Flag.{is_more_flag}
 use Rattle.ua_chunk.specs.declared.lane.Lane.{Lane}
@@ -21,10 +20,9 @@ use Rattle.ua_chunk.proofs.CutLaws.{cut_messages, follows_next}
 use Rattle.ua_chunk.proofs.Fresh.{some_pieces}
 use Rattle.ua_chunk.proofs.Pieces.{joined_pieces}
 use Rattle.ua_channel.specs.Asks.{is_finished}
-use Rattle.ua_channel.specs.Content.{Content}
 use Rattle.ua_channel_laws.specs.Conversation.{AreOrdered, IsFramed}
 use Rattle.ua_channel_laws.specs.Merges.{AreMerged, IsCutBody, NumbersGoOn, latest_or}
-use Rattle.ua_channel.specs.Received.{chunks_in, latest_behind, messages, numbers, numbers_in, openings, openings_in, tokens_in, used_tokens}
+use Rattle.ua_channel.specs.Received.{latest_behind, messages, numbers, openings, used_tokens}
 use Rattle.ua_channel_laws.specs.ServerReads.{IsBodyFor}
 use Rattle.ua_channel.proofs.Askings.{and_false, and_true, eqb_sym, or_false, all-weaken}
 use Rattle.ua_channel_laws.proofs.Conversing.{messages_fit}
@@ -65,26 +63,23 @@ module _ (size : ℕ) (lane : Lane) (id : ℕ) where
   pub frames_messages : (cs : List Chunk) → AreSentIn cs → messages (map frame_of cs) ≡ cs
   unfolding messages
   frames_messages [] s = refl
-  frames_messages (c ∷ cs) s = ap (λ (k : Content). chunks_in k ++ messages (map frame_of cs)) (chunk_carried c s.0.numbers)
-      ∙ ap (λ (us : List Chunk). c ∷ us) (frames_messages cs s.1)
+  frames_messages (c ∷ cs) s = rw (chunk_carried c s.0.numbers, frames_messages cs s.1)
 
   pub frames_openings : (cs : List Chunk) → AreSentIn cs → openings (map frame_of cs) ≡ []
   unfolding openings
   frames_openings [] s = refl
-  frames_openings (c ∷ cs) s = ap (λ (k : Content). openings_in k ++ openings (map frame_of cs)) (chunk_carried c s.0.numbers) ∙ frames_openings cs s.1
+  frames_openings (c ∷ cs) s = rw (chunk_carried c s.0.numbers) (frames_openings cs s.1)
 
   pub frames_numbers : (cs : List Chunk) → AreSentIn cs → numbers (map frame_of cs) ≡ map (λ (c : Chunk). c.sequence) cs
   unfolding numbers
   frames_numbers [] s = refl
-  frames_numbers (c ∷ cs) s = ap (λ (k : Content). numbers_in k ++ numbers (map frame_of cs)) (chunk_carried c s.0.numbers)
-      ∙ ap (λ (ns : List ℕ). c.sequence ∷ ns) (frames_numbers cs s.1)
+  frames_numbers (c ∷ cs) s = rw (chunk_carried c s.0.numbers, frames_numbers cs s.1)
 
   pub frames_tokens : (cs : List Chunk) → AreSentIn cs → used_tokens (map frame_of cs) ≡ map (λ (c : Chunk). lane.token) cs
   unfolding used_tokens
   frames_tokens [] s = refl
   frames_tokens (c ∷ cs) s =
-      ap (λ (k : Content). tokens_in k ++ used_tokens (map frame_of cs)) (chunk_carried c s.0.numbers)
-      ∙ (ap (λ (t : ℕ). t ∷ used_tokens (map frame_of cs)) s.0.token_is ∙ ap (λ (ts : List ℕ). lane.token ∷ ts) (frames_tokens cs s.1))
+      rw (chunk_carried c s.0.numbers) (rw (s.0.token_is, frames_tokens cs s.1))
 
   pub frames_framed : (cs : List Chunk) → size < 2 ^ 32 → AreSentIn cs → AllByRecursion IsFramed (map frame_of cs)
   frames_framed [] small s = tt
@@ -127,7 +122,7 @@ ends_own id i = or_false (eqb id i && true) ∙ (and_true (eqb id i) ∙ eqb_sym
 pub cut_finished : (lane : Lane) (s id i : ℕ) (p : List ℕ) (ps : List (List ℕ)) → is_finished (numbered lane s id (p ∷ ps)) i ≡ eqb i id
 cut_finished lane s id i p [] = ends_own id i
 cut_finished lane s id i p (q ∷ qs) =
-    ap (λ (b : Bool). b || is_finished (numbered lane (next_number s) id (q ∷ qs)) i) (and_false (eqb id i)) ∙ cut_finished lane (next_number s) id i q qs
+    rw (and_false (eqb id i)) (cut_finished lane (next_number s) id i q qs)
 
 -- pieces as the first of them and the last
 record Split (ps : List (List ℕ)) : Type 0 where
@@ -139,20 +134,20 @@ split : (p : List ℕ) (ps : List (List ℕ)) → Split (p ∷ ps)
 split p [] = record { front = []; last = p; are = refl }
 split p (q ∷ qs) =
     let s = split q qs in
-    record { front = p ∷ s.front; last = s.last; are = ap (λ (t : List (List ℕ)). p ∷ t) s.are }
+    record { front = p ∷ s.front; last = s.last; are = rw s.are }
 
 cut_parts : (lane : Lane) (s id : ℕ) (front : List (List ℕ)) (last : List ℕ)
     → map part_of (numbered lane s id (front ++ last ∷ [])) ≡ map (more_part id) front ++ record { flag = F; request = id; body = last } ∷ []
 cut_parts lane s id [] last = refl
 cut_parts lane s id (p ∷ []) last = refl
-cut_parts lane s id (p ∷ (q ∷ ps)) last = ap (λ (zs : List Part). more_part id p ∷ zs) (cut_parts lane (next_number s) id (q ∷ ps) last)
+cut_parts lane s id (p ∷ (q ∷ ps)) last = rw (cut_parts lane (next_number s) id (q ∷ ps) last)
 
 all_left : {X : Type 0} (xs : List X) → Interleaves xs [] xs
 all_left [] = interleaves.none
 all_left (x ∷ xs) = interleaves.left (all_left xs)
 
 pub one_merge : (m : Sent) (zs : List Part) → zs ≡ parts_of m → Merges (map parts_of (m ∷ [])) zs
-one_merge m zs e = ([], refl, subst (λ (t : List Part). Interleaves (parts_of m) [] t) (sym e) (all_left (parts_of m)))
+one_merge m zs e = ([], refl, rw e (all_left (parts_of m)))
 
 -- a body that is cut is within the limits
 cut_within : (limits : Limits) (m : Sent) → IsCutBody limits m → IsMessageWithin limits.max_message_size limits.max_chunk_count m
@@ -160,12 +155,9 @@ cut_within limits m c = record {
   ending = ap is_more_flag c.ends;
   readable = λ f. let clash : F ≡ A = sym c.ends ∙ f in absurd cc;
   octets_fit =
-      ap (λ (f : Flag). passes limits.max_message_size (length (flat_map (λ p. p) (bodies_by f m)))) c.ends
-      ∙ (ap (λ (t : List (List ℕ)). passes limits.max_message_size (length (flat_map (λ p. p) t))) (sym c.pieces_are)
-      ∙ (ap (λ (t : List ℕ). passes limits.max_message_size (length t)) (joined_pieces c.room c.body c.some_room c.fits.some) ∙ c.fits.octets_fit));
+      rw (c.ends, sym c.pieces_are) (rw (joined_pieces c.room c.body c.some_room c.fits.some) c.fits.octets_fit);
   chunks_fit =
-      ap (λ (f : Flag). passes limits.max_chunk_count (length (bodies_by f m))) c.ends
-      ∙ (ap (λ (t : List (List ℕ)). passes limits.max_chunk_count (length t)) (sym c.pieces_are) ∙ c.fits.chunks_fit);
+      rw c.ends (rw (sym c.pieces_are) c.fits.chunks_fit);
 }
 
 -- what holds of each message holds of that under a request id
@@ -174,7 +166,7 @@ all_under P [] all id m e = absurd cc
 all_under P (n ∷ ms) all id m e = by_id (eqb n.request id) e (λ f. all_under P ms all.1 id m f)
   where
     by_id : (b : Bool) → (if b then Some n else sent_under id ms) ≡ Some m → (sent_under id ms ≡ Some m → P m) → P m
-    by_id true f rest = let same : n ≡ m = cc in subst P same all.0
+    by_id true f rest = let same : n ≡ m = cc in rw (← same) all.0
     by_id false f rest = rest f
 
 -- bodies that are cut, whose chunks come merged
@@ -192,9 +184,8 @@ cut_merged limits ms cs all own merges few = record {
 pub cut_sent : (lane : Lane) (body : List ℕ) (s : ℕ) (m : Sent) → pieces lane.room body ≡ m.pieces ++ m.last ∷ [] → m.end ≡ F
     → map part_of (chunks_of lane body s m.request) ≡ parts_of m
 cut_sent lane body s m are end =
-    ap (λ (t : List (List ℕ)). map part_of (numbered lane s m.request t)) are
-    ∙ (cut_parts lane s m.request m.pieces m.last
-    ∙ ap (λ (f : Flag). map (more_part m.request) m.pieces ++ record { flag = f; request = m.request; body = m.last } ∷ []) (sym end))
+    rw are (cut_parts lane s m.request m.pieces m.last
+    ∙ rw (sym end))
 
 -- a message that is a merge alone
 pub record Alone (limits : Limits) (id : ℕ) (cs : List Chunk) : Type 0 where

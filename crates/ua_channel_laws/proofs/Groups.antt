@@ -1,6 +1,6 @@
 -- What a client sends at once, and what a server answers to it, one message after the other.
 use Rattle.std.proofs.Common.{◌≡◌, ℕ, ◌+◌, ◌<◌, ◌≤◌, ◌^◌, Bool, true, false, leb, IsTrue, List, [], ◌∷◌, ◌++◌, Option}
-use Rattle.std.proofs.Common.{Some, None, length, map, refl, sym, ◌∙◌, ap, subst, arith, append-nil, append_assoc}
+use Rattle.std.proofs.Common.{Some, None, length, map, refl, sym, ◌∙◌, arith, append-nil, append_assoc}
 use Rattle.std.specs.Prelude.{if◌then◌else◌}
 use Rattle.std.specs.List.{AllByRecursion}
 use Rattle.std.proofs.lemmas.Bool.{leb-false}
@@ -56,10 +56,10 @@ or_none (Some x) p e = absurd cc
 behind_one : {A B : Type 0} (P : List A → List B → Type 0) (xs one others : List A) (bs : List B) (b : B) (cs : List B)
     → P ((xs ++ one) ++ others) ((bs ++ b ∷ []) ++ cs) → P (xs ++ (one ++ others)) (bs ++ (b ∷ cs))
 behind_one P xs one others bs b cs h =
-    subst (λ o. P o (bs ++ (b ∷ cs))) (append_assoc xs one others) (subst (λ t. P ((xs ++ one) ++ others) t) (append_assoc bs (b ∷ []) cs) h)
+    rw (← append_assoc xs one others, ← append_assoc bs (b ∷ []) cs) h
 
 behind_none : {A B : Type 0} (P : List A → List B → Type 0) (xs : List A) (bs : List B) → P xs bs → P (xs ++ []) (bs ++ [])
-behind_none P xs bs h = subst (λ o. P o (bs ++ [])) (sym (append-nil xs)) (subst (λ t. P xs t) (sym (append-nil bs)) h)
+behind_none P xs bs h = rw (append-nil xs, append-nil bs) h
 
 -- ---- what a client sends, at the server
 
@@ -99,7 +99,7 @@ no_fewer issued (RenewalAt moment ∷ os) = let more = no_fewer (issued + 1) os 
 pub none_told : (token issued other id : ℕ) (bodies : List (List ℕ)) → outgoing_told token issued id (map CallWith bodies) ≡ outgoing_told token other id
     (map CallWith bodies)
 none_told token issued other id [] = refl
-none_told token issued other id (body ∷ bodies) = ap (λ (ts : List Told). Asked id token body ∷ ts) (none_told token issued other (id + 1) bodies)
+none_told token issued other id (body ∷ bodies) = rw (none_told token issued other (id + 1) bodies)
 
 -- by calls none is
 pub none_issued : (issued : ℕ) (bodies : List (List ℕ)) → issued_behind issued (map CallWith bodies) ≡ issued
@@ -143,9 +143,7 @@ module _ (server client : Limits) (url : Option (List ℕ)) (channel : ℕ) (on 
       let now : AtServer = with_token s in
       let opn : List ℕ = frame_octets (renewal_frame c.channel s.next id moment) in
       let read : Reads now (octets ++ opn) (told ++ Opened id 0 (s.issued + 1) 3600000 ∷ []) =
-      subst (λ (k : ℕ). Reads now (octets ++ frame_octets (renewal_frame k s.next id moment)) (told ++ Opened id 0 (s.issued + 1) 3600000 ∷ []))
-      (sym t.channel_is)
-      (reads_renewal server channel octets told s id moment r some (omega (arith, few, one_more)) on (omega (arith, can.0)) can.1) in
+      rw t.channel_is (reads_renewal server channel octets told s id moment r some (omega (arith, few, one_more)) on (omega (arith, can.0)) can.1) in
       let rest = reads_sendable (octets ++ opn) (told ++ Opened id 0 (s.issued + 1) 3600000 ∷ []) now (with_renewal c id) (id + 1) os read
       (in_step_renewal server client url channel s c t id) newest can.2 few in (
         behind_one (Reads (server_behind (lane_from c) now os)) octets opn (outgoing_octets (Some (lane_from c)) now.next (id + 1) os) told
@@ -170,14 +168,11 @@ module _ (limits : Limits) (octets : List ℕ) (told : List ClientTold) where
       → ClientReads limits (asks ++ asks_at (length octets) (next_id (asked_in asks)) (o ∷ os)) octets told (client_behind c (next_id (asked_in asks) + 1) os)
   asks_more asks c o os h =
       let ask : Placed = (length octets, asking_of (next_id (asked_in asks)) o) in
-      subst (λ (ps : List Placed). ClientReads limits ps octets told (client_behind c (next_id (asked_in asks) + 1) os))
-      (append_assoc asks (ask ∷ []) (asks_at (length octets) (next_id (asked_in asks) + 1) os))
-      (subst (λ (id : ℕ). ClientReads limits ((asks ++ ask ∷ []) ++ asks_at (length octets) id os) octets told (client_behind c id os))
-      (next-append asks (ask ∷ [])) h)
+      rw (← append_assoc asks (ask ∷ []) (asks_at (length octets) (next_id (asked_in asks) + 1) os), ← next-append asks (ask ∷ [])) h
 
   pub asks_outgoing : (asks : List Placed) (c : AtClient) (os : List Outgoing) → ClientReads limits asks octets told c
       → ClientReads limits (asks ++ asks_at (length octets) (next_id (asked_in asks)) os) octets told (client_behind c (next_id (asked_in asks)) os)
-  asks_outgoing asks c [] r = subst (λ (ps : List Placed). ClientReads limits ps octets told c) (sym (append-nil asks)) r
+  asks_outgoing asks c [] r = rw (append-nil asks) r
   asks_outgoing asks c (CallWith body ∷ os) r =
       let id : ℕ = next_id (asked_in asks) in
       asks_more asks (with_call c id) (CallWith body) os
@@ -236,8 +231,7 @@ module _ (limits : Limits) (asks : List Placed) (lane : Lane) where
       let opn : List ℕ = frame_octets (opened_frame lane.channel c.next id handle token lifetime moment) in
       let now : AtClient = with_answer c token (next_number c.next) in
       let read : Hears now (octets ++ opn) (told ++ Renewed token ∷ []) =
-      subst (λ (k : ℕ). Hears now (octets ++ frame_octets (opened_frame k c.next id handle token lifetime moment)) (told ++ Renewed token ∷ [])) (sym back.on)
-      (reads_renewed limits asks octets told c id handle token lifetime moment r
+      rw back.on (reads_renewed limits asks octets told c id handle token lifetime moment r
       (record {
         channel_small = omega (arith, back.on, back.on_small);
         number_small = r.next_small;
@@ -261,8 +255,7 @@ in_step_answers server client url channel s c (ReplyTo id body ∷ answers) t br
     in_step_answers server client url channel s (with_reply c s.used id next) answers (in_step_reply server client url channel s c t id next) brings.1
 in_step_answers server client url channel s c (TokenFor id handle token lifetime moment ∷ answers) t brings =
     in_step_answers server client url channel s (with_answer c token (next_number c.next)) answers
-    (subst (λ (k : ℕ). AreInStep server client url channel s (with_answer c k (next_number c.next))) (sym brings.0)
-    (in_step_answer server client url channel s c t (next_number c.next))) brings.1
+    (rw brings.0 (in_step_answer server client url channel s c t (next_number c.next))) brings.1
 
 -- ---- why a channel does not send the next one
 
@@ -281,9 +274,8 @@ module _ (x : ClientChannel) (asks : List Placed) (octets : List ℕ) (frames : 
   pub call_is_refused : (body : List ℕ) → call_refused x 0 body ≡ outgoing_refusal at next (CallWith body ∷ [])
   call_is_refused body =
       refuses_call x asks octets frames rest told at stands r 0 body
-      ∙ (ap (λ (n : ℕ). first_reason (reasons_of_call n (next + 0) (is_too_large at.ack body))) (plus_zero (length at.pending))
-      ∙ (ap (λ (n : ℕ). first_reason (reasons_of_call (length at.pending) n (is_too_large at.ack body))) (plus_zero next)
-      ∙ sym (or_none_behind (first_reason (reasons_of_call (length at.pending) next (is_too_large at.ack body))))))
+      ∙ (rw (plus_zero (length at.pending))
+      (rw (plus_zero next) (sym (or_none_behind (first_reason (reasons_of_call (length at.pending) next (is_too_large at.ack body)))))))
 
   pub renewal_is_refused : (moment : DateTime) → renewal_refused x ≡ outgoing_refusal at next (RenewalAt moment ∷ [])
   renewal_is_refused moment =

@@ -31,19 +31,19 @@ last_behind before n [] e = inl e
 last_behind before n (m ∷ ms) e = either (last_behind (Some m) n ms e)
   where
     either : (Some m ≡ Some n) ⊎ (is_in n ms ≡ true) → (before ≡ Some n) ⊎ ((eqb m n || is_in n ms) ≡ true)
-    either (inl same) = inr (ap (λ (b : Bool). b || is_in n ms) (eq-eqb m n (some_is m n same)))
-    either (inr there) = inr (ap (λ (b : Bool). eqb m n || b) there ∙ or_true (eqb m n))
+    either (inl same) = inr (rw (eq-eqb m n (some_is m n same)))
+    either (inr there) = inr (rw there (or_true (eqb m n)))
 
 last_in : (n : ℕ) (ms : List ℕ) → latest ms ≡ Some n → is_in n ms ≡ true
 last_in n [] e = absurd cc
 last_in n (m ∷ ms) e = either (last_behind (Some m) n ms e)
   where
     either : (Some m ≡ Some n) ⊎ (is_in n ms ≡ true) → (eqb m n || is_in n ms) ≡ true
-    either (inl same) = ap (λ (b : Bool). b || is_in n ms) (eq-eqb m n (some_is m n same))
-    either (inr there) = ap (λ (b : Bool). eqb m n || b) there ∙ or_true (eqb m n)
+    either (inl same) = rw (eq-eqb m n (some_is m n same))
+    either (inr there) = rw there (or_true (eqb m n))
 
 pub in_more : (n m : ℕ) (ms : List ℕ) → is_in n ms ≡ true → is_in n (ms ++ m ∷ []) ≡ true
-in_more n m ms e = list_any-append (λ (k : ℕ). eqb k n) ms (m ∷ []) ∙ ap (λ (b : Bool). b || (eqb m n || false)) e
+in_more n m ms e = list_any-append (λ (k : ℕ). eqb k n) ms (m ∷ []) ∙ rw e
 
 -- a number that is not 0 is some
 some_number : (n : ℕ) → eqb n 0 ≡ false → 0 < n
@@ -58,11 +58,11 @@ within_some limit n some within =
 
 -- no more than a limit is within it
 within_few : (limit n : ℕ) → n ≤ limit → passes limit n ≡ false
-within_few limit n few = ap (λ (b : Bool). not (eqb limit 0) && b) (le-ltb limit n few) ∙ and-false (not (eqb limit 0))
+within_few limit n few = rw (le-ltb limit n few) (and-false (not (eqb limit 0)))
 
 -- what is within the smaller of two limits is within the first
 tighter_by : (x y : Bool) (a b n : ℕ) → eqb a 0 ≡ x → eqb b 0 ≡ y → passes (cond x b (cond y a (min a b))) n ≡ false → passes a n ≡ false
-tighter_by true y a b n is other within = ap (λ (t : Bool). not t && ltb a n) is
+tighter_by true y a b n is other within = rw is
 tighter_by false true a b n is other within = within
 tighter_by false false a b n is other within =
     let first = some_number a is in
@@ -75,16 +75,16 @@ tighter_first a b n within = tighter_by (eqb a 0) (eqb b 0) a b n refl refl with
 
 module _ (server client : Limits) (url : Option (List ℕ)) (channel : ℕ) (s : AtServer) (c : AtClient) (h : AreInStep server client url channel s c) where
   receives : c.ack.receive_buffer_size ≡ min server.receive_buffer_size client.send_buffer_size
-  receives = ap (λ (a : Ack). a.receive_buffer_size) h.ack_is
+  receives = rw h.ack_is
 
   sends : c.ack.send_buffer_size ≡ min server.send_buffer_size client.receive_buffer_size
-  sends = ap (λ (a : Ack). a.send_buffer_size) h.ack_is
+  sends = rw h.ack_is
 
   taken_size : (ack_to s.hello server).receive_buffer_size ≡ min server.receive_buffer_size client.send_buffer_size
-  taken_size = ap (λ (x : Hello). (ack_to x server).receive_buffer_size) h.hello_is
+  taken_size = rw h.hello_is
 
   sent_size : (ack_to s.hello server).send_buffer_size ≡ min server.send_buffer_size client.receive_buffer_size
-  sent_size = ap (λ (x : Hello). (ack_to x server).send_buffer_size) h.hello_is
+  sent_size = rw h.hello_is
 
   -- the client's calls go to the server
   pub lane_to : IsLaneTo server channel s (lane_from c)
@@ -104,9 +104,8 @@ module _ (server client : Limits) (url : Option (List ℕ)) (channel : ℕ) (s :
     token_small = few;
     some = omega (arith, sent_size, server.sends, client.receives);
     fits = omega (arith, sent_size, sends, server.sends, client.receives);
-    octets = subst (λ (m : ℕ). IsTighter (tighter m server.max_response_size) client.max_message_size) (sym (ap (λ (x : Hello). x.max_message_size) h.hello_is))
-        (tighter_first client.max_message_size server.max_response_size);
-    chunks = ap (λ (x : Hello). x.max_chunk_count) h.hello_is;
+    octets = rw (ap (λ (x : Hello). x.max_message_size) h.hello_is) (tighter_first client.max_message_size server.max_response_size);
+    chunks = rw h.hello_is;
   }
 
   -- a body that the client asks is within the server's limits

@@ -1,7 +1,7 @@
 -- What each chunk of merged messages delivers, also behind chunks that leave nothing unfinished; and that merged messages leave nothing
 -- unfinished.
 use Rattle.std.proofs.Common.{◌≡◌, ℕ, ◌≤◌, Bool, true, false, cond, not, ◌||◌, eqb, List, [], ◌∷◌, ◌++◌, Option, Some, None}
-use Rattle.std.proofs.Common.{length, map, refl, sym, ◌∙◌, ap, subst, arith, append-nil, append_assoc, length-append, ◌&&◌}
+use Rattle.std.proofs.Common.{length, map, refl, sym, ◌∙◌, ap, arith, append-nil, append_assoc, length-append, ◌&&◌}
 use Rattle.std.specs.List.{filter, list_any}
 use Rattle.std.proofs.lemmas.Bool.{eq-eqb, or_right, or_from}
 use Rattle.std.proofs.lemmas.List.{append_cancel_left, append_cancel_right, length-map, map-append}
@@ -15,12 +15,11 @@ use Rattle.ua_chunk.specs.declared.flag.Flag.TheVariants.{F, C, A}
 use Rattle.ua_chunk.specs.Abort.{abort_of}
 use Rattle.ua_chunk.specs.Delivered.{aborted, delivered, delivered_behind, given}
 use Rattle.ua_chunk.specs.Flag.{is_more_flag}
-use Rattle.ua_chunk.specs.Gathered.{after_last, ends, is_more, is_of}
+use Rattle.ua_chunk.specs.Gathered.{after_last, ends, is_of}
 use Rattle.ua_chunk.specs.Item.{Item}
 use Rattle.ua_chunk.specs.Merge.{IsMerge, Part, Sent, id_of_item, last_part, more_part, outcome_by}
 use Rattle.ua_chunk.specs.Merge.{outcome_under, outcomes, part_of, parts_under, sent_under, is_item_of}
 use Rattle.ua_chunk.specs.Open.{open_ids}
-use Rattle.ua_chunk.specs.Pending.{without}
 use Rattle.ua_chunk.specs.Refusal.{TakesMessages, message_refusal}
 use Rattle.ua_chunk.proofs.Fresh.{fresh, fresh_message}
 use Rattle.ua_chunk.proofs.Interleaved.{merge_by_id}
@@ -118,9 +117,9 @@ module _ (octets chunks : ℕ) (ms : List Sent) where
   each_ends us [] taken all = tt
   each_ends us (c ∷ rest) taken all =
       let moved : us ++ c ∷ rest ≡ (us ++ c ∷ []) ++ rest = sym (append_assoc us (c ∷ []) rest) in
-      let taken-on : TakesMessages octets chunks [] ((us ++ c ∷ []) ++ rest) = subst (TakesMessages octets chunks []) moved taken in
+      let taken-on : TakesMessages octets chunks [] ((us ++ c ∷ []) ++ rest) = rw (← moved) taken in
       let all-on : delivered ((us ++ c ∷ []) ++ rest) ≡ outcomes ms ((us ++ c ∷ []) ++ rest) =
-      subst (λ (t : List Chunk). delivered t ≡ outcomes ms t) moved all in
+      rw (← moved) all in
       let now : given us c ++ delivered_behind (us ++ c ∷ []) rest ≡ ended_by ms c ++ outcomes ms rest = rest_delivers us (c ∷ rest) taken all in
       let later : delivered_behind (us ++ c ∷ []) rest ≡ outcomes ms rest = rest_delivers (us ++ c ∷ []) rest taken-on all-on in (
         append_cancel_right (given us c) (ended_by ms c) (outcomes ms rest) (ap (λ (t : List Item). given us c ++ t) (sym later) ∙ now),
@@ -151,14 +150,14 @@ none_mapped (c ∷ cs) e = absurd cc
 
 closed_last : (c : Chunk) (cs : List Chunk) → ends c ≡ true → cs ≡ [] → Closed (c ∷ cs)
 closed_last c cs last none = record {
-  some = ap (λ (b : Bool). b || list_any ends cs) last;
-  none_after = ap (λ (b : Bool). cond (b || list_any ends cs) (after_last ends cs) (c ∷ cs)) last ∙ ap (after_last ends) none;
+  some = rw last;
+  none_after = rw last (ap (after_last ends) none);
 }
 
 closed_more : (c : Chunk) (cs : List Chunk) → Closed cs → Closed (c ∷ cs)
 closed_more c cs h = record {
   some = or_right (ends c) (list_any ends cs) h.some;
-  none_after = ap (λ (b : Bool). cond b (after_last ends cs) (c ∷ cs)) (or_right (ends c) (list_any ends cs) h.some) ∙ h.none_after;
+  none_after = rw (or_right (ends c) (list_any ends cs) h.some) h.none_after;
 }
 
 closed_parts : (id : ℕ) (ps : List (List ℕ)) (z : Part) (cs : List Chunk) → is_more_flag z.flag ≡ false → map part_of cs ≡ map (more_part id) ps ++ z ∷ []
@@ -176,7 +175,7 @@ closed_under None cs ending e = ap (after_last ends) (none_mapped cs e)
 closed_under (Some m) cs ending e = (closed_parts m.request m.pieces (last_part m) cs (ending m refl) e).none_after
 
 one_open : (id : ℕ) (ids : List ℕ) → list_any (λ (j : ℕ). eqb j id) (id ∷ ids) ≡ true
-one_open id ids = ap (λ (b : Bool). b || list_any (λ (j : ℕ). eqb j id) ids) (eq-eqb id id refl)
+one_open id ids = rw (eq-eqb id id refl)
 
 open_none : (ids : List ℕ) → ((id : ℕ) → list_any (λ (j : ℕ). eqb j id) ids ≡ false) → ids ≡ []
 open_none [] h = refl
@@ -189,9 +188,8 @@ open_behind base us (c ∷ rest) e =
     let next : open_ids (base ++ (us ++ c ∷ [])) ≡ open_ids (us ++ c ∷ []) =
     ap open_ids (sym (append_assoc base us (c ∷ [])))
     ∙ (open_push (base ++ us) c
-    ∙ (ap (λ (ids : List ℕ). without (λ (j : ℕ). eqb j c.request) ids ++ cond (is_more c) (c.request ∷ []) []) e
-    ∙ sym (open_push us c))) in
-    subst (λ (t : List Chunk). open_ids (base ++ t) ≡ open_ids t) (append_assoc us (c ∷ []) rest) (open_behind base (us ++ c ∷ []) rest next)
+    ∙ (rw e (sym (open_push us c)))) in
+    rw (← append_assoc us (c ∷ []) rest) (open_behind base (us ++ c ∷ []) rest next)
 
 -- ---- each stands before the end of its message
 
@@ -213,7 +211,7 @@ unended_under None xs ys c e = absurd (no_more xs ys c e)
 unended_under (Some m) xs ys c e = unended_parts m.request m.pieces (last_part m) xs ys c e
 
 ended_step : (b e : Bool) (c : Chunk) (f : List Chunk) (any : Bool) → ends c ≡ e → any ≡ list_any ends f → ((b && e) || any) ≡ list_any ends (cond b (c ∷ f) f)
-ended_step true e c f any is same = ap (λ (t : Bool). t || any) (sym is) ∙ ap (λ (t : Bool). ends c || t) same
+ended_step true e c f any is same = rw (sym is, same)
 ended_step false e c f any is same = same
 
 ended_own : (id : ℕ) (cs : List Chunk) → is_finished cs id ≡ list_any ends (filter (is_of id) cs)
@@ -223,8 +221,7 @@ ended_own id (c ∷ cs) = ended_step (is_of id c) (ends c) c (filter (is_of id) 
 own_chunks : (id : ℕ) (us rest : List Chunk) (c : Chunk) → c.request ≡ id → filter (is_of id) (us ++ c ∷ rest) ≡ filter (is_of id) us
     ++ c ∷ filter (is_of id) rest
 own_chunks id us rest c is =
-    filter_append (is_of id) us (c ∷ rest) ∙ ap (λ (b : Bool). filter (is_of id) us ++ cond b (c ∷ filter (is_of id) rest) (filter (is_of id) rest))
-    (eq-eqb c.request id is)
+    filter_append (is_of id) us (c ∷ rest) ∙ rw (eq-eqb c.request id is)
 
 unfinished : (ms : List Sent) (us cs : List Chunk) → IsMerge ms (us ++ cs) → AllFrom (λ vs c. is_finished vs c.request ≡ false) us cs
 unfinished ms us [] merge = tt
@@ -232,7 +229,7 @@ unfinished ms us (c ∷ cs) merge =
     let own : map part_of (filter (is_of c.request) us ++ c ∷ filter (is_of c.request) cs) ≡ parts_under (sent_under c.request ms) =
     ap (map part_of) (sym (own_chunks c.request us cs c refl)) ∙ merge c.request in (
       ended_own c.request us ∙ unended_under (sent_under c.request ms) (filter (is_of c.request) us) (filter (is_of c.request) cs) c own,
-      unfinished ms (us ++ c ∷ []) cs (subst (IsMerge ms) (sym (append_assoc us (c ∷ []) cs)) merge),
+      unfinished ms (us ++ c ∷ []) cs (rw (append_assoc us (c ∷ []) cs) merge),
     )
 
 -- ---- merged messages
@@ -269,8 +266,7 @@ pub takes_fresh : (octets chunks : ℕ) (base us cs : List Chunk) → open_ids b
 takes_fresh octets chunks base us [] none h = tt
 takes_fresh octets chunks base us (c ∷ cs) none h = (
   fresh_message octets chunks base us c none ∙ h.0,
-  subst (λ (t : List Chunk). TakesMessages octets chunks t cs) (sym (append_assoc base us (c ∷ [])))
-      (takes_fresh octets chunks base (us ++ c ∷ []) cs none h.1),
+  rw (append_assoc base us (c ∷ [])) (takes_fresh octets chunks base (us ++ c ∷ []) cs none h.1),
 )
 
 -- and leave nothing unfinished there where they leave nothing alone
@@ -288,8 +284,8 @@ told_new {B = B} found name had told base cs items apart none all old new =
     append_cancel_left (found had) (found told) (map name items)
     (sym apart
     ∙ (new
-    ∙ (ap (map name) (fresh base cs none ∙ ap (λ (t : List Item). delivered base ++ t) all)
-    ∙ (map-append name (delivered base) items ∙ ap (λ (t : List B). t ++ map name items) (sym old)))))
+    ∙ (ap (map name) (fresh base cs none ∙ rw all)
+    ∙ (map-append name (delivered base) items ∙ rw (sym old)))))
 
 kept_or_not : {A B : Type 0} (name : A → B) (b : Bool) (x : A) (xs : List A) → cond b (name x ∷ map name xs) (map name xs) ≡ map name (cond b (x ∷ xs) xs)
 kept_or_not name true x xs = refl
@@ -306,5 +302,4 @@ pub outcomes_once : {B : Type 0} (limits : Limits) (ms : List Sent) (cs : List C
     → filter p (map name (outcomes ms cs)) ≡ map name (outcome_under (sent_under id ms))
 outcomes_once limits ms cs m name p id names =
     names_kept name p (is_item_of id) names (outcomes ms cs)
-    ∙ (ap (λ (items : List Item). map name (filter (is_item_of id) items)) (sym (comes limits ms cs m).all)
-    ∙ ap (map name) (once ms cs id (comes limits ms cs m).own))
+    ∙ (rw (sym (comes limits ms cs m).all) (ap (map name) (once ms cs id (comes limits ms cs m).own)))

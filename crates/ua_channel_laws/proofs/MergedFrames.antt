@@ -1,5 +1,5 @@
 -- What frames of a merge bring, one after the other, and what is so of each of them behind those before it.
-use Rattle.std.proofs.Common.{◌≡◌, ℕ, ◌≤◌, true, List, [], ◌∷◌, ◌++◌, Option, None, refl, sym, ◌∙◌, ap, subst, append-nil, append_assoc}
+use Rattle.std.proofs.Common.{◌≡◌, ℕ, ◌≤◌, true, List, [], ◌∷◌, ◌++◌, Option, None, refl, sym, ◌∙◌, ap, append-nil, append_assoc}
 use Rattle.std.specs.List.{AllByRecursion}
 use Rattle.std.proofs.lemmas.List.{flat_map_more}
 use Rattle.std.proofs.lemmas.List.Concat.{flat_map-append}
@@ -16,7 +16,6 @@ use Rattle.ua_channel_laws.specs.Conversation.{AreOrdered}
 use Rattle.ua_channel_laws.specs.Merges.{CarriesEither, MayComeNext, NumbersGoOn, latest_or}
 use Rattle.ua_channel.specs.Received.{Received, after, chunks_in, latest, latest_behind, messages, numbers}
 use Rattle.ua_channel.specs.Received.{numbers_in, openings, openings_in, received, tokens_in, used_tokens}
-use Rattle.ua_channel.proofs.Askings.{all_append}
 use Rattle.ua_channel.proofs.OneFrameMore.{behind_append, received-push}
 use Rattle.ua_channel_laws.proofs.ReadOn.{all_behind}
 
@@ -39,7 +38,7 @@ last_behind before more =
     last_is (before ++ more)
     ∙ (ap latest (numbers-append before more)
     ∙ (behind_append None (numbers before) (numbers more)
-    ∙ ap (λ (o : Option ℕ). latest_behind o (numbers more)) (sym (last_is before))))
+    ∙ rw (sym (last_is before))))
 
 -- numbers that go on from the next one are in order behind the last one before it
 pub goes_ordered : (last : Option ℕ) (next after : ℕ) (ns : List ℕ) → may_follow last next ≡ true → NumbersGoOn next ns after → AreOrdered last ns
@@ -54,8 +53,7 @@ goes_behind last next after (n ∷ ns) follows g = g.2
 -- and the one after them may follow the last
 pub goes_follows : (before more : List Frame) (next after : ℕ) → may_follow (received before).last next ≡ true → NumbersGoOn next (numbers more) after
     → may_follow (received (before ++ more)).last after ≡ true
-goes_follows before more next after follows g = ap (λ (o : Option ℕ). may_follow o after) (last_behind before more)
-    ∙ goes_behind (received before).last next after (numbers more) follows g
+goes_follows before more next after follows g = rw (last_behind before more) (goes_behind (received before).last next after (numbers more) follows g)
 
 pub goes_small : (next after : ℕ) (ns : List ℕ) → NumbersGoOn next ns after → after ≤ 4294966272
 goes_small next after [] g = g.1
@@ -64,8 +62,7 @@ goes_small next after (n ∷ ns) g = g.3
 -- a number that may come next follows the last one of the frames
 pub next_follows : {T W : Type 0} (R : Rules T W) (octets : List ℕ) (fs : List Frame) (number : ℕ) → Run R octets fs [] Going → MayComeNext R octets number
     → may_follow (received fs).last number ≡ true
-next_follows R octets fs number run n = subst (λ (gs : List Frame). may_follow (received gs).last number ≡ true)
-    (sym (unique R octets fs n.frames [] [] Going Going run n.run).frames) n.follows
+next_follows R octets fs number run n = rw (← sym (unique R octets fs n.frames [] [] Going Going run n.run).frames) n.follows
 
 -- ---- the lists that frames brought
 
@@ -104,14 +101,6 @@ of_either opens sends P h g (Sends c) is = g c is
 of_either opens sends P h g (Closes c) is = absurd is
 of_either opens sends P h g Nothing is = absurd is
 
--- what holds of the chunks of each frame holds of those of all
-pub each_chunk : (May : List Frame → Frame → Type 0) (P : Chunk → Type 0)
-    → ((us : List Frame) (f : Frame) → May us f → AllByRecursion P (chunks_in (content f))) → (us fs : List Frame) → AllFrom May us fs
-    → AllByRecursion P (messages fs)
-unfolding messages
-each_chunk May P one us [] may = tt
-each_chunk May P one us (f ∷ fs) may = all_append P (chunks_in (content f)) (messages fs) (one us f may.0) (each_chunk May P one (us ++ f ∷ []) fs may.1)
-
 pub sized : (size : ℕ) (May : List Frame → Frame → Type 0) (us fs : List Frame) → AllByRecursion (λ (f : Frame). frame_size f ≤ size) fs → AllFrom May us fs
     → AllFrom (λ vs f. (frame_size f ≤ size) × May vs f) us fs
 sized size May us [] fits may = tt
@@ -125,8 +114,7 @@ module _ (C : List Chunk → Chunk → Type 0) (us : List Frame) (f : Frame) (fs
   chunks_here = all
 
   chunks_behind : AllFrom C (messages (us ++ f ∷ [])) (messages fs)
-  chunks_behind = subst (λ (t : List Chunk). AllFrom C t (messages fs)) (sym (messages-more us f))
-      (all_behind C (messages us) (chunks_in (content f)) (messages fs) chunks_here)
+  chunks_behind = rw (messages-more us f) (all_behind C (messages us) (chunks_in (content f)) (messages fs) chunks_here)
 
 -- where these frames come behind others: what is known behind each of them, by what was received and by the tokens, openings and chunks of those
 -- of them that came
@@ -151,8 +139,7 @@ module _ (before : List Frame) (Here : Received → List ℕ → List Opening �
     along Q one us [] h may cs = tt
     along Q one us (f ∷ fs) h may cs = (
       one us f (messages fs) may.0 h (chunks_here C us f fs cs),
-      subst (λ (t : List Frame). AllFrom Q t fs) (sym (append_assoc before us (f ∷ [])))
-          (along Q one (us ++ f ∷ []) fs (then_at us f may.0 h) may.1 (chunks_behind C us f fs cs)),
+      rw (append_assoc before us (f ∷ [])) (along Q one (us ++ f ∷ []) fs (then_at us f may.0 h) may.1 (chunks_behind C us f fs cs)),
     )
 
     told_along : {E : Type 0} (tells told : List Frame → Frame → List E)
@@ -161,19 +148,17 @@ module _ (before : List Frame) (Here : Received → List ℕ → List Opening �
         → IsAt us → AllFrom May us fs → AllFrom C (messages us) (messages fs) → each_from tells (before ++ us) fs ≡ each_from told us fs
     told_along tells told one us [] h may cs = refl
     told_along {E = E} tells told one us (f ∷ fs) h may cs =
-        ap (λ (ts : List E). ts ++ each_from tells ((before ++ us) ++ f ∷ []) fs) (one us f (messages fs) may.0 h (chunks_here C us f fs cs))
-        ∙ ap (λ (ts : List E). told us f ++ ts)
-        (ap (λ (t : List Frame). each_from tells t fs) (append_assoc before us (f ∷ []))
-        ∙ told_along tells told one (us ++ f ∷ []) fs (then_at us f may.0 h) may.1 (chunks_behind C us f fs cs))
+        rw (one us f (messages fs) may.0 h (chunks_here C us f fs cs)) (ap (λ (ts : List E). told us f ++ ts)
+        (rw (append_assoc before us (f ∷ [])) (told_along tells told one (us ++ f ∷ []) fs (then_at us f may.0 h) may.1 (chunks_behind C us f fs cs))))
 
   ends_at : (us fs : List Frame) → IsAt us → AllFrom May us fs → IsAt (us ++ fs)
-  ends_at us [] h may = subst (λ (t : List Frame). IsAt t) (sym (append-nil us)) h
-  ends_at us (f ∷ fs) h may = subst (λ (t : List Frame). IsAt t) (append_assoc us (f ∷ []) fs) (ends_at (us ++ f ∷ []) fs (then_at us f may.0 h) may.1)
+  ends_at us [] h may = rw (append-nil us) h
+  ends_at us (f ∷ fs) h may = rw (← append_assoc us (f ∷ []) fs) (ends_at (us ++ f ∷ []) fs (then_at us f may.0 h) may.1)
 
   module _ (fs : List Frame) (h : Here (received before) [] [] []) (may : AllFrom May [] fs) where
     first : IsAt []
     first = nothing_yet (λ ts os cs. Here (received (before ++ [])) ts os cs)
-        (subst (λ (t : List Frame). Here (received t) [] [] []) (sym (append-nil before)) h)
+        (rw (append-nil before) h)
 
     -- what is known behind all of them
     pub at_end : Here (received (before ++ fs)) (used_tokens fs) (openings fs) (messages fs)
@@ -187,10 +172,10 @@ module _ (before : List Frame) (Here : Received → List ℕ → List Opening �
       pub each_along : (Q : List Frame → Frame → Type 0)
           → ((us : List Frame) (f : Frame) (rest : List Chunk) → May us f → IsAt us → AllFrom C (messages us) (chunks_in (content f) ++ rest)
           → Q (before ++ us) f) → AllFrom Q before fs
-      each_along Q one = subst (λ (t : List Frame). AllFrom Q t fs) (append-nil before) (along C Q one [] fs first may from_first)
+      each_along Q one = rw (← append-nil before) (along C Q one [] fs first may from_first)
 
       -- and what they tell
       pub all_told : {E : Type 0} (tells told : List Frame → Frame → List E)
           → ((us : List Frame) (f : Frame) (rest : List Chunk) → May us f → IsAt us → AllFrom C (messages us) (chunks_in (content f) ++ rest)
           → tells (before ++ us) f ≡ told us f) → each_from tells before fs ≡ each_from told [] fs
-      all_told tells told one = ap (λ (t : List Frame). each_from tells t fs) (sym (append-nil before)) ∙ told_along C tells told one [] fs first may from_first
+      all_told tells told one = rw (sym (append-nil before)) (told_along C tells told one [] fs first may from_first)

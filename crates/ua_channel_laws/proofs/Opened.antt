@@ -1,5 +1,5 @@
 -- When a channel is open.
-use Rattle.std.proofs.Common.{◌≡◌, ◌↔◌, ℕ, ◌<◌, List, [], ◌∷◌, ◌++◌, Some, length, sym, ◌∙◌, ap, subst, arith}
+use Rattle.std.proofs.Common.{◌≡◌, ◌↔◌, ℕ, ◌<◌, List, [], ◌∷◌, ◌++◌, Some, length, ◌∙◌, ap, arith}
 use Rattle.ua_frame.specs.declared.frame.Frame.{Frame}
 use Rattle.ua_frame.specs.declared.limits.Limits.{Limits}
 use Rattle.ua_opening.specs.declared.secure_channel.OpenResponse.{OpenResponse}
@@ -37,7 +37,7 @@ pub server_open : (x : ServerChannel) (octets : List ℕ) (frames : List Frame) 
 server_open x octets frames rest s = in_phase (server.limits_of x) x.end.phase (received frames) s.phase_is
 
 pub server_done : (x : ServerChannel) → server.IsDone x → server.IsWithoutToken x
-server_done x d = subst server.HasNoToken (sym d.phase) tt
+server_done x d = rw d.phase tt
 
 -- where nothing was received but a Hello, no token was used
 none_used : (limits : Limits) (p : Phase) (before : Received) (token : ℕ) → server.InServerPhase limits p before → server.HasNoToken p
@@ -53,7 +53,7 @@ server_asked x octets told id token message g none =
     let chunk = asks_by (server.limits_of x) (received g.frames) (content g.frame) id token message g.tells in
     let now : received (g.frames ++ g.frame ∷ []) ≡ after (received g.frames) (Sends chunk.0) = received-push g.frames g.frame
     ∙ ap (after (received g.frames)) chunk.1 in
-    none_used (server.limits_of x) x.end.phase (received (g.frames ++ g.frame ∷ [])) chunk.0.token g.stands.phase_is none (ap (λ (b : Received). b.used) now)
+    none_used (server.limits_of x) x.end.phase (received (g.frames ++ g.frame ∷ [])) chunk.0.token g.stands.phase_is none (rw now)
 
 -- ---- at a client
 
@@ -74,4 +74,4 @@ pub client_open : (x : ClientChannel) (asks : List Placed) (octets : List ℕ) (
 client_open x asks octets frames rest s = client_phase (client_limits x) (phase_of x) (received frames) (asked_in asks) s.phase_is
 
 pub client_done : (x : ClientChannel) → IsClientDone x → IsNotOpen (phase_of x)
-client_done x d = subst IsNotOpen (sym d.phase) tt
+client_done x d = rw d.phase tt

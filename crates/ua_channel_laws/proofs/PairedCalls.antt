@@ -1,6 +1,6 @@
 -- That each call of a client is answered once.
 use Rattle.std.proofs.Common.{◌≡◌, ℕ, List, [], ◌∷◌, ◌++◌, Bool, true, false, cond, not, ◌&&◌, ◌||◌, eqb, ltb}
-use Rattle.std.proofs.Common.{map, Option, Some, None, refl, sym, ◌∙◌, ap, subst, append-nil, append_assoc}
+use Rattle.std.proofs.Common.{map, Option, Some, None, refl, sym, ◌∙◌, ap, append-nil, append_assoc}
 use Rattle.std.specs.List.{AllByRecursion, filter}
 use Rattle.std.proofs.lemmas.Bool.{or_parts, eqb-true, not-false, not-true, or_right}
 use Rattle.std.proofs.lemmas.List.Elements.{filter-append}
@@ -27,8 +27,7 @@ use Rattle.ua_channel.specs.Asks.{Asking, Placed, asked_before, asked_in, calls,
 use Rattle.ua_channel.specs.Asks.Asking.{Call, Renewal}
 use Rattle.ua_channel.specs.ClientTable.{client_reasons, client_rules}
 use Rattle.ua_channel.specs.ClientTokens.{answer_in, response_listed, open_responses}
-use Rattle.ua_channel.specs.ClientTold.{ClientTold, client_tells, told_ack, told_item, told_response}
-use Rattle.ua_channel.specs.ClientTold.ClientTold.{Answered, GaveUp}
+use Rattle.ua_channel.specs.ClientTold.{client_tells, told_ack, told_item, told_response}
 use Rattle.ua_channel.specs.Content.{Content, content}
 use Rattle.ua_channel.specs.Content.Content.{Greets, Acks, Fails, Opens, Sends, Closes, Nothing}
 use Rattle.ua_channel_laws.specs.Paired.{as_list, delivered_under, first, paired, told_of_calls, with_all, with_first_item, is_of_call}
@@ -40,8 +39,8 @@ use Rattle.ua_channel.proofs.OneFrameMore.{found_all, given_in, none_delivered, 
 
 items_told : (items : List Item) → told_of_calls (map told_item items) ≡ map told_item items
 items_told [] = refl
-items_told (Whole id octets ∷ is) = ap (λ (ts : List ClientTold). Answered id octets ∷ ts) (items_told is)
-items_told (Aborted id code reason ∷ is) = ap (λ (ts : List ClientTold). GaveUp id code ∷ ts) (items_told is)
+items_told (Whole id octets ∷ is) = rw (items_told is)
+items_told (Aborted id code reason ∷ is) = rw (items_told is)
 
 ack_told : (o : Option Ack) → told_of_calls (told_ack o) ≡ []
 ack_told None = refl
@@ -85,10 +84,10 @@ given_once id A cs c = aborted_once id c.request (abort_of c.body)
 
 aborted_other : (id r : ℕ) (o : Option (StatusCode × Option (List ℕ))) → eqb r id ≡ false → filter (is_item_of id) (aborted r o) ≡ []
 aborted_other id r None e = refl
-aborted_other id r (Some a) e = ap (λ (b : Bool). cond b (Aborted r a.0 a.1 ∷ []) []) e
+aborted_other id r (Some a) e = rw e
 
 given_other : (id : ℕ) (f : Flag) (cs : List Chunk) (c : Chunk) → eqb c.request id ≡ false → filter (is_item_of id) (given_by f cs c) ≡ []
-given_other id F cs c e = ap (λ (b : Bool). cond b (Whole c.request (joined (gathered cs c)) ∷ []) []) e
+given_other id F cs c e = rw e
 given_other id C cs c e = refl
 given_other id A cs c e = aborted_other id c.request (abort_of c.body) e
 
@@ -109,8 +108,7 @@ unfinished_from id start [] e = refl
 unfinished_from id start (c ∷ cs) e =
     let parts = or_parts (is_of id c && ends c) (is_finished cs id) e in
     filter-append (is_item_of id) (given start c) (each_from given (start ++ c ∷ []) cs)
-    ∙ (ap (λ (is : List Item). is ++ filter (is_item_of id) (each_from given (start ++ c ∷ []) cs)) (given_none id c.flag start c parts.0)
-    ∙ unfinished_from id (start ++ c ∷ []) cs parts.1)
+    ∙ (rw (given_none id c.flag start c parts.0) (unfinished_from id (start ++ c ∷ []) cs parts.1))
 
 unfinished_none : (id : ℕ) (cs : List Chunk) → is_finished cs id ≡ false → delivered_under id cs ≡ []
 unfinished_none id cs e = ap (filter (is_item_of id)) (delivered_from cs) ∙ unfinished_from id [] cs e
@@ -146,7 +144,7 @@ unfolding asked_before asked_in
 asked_within place id [] e = e
 asked_within place id (a ∷ asks) e =
     asked_step (ltb a.0 place) a.1 id (asked_before place asks) (asked_in asks) (asked_within place id asks)
-    (ap (λ (xs : List Asking). is_in id (calls xs)) (sym (map_cond (ltb a.0 place) a (filter (λ (b : Placed). ltb b.0 place) asks))) ∙ e)
+    (rw (sym (map_cond (ltb a.0 place) a (filter (λ (b : Placed). ltb b.0 place) asks))) e)
 
 pending_within : (place id : ℕ) (cs : List Chunk) (asks : List Placed) → is_in id (pending_calls cs (asked_before place asks)) ≡ true
     → is_in id (calls (asked_in asks)) ≡ true
@@ -160,21 +158,20 @@ record Answers (asks : List Placed) (cs : List Chunk) : Type 0 where
   no_other : (id : ℕ) → is_in id (calls (asked_in asks)) ≡ false → delivered_under id cs ≡ []
 
 once_same : (xs ys : List Item) → ys ≡ xs → xs ≡ listed (first xs) → ys ≡ listed (first ys)
-once_same xs ys e h = e ∙ (h ∙ ap (λ (zs : List Item). listed (first zs)) (sym e))
+once_same xs ys e h = e ∙ (h ∙ rw (sym e))
 
 module _ (asks : List Placed) (place : ℕ) (cs : List Chunk) (c : Chunk) (answers : Answers asks cs)
     (pending : is_in c.request (pending_calls cs (asked_before place asks)) ≡ true) where
   own : (id : ℕ) → eqb c.request id ≡ true → delivered_under id (cs ++ c ∷ []) ≡ filter (is_item_of id) (given cs c)
   own id same =
       under_push id cs c
-      ∙ ap (λ (is : List Item). is ++ filter (is_item_of id) (given cs c))
-      (ap (λ (n : ℕ). delivered_under n cs) (sym (eqb-true c.request id same))
+      ∙ rw (ap (λ (n : ℕ). delivered_under n cs) (sym (eqb-true c.request id same))
       ∙ unfinished_none c.request cs (still_pending cs (asked_before place asks) c.request pending))
 
   others : (id : ℕ) → eqb c.request id ≡ false → delivered_under id (cs ++ c ∷ []) ≡ delivered_under id cs
   others id other =
       under_push id cs c
-      ∙ (ap (λ (is : List Item). delivered_under id cs ++ is) (given_other id c.flag cs c other) ∙ append-nil (delivered_under id cs))
+      ∙ (rw (given_other id c.flag cs c other) (append-nil (delivered_under id cs)))
 
   once_by : (b : Bool) (id : ℕ) → eqb c.request id ≡ b → delivered_under id (cs ++ c ∷ []) ≡ listed (first (delivered_under id (cs ++ c ∷ [])))
   once_by true id same = once_same (filter (is_item_of id) (given cs c)) (delivered_under id (cs ++ c ∷ [])) (own id same) (given_once id c.flag cs c)
@@ -185,7 +182,7 @@ module _ (asks : List Placed) (place : ℕ) (cs : List Chunk) (c : Chunk) (answe
 
   no_other_by : (b : Bool) (id : ℕ) → eqb c.request id ≡ b → is_in id (calls (asked_in asks)) ≡ false → delivered_under id (cs ++ c ∷ []) ≡ []
   no_other_by true id same not_asked =
-      let was : is_in id (calls (asked_in asks)) ≡ true = ap (λ (n : ℕ). is_in n (calls (asked_in asks))) (sym (eqb-true c.request id same)) ∙ was_asked in
+      let was : is_in id (calls (asked_in asks)) ≡ true = rw (sym (eqb-true c.request id same)) was_asked in
       let clash : ◌≡◌ {A = Bool} true false = sym was ∙ not_asked in
       absurd cc
   no_other_by false id other not_asked = others id other ∙ answers.no_other id not_asked
@@ -221,13 +218,11 @@ frame_answers limits asks place before Nothing e h = h
 
 answers_from : (limits : Limits) (asks : List Placed) (start fs : List Frame) → Answers asks (received start).messages
     → AllFrom (Fits (client_rules limits asks)) start fs → Answers asks (received (start ++ fs)).messages
-answers_from limits asks start [] h fits = subst (λ (xs : List Frame). Answers asks (received xs).messages) (sym (append-nil start)) h
+answers_from limits asks start [] h fits = rw (append-nil start) h
 answers_from limits asks start (f ∷ fs) h fits =
     let next : Answers asks (received (start ++ f ∷ [])).messages =
-    subst (λ (b : Received). Answers asks b.messages) (sym (received-push start f))
-    (frame_answers limits asks (end_of start f) (received start) (content f) fits.0.accepted h) in
-    subst (λ (xs : List Frame). Answers asks (received xs).messages) (append_assoc start (f ∷ []) fs)
-    (answers_from limits asks (start ++ f ∷ []) fs next fits.1)
+    rw (received-push start f) (frame_answers limits asks (end_of start f) (received start) (content f) fits.0.accepted h) in
+    rw (← append_assoc start (f ∷ []) fs) (answers_from limits asks (start ++ f ∷ []) fs next fits.1)
 
 nothing_answers : (asks : List Placed) → Answers asks (received []).messages
 nothing_answers asks =

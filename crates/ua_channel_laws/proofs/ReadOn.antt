@@ -1,5 +1,5 @@
 -- A reading of more octets.
-use Rattle.std.proofs.Common.{◌≡◌, ℕ, inl, List, [], ◌∷◌, ◌++◌, false, true, length, refl, sym, ◌∙◌, ap, subst, arith, append_assoc, append-nil, length-append}
+use Rattle.std.proofs.Common.{◌≡◌, ℕ, inl, List, [], ◌∷◌, ◌++◌, false, true, length, refl, sym, ◌∙◌, ap, arith, append_assoc, append-nil, length-append}
 use Rattle.ua_frame.specs.declared.frame.Frame.{Frame}
 use Rattle.ua_frame.specs.After.{AllFrom, AllAfter, each_from, each_after}
 use Rattle.ua_frame.specs.Frames.{frame_octets, frames_octets}
@@ -13,21 +13,20 @@ use Rattle.ua_channel.proofs.AskedLater.{frames_octets-append}
 -- ---- lists one behind the other
 
 pub all_append : {A : Type 0} (P : List A → A → Type 0) (start xs ys : List A) → AllFrom P start xs → AllFrom P (start ++ xs) ys → AllFrom P start (xs ++ ys)
-all_append {A = A} P start [] ys h k = subst (λ (t : List A). AllFrom P t ys) (append-nil start) k
+all_append {A = A} P start [] ys h k = rw (← append-nil start) k
 all_append {A = A} P start (x ∷ xs) ys h k =
-    (h.0, all_append P (start ++ x ∷ []) xs ys h.1 (subst (λ (t : List A). AllFrom P t ys) (sym (append_assoc start (x ∷ []) xs)) k))
+    (h.0, all_append P (start ++ x ∷ []) xs ys h.1 (rw (append_assoc start (x ∷ []) xs) k))
 
 pub all_behind : {A : Type 0} (P : List A → A → Type 0) (start xs ys : List A) → AllFrom P start (xs ++ ys) → AllFrom P (start ++ xs) ys
-all_behind {A = A} P start [] ys h = subst (λ (t : List A). AllFrom P t ys) (sym (append-nil start)) h
-all_behind {A = A} P start (x ∷ xs) ys h = subst (λ (t : List A). AllFrom P t ys) (append_assoc start (x ∷ []) xs) (all_behind P (start ++ x ∷ []) xs ys h.1)
+all_behind {A = A} P start [] ys h = rw (append-nil start) h
+all_behind {A = A} P start (x ∷ xs) ys h = rw (← append_assoc start (x ∷ []) xs) (all_behind P (start ++ x ∷ []) xs ys h.1)
 
 pub each_append : {A B : Type 0} (g : List A → A → List B) (start xs ys : List A) → each_from g start (xs ++ ys) ≡ each_from g start xs
     ++ each_from g (start ++ xs) ys
 each_append {A = A} g start [] ys = ap (λ (t : List A). each_from g t ys) (sym (append-nil start))
 each_append {A = A} {B = B} g start (x ∷ xs) ys =
-    ap (λ (t : List B). g start x ++ t) (each_append g (start ++ x ∷ []) xs ys)
-    ∙ (sym (append_assoc (g start x) (each_from g (start ++ x ∷ []) xs) (each_from g ((start ++ x ∷ []) ++ xs) ys))
-    ∙ ap (λ (t : List A). (g start x ++ each_from g (start ++ x ∷ []) xs) ++ each_from g t ys) (append_assoc start (x ∷ []) xs))
+    rw (each_append g (start ++ x ∷ []) xs ys) (sym (append_assoc (g start x) (each_from g (start ++ x ∷ []) xs) (each_from g ((start ++ x ∷ []) ++ xs) ys))
+    ∙ rw (append_assoc start (x ∷ []) xs))
 
 -- ---- more frames
 
@@ -39,8 +38,7 @@ one_octets f = append-nil (frame_octets f)
 pub more_octets : {E X : Type 0} (R : Rules E X) (octets : List ℕ) (fs gs : List Frame) → Run R octets fs [] Going
     → octets ++ frames_octets gs ≡ frames_octets (fs ++ gs) ++ []
 more_octets R octets fs gs run =
-    ap (λ (t : List ℕ). t ++ frames_octets gs) (run.whole ∙ append-nil (frames_octets fs))
-    ∙ (sym (frames_octets-append fs gs) ∙ sym (append-nil (frames_octets (fs ++ gs))))
+    rw (run.whole ∙ append-nil (frames_octets fs)) (sym (frames_octets-append fs gs) ∙ sym (append-nil (frames_octets (fs ++ gs))))
 
 -- frames that are taken behind others
 pub run_on : {E X : Type 0} (R : Rules E X) (octets : List ℕ) (fs gs : List Frame) → Run R octets fs [] Going → AllFrom (Fits R) fs gs
@@ -95,10 +93,10 @@ front_frames R start (f ∷ fs) [] rest p q e = absurd (none_left R f fs rest e)
 front_frames R start (f ∷ fs) (g ∷ gs) rest p q e =
     let parts : frame_octets f ++ (frames_octets fs ++ rest) ≡ frame_octets g ++ frames_octets gs =
     sym (front_frame f fs rest)
-    ∙ (e ∙ (sym (append-nil (frames_octets (g ∷ gs))) ∙ (front_frame g gs [] ∙ ap (λ (t : List ℕ). frame_octets g ++ t) (append-nil (frames_octets gs)))))
+    ∙ (e ∙ (sym (append-nil (frames_octets (g ∷ gs))) ∙ (front_frame g gs [] ∙ rw (append-nil (frames_octets gs)))))
     in
     let one = one_frame f g (frames_octets fs ++ rest) (frames_octets gs) p.0.sized q.0.sized parts in
-    let q' : AllFrom (Fits R) (start ++ f ∷ []) gs = subst (λ (h : Frame). AllFrom (Fits R) (start ++ h ∷ []) gs) (sym one.0) q.1 in
+    let q' : AllFrom (Fits R) (start ++ f ∷ []) gs = rw one.0 q.1 in
     let more = front_frames R (start ++ f ∷ []) fs gs rest p.1 q' one.1 in
     (more.0, same_head f g fs gs more.0 one.0 more.1)
 
@@ -108,7 +106,7 @@ pub begins_run : {E X : Type 0} (R : Rules E X) (octets more : List ℕ) (fs gs 
 unfolding AllAfter
 begins_run R octets more fs gs rest end r s =
     front_frames R [] fs gs (rest ++ more) r.good s.good
-    (sym (append_assoc (frames_octets fs) rest more) ∙ (ap (λ (t : List ℕ). t ++ more) (sym r.whole) ∙ (s.whole ∙ append-nil (frames_octets gs))))
+    (sym (append_assoc (frames_octets fs) rest more) ∙ (rw (sym r.whole) (s.whole ∙ append-nil (frames_octets gs))))
 
 -- and what a beginning tells is the first of what the whole tells
 pub begins_told : {E X : Type 0} (R : Rules E X) (octets more : List ℕ) (fs gs : List Frame) (rest : List ℕ) (end : End X) → Run R octets fs rest Going
@@ -122,7 +120,7 @@ pub begins : {E X : Type 0} (R : Rules E X) (octets more : List ℕ) (fs gs : Li
     → (later : List E) × (all ≡ told ++ later)
 begins {E = E} R octets more fs gs rest told all end r is s are =
     let b = begins_told R octets more fs gs rest end r s in
-    (b.0, sym are ∙ (b.1 ∙ ap (λ (t : List E). t ++ b.0) is))
+    (b.0, sym are ∙ (b.1 ∙ rw is))
 
 -- no beginning of octets that go on is over
 pub not_over : {E X : Type 0} (R : Rules E X) (octets more : List ℕ) (fs gs : List Frame) (rest : List ℕ) → Run R octets fs rest Over
@@ -153,4 +151,4 @@ same_told R octets fs gs rest more told others r s is are = sym is ∙ (ap (even
 -- what is told behind a frame that tells one thing
 pub told_behind : {E X : Type 0} (R : Rules E X) (fs : List Frame) (f : Frame) (told : List E) (e : E) → events R fs ≡ told → R.tells fs f ≡ e ∷ []
     → events R (fs ++ f ∷ []) ≡ told ++ e ∷ []
-told_behind {E = E} R fs f told e is tells = events-push R fs f ∙ (ap (λ (t : List E). events R fs ++ t) tells ∙ ap (λ (t : List E). t ++ e ∷ []) is)
+told_behind {E = E} R fs f told e is tells = events-push R fs f ∙ (rw (tells, is))

@@ -1,5 +1,5 @@
 -- Where replies go, by what was told.
-use Rattle.std.proofs.Common.{◌≡◌, ℕ, ◌+◌, List, [], ◌∷◌, ◌++◌, Option, Some, None, option_map, map, refl, sym, ◌∙◌, ap, append_assoc, append-nil, subst}
+use Rattle.std.proofs.Common.{◌≡◌, ℕ, ◌+◌, List, [], ◌∷◌, ◌++◌, Option, Some, None, option_map, map, refl, sym, ◌∙◌, ap, append_assoc, append-nil}
 use Rattle.std.specs.List.{flat_map}
 use Rattle.std.proofs.lemmas.Grind.{flat_map-append}
 use Rattle.ua_frame.specs.After.{each_from, each_after}
@@ -65,9 +65,9 @@ module _ (limits : Limits) (channel : ℕ) where
       let more : List Told = each_from (λ before g. server_tells limits (received before) (content g)) (start ++ f ∷ []) fs in
       ap (latest_behind (option_map (agreement_of limits) (received start).hello)) (flat_map-append agreements_in told more)
       ∙ (behind_append (option_map (agreement_of limits) (received start).hello) (flat_map agreements_in told) (flat_map agreements_in more)
-      ∙ (ap (λ (o : Option Agreement). latest_behind o (flat_map agreements_in more)) (one_more limits (received start) (content f)
-      ∙ ap (λ (b : Received). option_map (agreement_of limits) b.hello) (sym (received-push start f)))
-      ∙ (agreed_from (start ++ f ∷ []) fs ∙ ap (λ (xs : List Frame). option_map (agreement_of limits) (received xs).hello) (append_assoc start (f ∷ []) fs))))
+      ∙ (rw (one_more limits (received start) (content f)
+      ∙ ap (λ (b : Received). option_map (agreement_of limits) b.hello) (sym (received-push start f))) (agreed_from (start ++ f ∷ []) fs
+      ∙ ap (λ (xs : List Frame). option_map (agreement_of limits) (received xs).hello) (append_assoc start (f ∷ []) fs))))
 
   -- what frames told has in it what they agreed to
   pub agreed_told : (fs : List Frame) → agreed_by (events (server_rules limits channel) fs) ≡ option_map (agreement_of limits) (received fs).hello
@@ -115,8 +115,7 @@ used_there : (limits : Limits) (before : Received) (c : Content) (id used : ℕ)
     → (last_used (after before c) ≡ used) × ((after before c).hello ≡ before.hello)
 used_there limits before c id used octets e =
     let chunk = asks_by limits before c id used octets e in
-    subst (λ (k : Content). (last_used (after before k) ≡ used) × ((after before k).hello ≡ before.hello)) (sym chunk.1)
-    (item_token chunk.0.token (given before.messages chunk.0) id used octets (ap (server_tells limits before) (sym chunk.1) ∙ e), refl)
+    rw chunk.1 (item_token chunk.0.token (given before.messages chunk.0) id used octets (ap (server_tells limits before) (sym chunk.1) ∙ e), refl)
 
 -- where a reply goes right behind a whole message
 pub reply_goes : (x : ServerChannel) (octets : List ℕ) (told : List Told) (id token : ℕ) (message : List ℕ) (frames : List Frame) (rest : List ℕ) (lane : Lane)
@@ -128,8 +127,8 @@ reply_goes x octets told id token message frames rest lane g s (h, hello_is, lan
     let used : last_used (received frames) ≡ token = ap last_used now
     ∙ (used_there (limits_of x) (received g.frames) (content g.frame) id token message g.tells).0 in
     let hello : (received g.frames).hello ≡ Some h = sym (used_there (limits_of x) (received g.frames) (content g.frame) id token message g.tells).1
-    ∙ (ap (λ (b : Received). b.hello) (sym now) ∙ hello_is) in (
+    ∙ (rw (sym now) hello_is) in (
       agreement_of (limits_of x) h,
       ap agreed_by (sym g.told_is) ∙ (agreed_told (limits_of x) (channel_of x) g.frames ∙ ap (option_map (agreement_of (limits_of x))) hello),
-      lane_is ∙ ap (λ (t : ℕ). lane_of (channel_of x) t (agreement_of (limits_of x) h)) used,
+      lane_is ∙ rw used,
     )

@@ -7,7 +7,6 @@ use Rattle.std.specs.Prelude.{◌↔◌}
 use Rattle.ua_builtin.specs.Reasons.{first_reason, renamed_reason}
 use Rattle.ua_builtin.proofs.FirstReasons.{first_behind, first_reason-map}
 use Rattle.ua_frame.specs.declared.frame.Frame.{Frame}
-use Rattle.ua_frame.specs.declared.gate.Gate.{Gate}
 use Rattle.ua_frame.specs.declared.hello.Hello.{Hello}
 use Rattle.ua_frame.specs.declared.kind.Kind.{Kind}
 use Rattle.ua_frame.specs.declared.kind.Kind.TheVariants.{Hel, Msg, Opn, Clo}
@@ -87,8 +86,8 @@ module _ (limits : Limits) (channel : ℕ) (b : Received) where
             ∙ all.1.1.1.1.1.1.0);
         on =
             on_channel (eqb (issued b) 0) (eqb (channel_of_header header.0) channel)
-            (ap (λ (t : Bool). t && not (eqb (channel_of_header header.0) channel)) (sym (some_issued (issued b)))
-            ∙ (ap (λ (s : Option SecurityHeader). ltb 0 (issued b) && of_header (λ h. not (eqb (channel_of_header h) channel)) s) (sym header.1)
+            (rw (sym (some_issued (issued b)))
+            (ap (λ (s : Option SecurityHeader). ltb 0 (issued b) && of_header (λ h. not (eqb (channel_of_header h) channel)) s) (sym header.1)
             ∙ all.1.1.1.1.1.1.1.0));
         left = all.1.1.1.1.1.1.1.1.1.1.1.1.1.1.0;
       }
@@ -175,7 +174,7 @@ accepted limits channel b (Closes c) g =
     judged_closes limits channel b c
     ∙ (first_behind (ids_reasons c channel (last_used b) (issued b)) ((0x8088_0000, not (may_follow b.last c.sequence)) ∷ [])
     (ids_taken limits channel b c g.carries)
-    ∙ ap (λ (t : Bool). first_reason ((0x8088_0000, t) ∷ [])) (not_from_true (may_follow b.last c.sequence) g.ordered.0))
+    ∙ rw (not_from_true (may_follow b.last c.sequence) g.ordered.0))
 accepted limits channel b Nothing g = refl
 
 -- ---- the order
@@ -205,8 +204,7 @@ no_close (Some c) cs = (λ h. h, λ h. h)
 
 order_is : (b : Received) (cs : List Content) (closed : Bool) (o : Option Hello) (n : ℕ) → b.closed ≡ closed → b.hello ≡ o → issued b ≡ n
     → Order b cs ↔ order_by closed o n cs
-order_is b cs closed o n p q r = subst (λ (t : Bool). Order b cs ↔ order_by t o n cs) p
-    (subst (λ (t : Option Hello). Order b cs ↔ order_by b.closed t n cs) q (subst (λ (t : ℕ). Order b cs ↔ order_by b.closed b.hello t cs) r (λ h. h, λ h. h)))
+order_is b cs closed o n p q r = rw (← p, ← q, ← r) (λ h. h, λ h. h)
 
 nil_by : (closed : Bool) (o : Option Hello) (n : ℕ) → order_by closed o n []
 nil_by true o n = refl
@@ -264,8 +262,7 @@ module _ (limits : Limits) (channel : ℕ) (b : Received) (f : Frame) (cs : List
       in_order refl (order_is (after b (Opens (opening_of f.body))) cs false (Some h) (suc zero) goes_on q (one_issued b (opening_of f.body) zero r))
   order_here (Some h) zero Clo q r placed may = out_of_order (λ e. cc) (no_close (chunk_in f) cs).1
   order_here (Some h) (suc n) k q r placed may =
-      subst (λ (g : Gate). InOrder g k (Order (after b (content_by k f)) cs) (order_by false (Some h) (suc n) (content_by k f ∷ cs)))
-      (sym (greeted_by (receive_size limits (Some h)) (suc n) (omega arith))) (open_order h n k q r)
+      rw (greeted_by (receive_size limits (Some h)) (suc n) (omega arith)) (open_order h n k q r)
 
 -- ---- from some frames on
 
@@ -294,14 +291,13 @@ module _ (limits : Limits) (channel : ℕ) where
   pub placed_next : (start : List Frame) (f : Frame) → IsPlaced (received start) → IsTrue (lets_in (server_gate limits (received start)) f.kind)
       → IsPlaced (received (start ++ f ∷ []))
   placed_next start f placed kind =
-      subst IsPlaced (sym (received-push start f ∙ ap (after (received start)) (content_kind f)))
+      rw (received-push start f ∙ ap (after (received start)) (content_kind f))
       (placed_more limits (received start) f f.kind (received start).hello refl placed kind)
 
   order_frame : (b : Received) (f : Frame) (cs : List Content) → b.closed ≡ false → IsPlaced b → MayCarry channel b (content f)
       → InOrder (server_gate limits b) f.kind (Order (after b (content f)) cs) (Order b (content f ∷ cs))
   order_frame b f cs e placed =
-      subst (λ (c : Content). MayCarry channel b c → InOrder (server_gate limits b) f.kind (Order (after b c) cs) (Order b (c ∷ cs))) (sym (content_kind f))
-      (λ may.
+      rw (content_kind f) (λ may.
       subst (λ (t : Bool). InOrder (server_gate limits b) f.kind (Order (after b (content_by f.kind f)) cs)
       (order_by t b.hello (issued b) (content_by f.kind f ∷ cs))) (sym e)
       (order_here limits channel b f cs e b.hello (issued b) f.kind refl refl placed may))
@@ -343,8 +339,8 @@ module _ (limits : Limits) (channel : ℕ) where
   nothing_placed none = ap issued received-nil
 
   nothing_order : (frames : List Frame) → Order (received []) (map content frames) ↔ order_by false None 0 (map content frames)
-  nothing_order frames = order_is (received []) (map content frames) false None 0 (ap (λ (b : Received). b.closed) received-nil)
-      (ap (λ (b : Received). b.hello) received-nil) (ap issued received-nil)
+  nothing_order frames = order_is (received []) (map content frames) false None 0 (rw received-nil)
+      (rw received-nil) (ap issued received-nil)
 
   -- the frames that a server takes are those of a conversation, or the beginning of one
   pub converses : (frames : List Frame) → AllAfter (Fits (server_rules limits channel)) frames ↔ ServerConversation limits channel frames
@@ -421,6 +417,6 @@ none_wrong limits channel octets raws rest framed = (
       (λ why e.
       never why
       (first_of_stop (server_rules limits channel) octets raws rest why framed
-      (record { frames = r.frames; rest = r.rest; run = subst (λ (d : End ℕ). Run (server_rules limits channel) octets r.frames r.rest d) e r.run }))),
+      (record { frames = r.frames; rest = r.rest; run = rw (← e) r.run }))),
   λ c why wrong. never_stops limits channel octets c.frames c.rest why c.is (stop_of_first (server_rules limits channel) octets raws rest why framed wrong),
 )

@@ -1,23 +1,21 @@
 -- That a server reads merged messages with renewals among them from where it stands, what they tell it, and where it stands behind them.
-use Rattle.std.proofs.Common.{◌≡◌, ℕ, ◌+◌, ◌<◌, ◌≤◌, ◌^◌, true, false, leb, List, [], ◌∷◌, ◌++◌, Option, Some, None}
-use Rattle.std.proofs.Common.{length, map, refl, sym, ◌∙◌, ap, subst, arith, append-nil, append_assoc, length-append}
+use Rattle.std.proofs.Common.{◌≡◌, ℕ, ◌+◌, ◌≤◌, true, false, leb, List, [], ◌∷◌, ◌++◌, Option, Some, None}
+use Rattle.std.proofs.Common.{length, map, refl, sym, ◌∙◌, ap, arith, append-nil, append_assoc, length-append}
 use Rattle.std.specs.List.{filter, range_with_len}
-use Rattle.std.proofs.lemmas.Bool.{and_from, eq-eqb, eqb-false, le-leb}
+use Rattle.std.proofs.lemmas.Bool.{and_from, eq-eqb, le-leb}
 use Rattle.std.proofs.lemmas.List.Concat.{flat_map-append}
 use Rattle.ua_frame.specs.declared.frame.Frame.{Frame}
-use Rattle.ua_frame.specs.declared.hello.Hello.{Hello}
 use Rattle.ua_frame.specs.declared.limits.Limits.{Limits}
 use Rattle.ua_frame.specs.After.{AllFrom, each_from}
 use Rattle.ua_frame.specs.Frames.{frame_size, frames_octets}
 use Rattle.ua_frame.specs.Run.{Fits, events}
 use Rattle.ua_opening.specs.declared.secure_channel.OpenRequest.{OpenRequest}
 use Rattle.ua_chunk.specs.declared.chunk.Chunk.{Chunk}
-use Rattle.ua_chunk.specs.Delivered.{delivered, given}
+use Rattle.ua_chunk.specs.Delivered.{given}
 use Rattle.ua_chunk.specs.Item.{Item}
 use Rattle.ua_chunk.specs.Item.Item.{Whole, Aborted}
 use Rattle.ua_chunk.specs.Merge.{Sent, is_item_of, outcome_under, outcomes, sent_under}
 use Rattle.ua_chunk.specs.Open.{open_ids}
-use Rattle.ua_chunk.specs.Refusal.{TakesMessages}
 use Rattle.ua_chunk.specs.Sequence.{may_follow}
 use Rattle.ua_channel.specs.Content.{Content, Opening, content}
 use Rattle.ua_channel.specs.Content.Content.{Opens, Sends}
@@ -36,6 +34,7 @@ use Rattle.ua_channel_laws.proofs.MergedFrames.{all_told, at_end, each_along, go
 use Rattle.ua_channel_laws.proofs.MergedFrames.{latest_or-append, next_follows, of_either, openings-more, sized}
 use Rattle.ua_channel_laws.proofs.ReadOn.{events_on, run_on}
 use Rattle.ua_channel_laws.proofs.ServerConversing.{taken_open}
+use Rattle.ua_channel_laws.proofs.ServerRuns.{reads_at}
 use Rattle.ua_channel_laws.proofs.ServerMessages.{messages_delivered}
 
 -- ---- tokens
@@ -48,7 +47,7 @@ no_tokens token (Aborted id code reason ∷ items) = no_tokens token items
 token_opened : (token : ℕ) (n : Option (ℕ × ℕ)) (body : List ℕ) (r : OpenRequest) → request_behind n body ≡ Some r
     → tokens_told (opened_by token n (request_behind n body)) ≡ token ∷ []
 token_opened token None body r e = absurd cc
-token_opened token (Some m) body r e = ap (λ (q : Option OpenRequest). tokens_told (opened_by token (Some m) q)) e
+token_opened token (Some m) body r e = rw e
 
 request_token : (channel count token : ℕ) (o : Opening) → IsGoodRequest channel count o → tokens_told (opened_by token o.numbers (request_of o)) ≡ token ∷ []
 unfolding request_of
@@ -67,9 +66,7 @@ record Place (at : AtServer) (base : List Chunk) (b : Received) (ts : List ℕ) 
   hello_is : b.hello ≡ Some at.hello
   goes_on : b.closed ≡ false
   issued_is : issued b ≡ at.issued + length os
-  few_issued : at.issued + length os < 2 ^ 32
   used_is : last_used b ≡ latest_or at.used ts
-  some_used : 0 < latest_or at.used ts
   messages_are : b.messages ≡ base ++ cs
 
 module _ (limits : Limits) (channel : ℕ) (at : AtServer) (base : List Chunk) where
@@ -87,41 +84,35 @@ module _ (limits : Limits) (channel : ℕ) (at : AtServer) (base : List Chunk) w
       → ((c : Chunk) → IsChunkHere channel (with_merged at us at.next) c → P (Sends c)) → (k : Content) → Carries us k → P k
   by_either us P h g k may = of_either (IsGoodRequest channel (with_merged at us at.next).issued) (IsChunkHere channel (with_merged at us at.next)) P h g k may
 
-  opened : (b : Received) (ts : List ℕ) (os : List Opening) (cs : List Chunk) (o : Opening) → IsGoodRequest channel (at.issued + length os) o → Here b ts os cs
+  opened : (b : Received) (ts : List ℕ) (os : List Opening) (cs : List Chunk) (o : Opening) → Here b ts os cs
       → Here (after b (Opens o)) (ts ++ []) (os ++ o ∷ []) (cs ++ [])
-  opened b ts os cs o g p =
-      let left : at.issued + length os ≡ 4294967295 → ⊥ = eqb-false (at.issued + length os) 4294967295 g.left in
-      let more : length (os ++ o ∷ []) ≡ length os + 1 = length-append os (o ∷ []) in
+  opened b ts os cs o p =
       rw (append-nil ts, append-nil cs)
       (record {
         hello_is = p.hello_is;
         goes_on = p.goes_on;
-        issued_is = omega (arith, p.issued_is, more, length-append b.openings (o ∷ []));
-        few_issued = grind (left, p.few_issued, more, arith);
+        issued_is = omega (arith, p.issued_is, length-append os (o ∷ []), length-append b.openings (o ∷ []));
         used_is = p.used_is;
-        some_used = p.some_used;
         messages_are = p.messages_are;
       })
 
-  sent : (b : Received) (ts : List ℕ) (os : List Opening) (cs : List Chunk) (c : Chunk) → latest_or at.used ts ≤ c.token → Here b ts os cs
+  sent : (b : Received) (ts : List ℕ) (os : List Opening) (cs : List Chunk) (c : Chunk) → Here b ts os cs
       → Here (after b (Sends c)) (ts ++ c.token ∷ []) (os ++ []) (cs ++ c ∷ [])
-  sent b ts os cs c taken p =
+  sent b ts os cs c p =
       rw (append-nil os)
       (record {
         hello_is = p.hello_is;
         goes_on = p.goes_on;
         issued_is = p.issued_is;
-        few_issued = p.few_issued;
         used_is = sym (latest_or-append at.used ts (c.token ∷ []));
-        some_used = omega (arith, p.some_used, taken, latest_or-append at.used ts (c.token ∷ []));
-        messages_are = ap (λ (t : List Chunk). t ++ c ∷ []) p.messages_are ∙ append_assoc base cs (c ∷ []);
+        messages_are = rw p.messages_are (append_assoc base cs (c ∷ []));
       })
 
   step : (b : Received) (us : List Frame) (f : Frame) → May us f → Here b (used_tokens us) (openings us) (messages us)
       → Here (after b (content f)) (used_tokens us ++ tokens_in (content f)) (openings us ++ openings_in (content f)) (messages us ++ chunks_in (content f))
   step b us f may p =
       by_either us (λ (k : Content). Here (after b k) (used_tokens us ++ tokens_in k) (openings us ++ openings_in k) (messages us ++ chunks_in k))
-      (λ o g. opened b (used_tokens us) (openings us) (messages us) o g p) (λ c g. sent b (used_tokens us) (openings us) (messages us) c g.1.not_before p)
+      (λ o g. opened b (used_tokens us) (openings us) (messages us) o p) (λ c g. sent b (used_tokens us) (openings us) (messages us) c p)
       (content f) may.1
 
   order_from : (us fs : List Frame) → AllFrom May us fs → IsOrderOpen (map content fs)
@@ -132,7 +123,7 @@ module _ (limits : Limits) (channel : ℕ) (at : AtServer) (base : List Chunk) w
 
   carried : (us : List Frame) (b : Received) (k : Content) → Carries us k → Here b (used_tokens us) (openings us) (messages us) → MayCarry channel b k
   carried us b k may p =
-      by_either us (λ (d : Content). MayCarry channel b d) (λ o g. subst (λ (n : ℕ). IsGoodRequest channel n o) (sym p.issued_is) g)
+      by_either us (λ (d : Content). MayCarry channel b d) (λ o g. rw p.issued_is g)
       (λ c g.
       record {
         on = eq-eqb c.channel channel g.0;
@@ -148,7 +139,7 @@ module _ (limits : Limits) (channel : ℕ) (at : AtServer) (base : List Chunk) w
       by_either us (λ (d : Content). EachEnds ms (messages us) (chunks_in d ++ rest)
       → server_tells limits b d ≡ told_by_merged ms (at.issued + length (openings us)) d)
       (λ o g ends. ap (λ (n : ℕ). opened_by (n + 1) o.numbers (request_of o)) p.issued_is)
-      (λ c g ends. ap (map (told_under c.token)) (ap (λ (cs : List Chunk). given cs c) p.messages_are ∙ (given_fresh base (messages us) c none ∙ ends.0))) k may
+      (λ c g ends. ap (map (told_under c.token)) (rw p.messages_are (given_fresh base (messages us) c none ∙ ends.0))) k may
 
   token_at : (ms : List Sent) (us : List Frame) (n : ℕ) (k : Content) → Carries us k
       → tokens_told (told_by_merged ms n k) ≡ range_with_len (n + 1) (length (openings_in k))
@@ -169,11 +160,9 @@ module _ (limits : Limits) (channel : ℕ) (at : AtServer) (base : List Chunk) w
       let next : (at.issued + length (openings (us ++ f ∷ []))) + 1 ≡ ((at.issued + length (openings us)) + 1) + length (openings_in (content f)) =
       omega (arith, ap length (openings-more us f), length-append (openings us) (openings_in (content f))) in
       flat_map-append token_issued (told_by_merged ms (at.issued + length (openings us)) (content f)) later
-      ∙ (ap (λ (ts : List ℕ). ts ++ tokens_told later) (token_at ms us (at.issued + length (openings us)) (content f) may.0.1)
-      ∙ (ap (λ (ts : List ℕ). here ++ ts) (tokens_from ms (us ++ f ∷ []) fs may.1)
-      ∙ (ap (λ (n : ℕ). here ++ range_with_len n (length (openings fs))) next
-      ∙ (range-append ((at.issued + length (openings us)) + 1) (length (openings_in (content f))) (length (openings fs))
-      ∙ ap (range_with_len ((at.issued + length (openings us)) + 1)) (sym (length-append (openings_in (content f)) (openings fs)))))))
+      ∙ (rw (token_at ms us (at.issued + length (openings us)) (content f) may.0.1, tokens_from ms (us ++ f ∷ []) fs may.1, next)
+      (range-append ((at.issued + length (openings us)) + 1) (length (openings_in (content f))) (length (openings fs))
+      ∙ ap (range_with_len ((at.issued + length (openings us)) + 1)) (sym (length-append (openings_in (content f)) (openings fs)))))
 
 -- ---- the law
 
@@ -204,9 +193,7 @@ module _ (limits : Limits) (channel : ℕ) (octets : List ℕ) (told : List Told
     hello_is = r.hello_is;
     goes_on = r.run.ends.0;
     issued_is = omega (arith, r.issued_is);
-    few_issued = omega (arith, r.few_issued);
     used_is = r.used_is;
-    some_used = r.some_used;
     messages_are = sym (append-nil base);
   }
 
@@ -220,14 +207,13 @@ module _ (limits : Limits) (channel : ℕ) (octets : List ℕ) (told : List Told
       (each_along r.frames (Place at base) (May limits channel at base) (step limits channel at base) more first may (λ us c. given us c ≡ ended_by ms c)
       merge.each
       (λ us f. frame_size f ≤ receive_size limits (received us).hello)
-      (λ us f rest can p ends. subst (λ (o : Option Hello). frame_size f ≤ receive_size limits o) (sym p.hello_is) can.0))
+      (λ us f rest can p ends. rw p.hello_is can.0))
       (each_along r.frames (Place at base) (May limits channel at base) (step limits channel at base) more first may (λ us c. given us c ≡ ended_by ms c)
       merge.each
       (λ us f. MayCarry channel (received us) (content f))
       (λ us f rest can p ends. carried limits channel at base us (received (r.frames ++ us)) (content f) can.1 p))
       (goes_ordered (received r.frames).last start next (numbers more) follows m.numbered)
-      (subst (λ (us : List Chunk). TakesMessages limits.max_message_size limits.max_chunk_count us (messages more)) (append-nil base)
-      (takes_fresh limits.max_message_size limits.max_chunk_count base [] (messages more) r.none_open merge.taken))
+      (rw (← append-nil base) (takes_fresh limits.max_message_size limits.max_chunk_count base [] (messages more) r.none_open merge.taken))
 
   told_here : each_from (server_rules limits channel).tells r.frames more ≡ told_of_merge ms at.issued more
   told_here =
@@ -239,24 +225,13 @@ module _ (limits : Limits) (channel : ℕ) (octets : List ℕ) (told : List Told
   tells_all : events (server_rules limits channel) (r.frames ++ more) ≡ told ++ told_of_merge ms at.issued more
   tells_all =
       events_on (server_rules limits channel) r.frames more
-      ∙ (ap (λ (ts : List Told). ts ++ each_from (server_rules limits channel).tells r.frames more) r.told_is ∙ ap (λ (ts : List Told). told ++ ts) told_here)
+      ∙ (rw (r.told_is, told_here))
 
   pub reads_merged : ServerReads limits channel (octets ++ frames_octets more) (told ++ told_of_merge ms at.issued more) (with_merged at more next)
-  reads_merged = record {
-    frames = r.frames ++ more;
-    run = run_on (server_rules limits channel) octets r.frames more r.run fit there.goes_on;
-    told_is = tells_all;
-    hello_is = there.hello_is;
-    large = r.large;
-    sized = r.sized;
-    issued_is = there.issued_is;
-    few_issued = there.few_issued;
-    used_is = there.used_is;
-    some_used = there.some_used;
-    follows = goes_follows r.frames more start next follows m.numbered;
-    next_small = goes_small start next (numbers more) m.numbered;
-    none_open = ap open_ids there.messages_are ∙ closed_fresh base (messages more) r.none_open merge.none_open;
-  }
+  reads_merged =
+      reads_at (r.frames ++ more) (run_on (server_rules limits channel) octets r.frames more r.run fit there.goes_on) tells_all
+      (rw (there.hello_is, there.issued_is, there.used_is) refl) (goes_follows r.frames more start next follows m.numbered)
+      (goes_small start next (numbers more) m.numbered) (ap open_ids there.messages_are ∙ closed_fresh base (messages more) r.none_open merge.none_open)
 
   pub reads_messages : messages_in (told_of_merge ms at.issued more) ≡ map message_of_item (outcomes ms (messages more))
   reads_messages =
@@ -264,7 +239,7 @@ module _ (limits : Limits) (channel : ℕ) (octets : List ℕ) (told : List Told
       (flat_map-append message_in told (told_of_merge ms at.issued more)) r.none_open merge.all
       (ap messages_in (sym r.told_is) ∙ messages_delivered limits channel r.frames)
       (ap messages_in (sym tells_all)
-      ∙ (messages_delivered limits channel (r.frames ++ more) ∙ ap (λ (cs : List Chunk). map message_of_item (delivered cs)) there.messages_are))
+      ∙ (messages_delivered limits channel (r.frames ++ more) ∙ rw there.messages_are))
 
   pub reads_once : (id : ℕ) → filter (is_message_under id) (messages_in (told_of_merge ms at.issued more))
       ≡ map message_of_item (outcome_under (sent_under id ms))
@@ -272,4 +247,4 @@ module _ (limits : Limits) (channel : ℕ) (octets : List ℕ) (told : List Told
       (message_names id)
 
   pub reads_tokens : tokens_told (told_of_merge ms at.issued more) ≡ range_with_len (at.issued + 1) (length (openings more))
-  reads_tokens = tokens_from limits channel at base ms [] more may ∙ ap (λ (n : ℕ). range_with_len (n + 1) (length (openings more))) (no_openings at.issued)
+  reads_tokens = tokens_from limits channel at base ms [] more may ∙ rw (no_openings at.issued)

@@ -1,5 +1,5 @@
 -- That a server is told just the messages that chunks deliver.
-use Rattle.std.proofs.Common.{◌≡◌, ℕ, ◌+◌, List, [], ◌∷◌, map, Option, Some, None, refl, ap}
+use Rattle.std.proofs.Common.{◌≡◌, ℕ, ◌+◌, List, [], ◌∷◌, map, Option, Some, None, refl}
 use Rattle.std.proofs.lemmas.Grind.{flat_map-append}
 use Rattle.ua_frame.specs.declared.frame.Frame.{Frame}
 use Rattle.ua_frame.specs.declared.limits.Limits.{Limits}
@@ -22,8 +22,8 @@ Message = ℕ × Option (List ℕ)
 
 items_in : (token : ℕ) (items : List Item) → messages_in (map (told_under token) items) ≡ map message_of_item items
 items_in token [] = refl
-items_in token (Whole id octets ∷ is) = ap (λ (ms : List Message). (id, Some octets) ∷ ms) (items_in token is)
-items_in token (Aborted id code reason ∷ is) = ap (λ (ms : List Message). (id, None) ∷ ms) (items_in token is)
+items_in token (Whole id octets ∷ is) = rw (items_in token is)
+items_in token (Aborted id code reason ∷ is) = rw (items_in token is)
 
 no_message : (token : ℕ) (numbers : Option (ℕ × ℕ)) (request : Option OpenRequest) → messages_in (opened_by token numbers request) ≡ []
 no_message token (Some n) (Some r) = refl

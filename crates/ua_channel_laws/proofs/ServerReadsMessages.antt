@@ -1,15 +1,14 @@
 -- That a server takes what a client writes, one message after the other.
-use Rattle.std.proofs.Common.{◌≡◌, ℕ, ℤ, pos, ◌+◌, ◌<◌, ◌≤◌, ◌^◌, Bool, true, false, IsTrue, eqb, leb, ltb, List, [], ◌∷◌}
+use Rattle.std.proofs.Common.{◌≡◌, ℕ, ℤ, pos, ◌+◌, ◌<◌, ◌≤◌, ◌^◌, Bool, true, false, IsTrue, eqb, leb, List, [], ◌∷◌}
 use Rattle.std.proofs.Common.{◌++◌, Option, Some, None, length, map, refl, sym, ◌∙◌, ap, subst, arith, length-append}
 use Rattle.std.specs.Prelude.{if◌then◌else◌}
 use Rattle.std.proofs.lemmas.List.{map-append}
-use Rattle.std.proofs.lemmas.Bool.{and_from, and_parts, eq-eqb, le-leb, le-ltb, lt-ltb, ltb-true, ne_eqb}
+use Rattle.std.proofs.lemmas.Bool.{and_from, eq-eqb, le-leb, le-ltb, lt-ltb, ne_eqb}
 use Rattle.ua_builtin.specs.DateTime.{date_time}
 use Rattle.ua_builtin.specs.NodeId.{node_id}
 use Rattle.ua_builtin.specs.Reasons.{first_reason}
 use Rattle.ua_builtin.specs.declared.date_time.DateTime.{DateTime}
 use Rattle.ua_frame.specs.declared.frame.Frame.{Frame}
-use Rattle.ua_frame.specs.declared.gate.Gate.{Gate}
 use Rattle.ua_frame.specs.declared.hello.Hello.{Hello}
 use Rattle.ua_frame.specs.declared.limits.Limits.{Limits}
 use Rattle.ua_frame.specs.Agreement.{url_length}
@@ -37,8 +36,7 @@ use Rattle.ua_chunk.specs.declared.lane.Lane.{Lane}
 use Rattle.ua_chunk.specs.Cutting.{chunks_octets, chunks_of, numbered, number_after, pieces, chunk_of, flag_before}
 use Rattle.ua_chunk.specs.Layout.{chunk_in, frame_of}
 use Rattle.ua_chunk.specs.Merge.{Sent, outcomes}
-use Rattle.ua_chunk.specs.Open.{open_ids}
-use Rattle.ua_chunk.specs.Sequence.{may_follow, next_number}
+use Rattle.ua_chunk.specs.Sequence.{next_number}
 use Rattle.ua_chunk.proofs.Carried.{chunk_found}
 use Rattle.ua_chunk.proofs.CutLaws.{follows_next, cut_delivered}
 use Rattle.ua_chunk.proofs.Fresh.{some_pieces}
@@ -48,7 +46,7 @@ use Rattle.ua_channel.specs.Content.{Content, content, opening_of}
 use Rattle.ua_channel.specs.Content.Content.{Greets, Opens, Closes}
 use Rattle.ua_channel.specs.ClientSends.{first_open, hello_frame, hello_to, open_frame, renewal_frame, close_frame, token_lifetime}
 use Rattle.ua_channel.specs.Agreement.{agreement_of}
-use Rattle.ua_channel.specs.Received.{Received, after, nothing_received, number_or, received, numbers, openings, tokens_in, used_tokens}
+use Rattle.ua_channel.specs.Received.{Received, after, nothing_received, received, numbers, openings, tokens_in, used_tokens}
 use Rattle.ua_channel_laws.specs.ServerReads.{AtServer, IsBodyFor, IsLaneTo, IsTakenAt, ServerCloses, ServerReads, with_message, with_token}
 use Rattle.ua_channel.specs.ServerRefusals.{is_taken, last_used, server_reasons, type_wanted}
 use Rattle.ua_channel.specs.ServerRules.{server_gate_behind, opening_gate, receive_size, running_gate, server_gate, server_rules}
@@ -65,8 +63,9 @@ use Rattle.ua_channel_laws.proofs.CutChunks.{frames_messages, frames_numbers, fr
 use Rattle.ua_channel_laws.proofs.MergedChunks.{comes}
 use Rattle.ua_channel_laws.proofs.MergedFrames.{latest_or-append, none_used, tokens-more}
 use Rattle.ua_channel_laws.proofs.ServerMerges.{reads_merged}
+use Rattle.ua_channel_laws.proofs.ServerRuns.{reads_at}
 use Rattle.ua_channel_laws.specs.Conversation.{IsGoodRequest}
-use Rattle.ua_channel_laws.specs.Merges.{AreMerged, CarriesEither, IsChunkHere, NumbersGoOn, ServerMerge}
+use Rattle.ua_channel_laws.specs.Merges.{CarriesEither, IsChunkHere, NumbersGoOn, ServerMerge}
 use Rattle.ua_channel_laws.specs.Merges.{ended_by, latest_or, told_by_merged, told_of_merge, with_merged}
 use Rattle.ua_channel.proofs.ChunkFrames.{header_sizes}
 use Rattle.ua_channel_laws.proofs.Written.{IsOf, chunks_are, none_is, opening_carried, lets_opn, chunk_carried}
@@ -100,9 +99,11 @@ module _ (limits : Limits) (channel : ℕ) (octets : List ℕ) (told : List Told
       us (map frame_of cs)
   carries_from us [] s le = tt
   carries_from us (c ∷ cs) s le = (
-    subst (CarriesEither (IsGoodRequest channel (with_merged at us at.next).issued) (IsChunkHere channel (with_merged at us at.next)))
-        (sym (chunk_carried c s.0.numbers))
-        (s.0.channel_is ∙ to.on, record { not_before = omega (arith, le, s.0.token_is); issued = omega (arith, s.0.token_is, to.taken.issued) }),
+    rw (chunk_carried c s.0.numbers) (
+      s.0.channel_is
+          ∙ to.on,
+      record { not_before = omega (arith, le, s.0.token_is); issued = omega (arith, s.0.token_is, to.taken.issued) },
+    ),
     carries_from (us ++ frame_of c ∷ []) cs s.1
         (omega (
           arith,
@@ -119,32 +120,29 @@ module _ (limits : Limits) (channel : ℕ) (octets : List ℕ) (told : List Told
       let later : List Told = each_from (λ vs f. told_by_merged ms (at.issued + length (openings vs)) (content f)) (us ++ frame_of c ∷ []) (map frame_of cs) in
       ap (λ (k : Content). told_by_merged ms (at.issued + length (openings us)) k ++ later) (chunk_carried c s.0.numbers)
       ∙ (ap (λ (t : ℕ). map (told_under t) (ended_by ms c) ++ later) s.0.token_is
-      ∙ (ap (λ (ts : List Told). map (told_under lane.token) (ended_by ms c) ++ ts) (told_from ms (us ++ frame_of c ∷ []) cs s.1)
-      ∙ sym (map-append (told_under lane.token) (ended_by ms c) (outcomes ms cs))))
+      ∙ (rw (told_from ms (us ++ frame_of c ∷ []) cs s.1) (sym (map-append (told_under lane.token) (ended_by ms c) (outcomes ms cs)))))
 
   goes : NumbersGoOn at.next (numbers (map frame_of chunks)) (number_after at.next (pieces lane.room body))
   goes =
       let ps = some_pieces lane.room body w.some in
-      subst (λ (ns : List ℕ). NumbersGoOn at.next ns (number_after at.next (pieces lane.room body))) (sym (frames_numbers size lane id chunks all_sent))
-      (subst (λ (t : List (List ℕ)). NumbersGoOn at.next (map (λ (c : Chunk). c.sequence) (numbered lane at.next id t)) (number_after at.next t)) (sym ps.are)
-      (cut_goes lane at.next id ps.first ps.others r.next_small))
+      rw (frames_numbers size lane id chunks all_sent, ps.are) (cut_goes lane at.next id ps.first ps.others r.next_small)
 
   merge : ServerMerge limits channel at (alone.message ∷ []) (map frame_of chunks) (number_after at.next (pieces lane.room body))
   merge = record {
     is_open = omega (arith, to.taken.not_before, to.taken.issued, r.some_used);
     framed = frames_framed size lane id chunks r.sized all_sent;
     fits = frames_fit size lane id chunks all_sent;
-    carries = carries_from [] chunks all_sent (subst (λ (n : ℕ). n ≤ lane.token) (sym (none_used at.used)) to.taken.not_before);
+    carries = carries_from [] chunks all_sent (rw (none_used at.used) to.taken.not_before);
     numbered = goes;
-    merged = subst (AreMerged limits (alone.message ∷ [])) (sym (frames_messages size lane id chunks all_sent)) alone.merged;
+    merged = rw (frames_messages size lane id chunks all_sent) alone.merged;
   }
 
   used : latest_or at.used (used_tokens (map frame_of chunks)) ≡ lane.token
   used =
       let ps = some_pieces lane.room body w.some in
       ap (latest_or at.used) (frames_tokens size lane id chunks all_sent)
-      ∙ (ap (λ (t : List (List ℕ)). latest_or at.used (map (λ (c : Chunk). lane.token) (numbered lane at.next id t))) ps.are
-      ∙ last_token lane.token at.used (chunk_of lane (flag_before ps.others) at.next id ps.first) (numbered lane (next_number at.next) id ps.others))
+      ∙ (rw ps.are (last_token lane.token at.used (chunk_of lane (flag_before ps.others) at.next id ps.first)
+      (numbered lane (next_number at.next) id ps.others)))
 
   issues : at.issued + length (openings (map frame_of chunks)) ≡ at.issued
   issues = omega (arith, ap length (frames_openings size lane id chunks all_sent))
@@ -165,9 +163,8 @@ module _ (limits : Limits) (channel : ℕ) (octets : List ℕ) (told : List Told
       ServerReads limits channel (octets ++ chunks_octets chunks) (told ++ event.Asked id lane.token body ∷ [])
       (record at { issued = at.issued + length (openings (map frame_of chunks)); used = u; next = number_after at.next (pieces lane.room body) }))
       used
-      (subst (λ (ts : List Told). ServerReads limits channel (octets ++ chunks_octets chunks) (told ++ ts)
-      (with_merged at (map frame_of chunks) (number_after at.next (pieces lane.room body)))) tells
-      (reads_merged limits channel octets told at at.next (alone.message ∷ []) (map frame_of chunks) (number_after at.next (pieces lane.room body)) r
+      (rw (← tells) (reads_merged limits channel octets told at at.next (alone.message ∷ []) (map frame_of chunks)
+      (number_after at.next (pieces lane.room body)) r
       (record { frames = r.frames; run = r.run; follows = r.follows }) merge)))
 
 -- ---- one frame
@@ -179,14 +176,6 @@ opn_by true size f kind flag fits least = lets_opn (opening_gate size) f refl ki
 opn_by false size f kind flag fits least = lets_opn (running_gate size) f refl kind flag fits least
 
 -- ---- HEL
-
-send_fits : (h : Hello) → IsTrue (hello.encodable h) → h.send_buffer_size < 2 ^ 32
-unfolding hello
-send_fits h e =
-    let a = and_parts (ltb h.protocol_version (256 ^ 4)) _ e in
-    let b = and_parts (ltb h.receive_buffer_size (256 ^ 4)) _ a.1 in
-    let c = and_parts (ltb h.send_buffer_size (256 ^ 4)) _ b.1 in
-    omega (arith, ltb-true h.send_buffer_size (256 ^ 4) c.0)
 
 module _ (limits : Limits) (channel : ℕ) (client : Limits) (url : Option (List ℕ)) (fits : IsTrue (hello.encodable (hello_to client url)))
     (short : url_length url ≤ 4095) where
@@ -212,38 +201,26 @@ module _ (limits : Limits) (channel : ℕ) (client : Limits) (url : Option (List
   ) refl
 
   hello_received : received (hel ∷ []) ≡ record nothing_received { hello = Some said }
-  hello_received = received-push [] hel ∙ (ap (λ (b : Received). after b (content hel)) received-nil ∙ ap (after nothing_received) hello_carried)
+  hello_received = received-push [] hel ∙ (rw received-nil (ap (after nothing_received) hello_carried))
 
   hello_gate_is : (server_rules limits channel).gate [] ≡ hello_gate
   hello_gate_is = ap (server_gate limits) received-nil
 
   pub reads_hello : ServerReads limits channel (frame_octets (hello_frame (hello_to client url)))
       (event.Agreed (agreement_of limits (hello_to client url)) ∷ []) (record { hello = hello_to client url; issued = 0; used = 1; next = 1 })
-  reads_hello = record {
-    frames = hello_frame (hello_to client url) ∷ [];
-    run =
-        run_one (server_rules limits channel) [] [] (hello_frame (hello_to client url))
-        (run_nil (server_rules limits channel) (ap (λ (b : Received). b.closed) received-nil)) (record {
-          goes_on = ap (λ (b : Received). b.closed) received-nil;
-          sized = omega (arith, hello_size, short);
-          let_in = subst (λ (g : Gate). LetsIn g (hello_frame (hello_to client url))) (sym hello_gate_is)
-              (record { kind = refl; flag = refl; largest = omega (arith, hello_size, short); least = omega (arith, hello_size) });
-          accepted = ap (λ (k : Content). first_reason (server_reasons limits channel (received []) k)) hello_carried ∙ hello_good (received []);
-        }) (ap (λ (b : Received). b.closed) hello_received);
-    told_is = events-push (server_rules limits channel) [] (hello_frame (hello_to client url))
-        ∙ (ap (λ (ts : List Told). ts ++ server_tells limits (received []) (content (hello_frame (hello_to client url))))
-        (no_events (server_rules limits channel)) ∙ ap (server_tells limits (received [])) hello_carried);
-    hello_is = ap (λ (b : Received). b.hello) hello_received;
-    large = omega (arith, limits.receives, client.sends);
-    sized = omega (arith, send_fits (hello_to client url) fits);
-    issued_is = ap issued hello_received;
-    few_issued = omega arith;
-    used_is = ap last_used hello_received;
-    some_used = omega arith;
-    follows = ap (λ (b : Received). may_follow b.last 1) hello_received;
-    next_small = omega arith;
-    none_open = ap (λ (b : Received). open_ids b.messages) hello_received;
-  }
+  reads_hello =
+      reads_at (hello_frame (hello_to client url) ∷ [])
+      (run_one (server_rules limits channel) [] [] (hello_frame (hello_to client url))
+      (run_nil (server_rules limits channel) (rw received-nil)) (record {
+        goes_on = rw received-nil;
+        sized = omega (arith, hello_size, short);
+        let_in = rw hello_gate_is (record { kind = refl; flag = refl; largest = omega (arith, hello_size, short); least = omega (arith, hello_size) });
+        accepted = rw hello_carried (hello_good (received []));
+      }) (rw hello_received))
+      (events-push (server_rules limits channel) [] (hello_frame (hello_to client url))
+      ∙ (rw (no_events (server_rules limits channel)) (ap (server_tells limits (received [])) hello_carried)))
+      (rw hello_received) (rw hello_received) (omega arith)
+      (rw hello_received)
 
 -- ---- OPN
 
@@ -258,7 +235,7 @@ request_read r fits =
     (and_from (node_id.encodable (standard 446)) (open_request.encodable r) id_fits fits)).0
 
 type_later : (count : ℕ) → 0 < count → type_wanted count ≡ 1
-type_later count some = ap (λ (b : Bool). if b then 0 else 1) (ne_eqb count 0 (λ e. omega (arith, e, some)))
+type_later count some = rw (ne_eqb count 0 (λ e. omega (arith, e, some)))
 
 module _ (limits : Limits) (channel : ℕ) (octets : List ℕ) (told : List Told) (at : AtServer) (on id : ℕ) (kind : ℤ) (moment : DateTime)
     (r : ServerReads limits channel octets told at)
@@ -310,36 +287,28 @@ module _ (limits : Limits) (channel : ℕ) (octets : List ℕ) (told : List Told
     opn_now = received-push r.frames opn ∙ ap (after (received r.frames)) (content_opn opn refl)
 
     opn_in : LetsIn ((server_rules limits channel).gate r.frames) opn
-    opn_in = subst (λ (g : Gate). LetsIn g opn) (sym (ap (λ (o : Option Hello). server_gate_behind limits o (issued (received r.frames))) r.hello_is))
+    opn_in = rw (ap (λ (o : Option Hello). server_gate_behind limits o (issued (received r.frames))) r.hello_is)
         (opn_by (eqb (issued (received r.frames)) 0) (receive_size limits (Some at.hello)) opn refl refl (omega (arith, opn_size, r.large))
         (omega (arith, opn_size)))
 
     reads_opn : ServerReads limits channel (octets ++ frame_octets opn) (told ++ event.Opened id 0 (at.issued + 1) 3600000 ∷ []) (with_token at)
-    reads_opn = record {
-      frames = r.frames ++ opn ∷ [];
-      run =
-          run_one (server_rules limits channel) octets r.frames opn r.run (record {
-            goes_on = r.run.ends.0;
-            sized = omega (arith, opn_size);
-            let_in = opn_in;
-            accepted = ap (λ (k : Content). first_reason (server_reasons limits channel (received r.frames) k)) (content_opn opn refl) ∙ opn_good;
-          }) (ap (λ (b : Received). b.closed) opn_now ∙ r.run.ends.0);
-      told_is = events-push (server_rules limits channel) r.frames opn
-          ∙ (ap (λ (ts : List Told). ts ++ server_tells limits (received r.frames) (content opn)) r.told_is
-          ∙ ap (λ (ts : List Told). told ++ ts) (ap (server_tells limits (received r.frames)) (content_opn opn refl)
-          ∙ so.tells limits (received r.frames) r.issued_is));
-      hello_is = ap (λ (b : Received). b.hello) opn_now ∙ r.hello_is;
-      large = r.large;
-      sized = r.sized;
-      issued_is = ap issued opn_now ∙ (length-append (received r.frames).openings (opening_of opn.body ∷ []) ∙ ap (λ (n : ℕ). n + 1) r.issued_is);
-      few_issued = omega (arith, left);
-      used_is = ap last_used opn_now ∙ r.used_is;
-      some_used = r.some_used;
-      follows = ap (λ (b : Received). may_follow b.last (next_number at.next)) opn_now
-          ∙ (ap (λ (n : Option (ℕ × ℕ)). may_follow (number_or (received r.frames).last n) (next_number at.next)) so.numbers_are ∙ follows_next at.next);
-      next_small = next_small at.next r.next_small;
-      none_open = ap (λ (b : Received). open_ids b.messages) opn_now ∙ r.none_open;
-    }
+    reads_opn =
+        reads_at (r.frames ++ opn ∷ [])
+        (run_one (server_rules limits channel) octets r.frames opn r.run (record {
+          goes_on = r.run.ends.0;
+          sized = omega (arith, opn_size);
+          let_in = opn_in;
+          accepted = rw (content_opn opn refl) opn_good;
+        }) (rw opn_now r.run.ends.0))
+        (events-push (server_rules limits channel) r.frames opn
+        ∙ (rw (
+          r.told_is,
+          ap (server_tells limits (received r.frames)) (content_opn opn refl)
+              ∙ so.tells limits (received r.frames) r.issued_is,
+        )))
+        (rw (opn_now, r.hello_is, length-append (received r.frames).openings (opening_of opn.body ∷ []), r.issued_is, r.used_is) refl)
+        (rw opn_now (rw so.numbers_are (follows_next at.next)))
+        (next_small at.next r.next_small) (rw opn_now r.none_open)
 
 -- the first OPN, on no channel yet
 pub reads_first : (limits : Limits) (channel : ℕ) (octets : List ℕ) (told : List Told) (at : AtServer) (moment : DateTime)
@@ -350,9 +319,7 @@ reads_first limits channel octets told at moment r none one fits =
     let enc = issue_fits moment 0 3600000 fits (omega arith) (omega arith) in
     let so : OpensSo channel at.issued (opn limits channel octets told at 0 1 (pos 0) moment r (omega arith) (omega arith) enc).body
     (opened limits channel octets told at 0 1 (pos 0) moment r (omega arith) (omega arith) enc) =
-    subst (λ (n : ℕ). OpensSo channel n (opening_body 0 at.next 1 ((message 446 open_request).canonical (open_request_of (pos 0) moment 0 token_lifetime)))
-    (record { sequence = at.next; request = 1; handle = 0; lifetime = 3600000 })) (sym none)
-    (opens channel 0 0 at.next 1 (opening_body 0 at.next 1 ((message 446 open_request).canonical (open_request_of (pos 0) moment 0 token_lifetime)))
+    rw none (opens channel 0 0 at.next 1 (opening_body 0 at.next 1 ((message 446 open_request).canonical (open_request_of (pos 0) moment 0 token_lifetime)))
     ((message 446 open_request).canonical (open_request_of (pos 0) moment 0 token_lifetime))
     (headers limits channel octets told at 0 1 (pos 0) moment r (omega arith) (omega arith) enc)
     (asks limits channel octets told at 0 1 (pos 0) moment r (omega arith) (omega arith) enc)
@@ -450,10 +417,9 @@ module _ (limits : Limits) (channel : ℕ) (octets : List ℕ) (told : List Told
   clo_now = received-push r.frames (close_frame channel token at.next id moment) ∙ ap (after (received r.frames)) clo_carried
 
   clo_in : LetsIn ((server_rules limits channel).gate r.frames) (close_frame channel token at.next id moment)
-  clo_in = subst (λ (g : Gate). LetsIn g (close_frame channel token at.next id moment))
-      (sym (ap (λ (o : Option Hello). server_gate_behind limits o (issued (received r.frames))) r.hello_is
+  clo_in = rw (ap (λ (o : Option Hello). server_gate_behind limits o (issued (received r.frames))) r.hello_is
       ∙ greeted_by (receive_size limits (Some at.hello)) (issued (received r.frames))
-      (omega (arith, r.issued_is, taken.issued, taken.not_before, r.some_used))))
+      (omega (arith, r.issued_is, taken.issued, taken.not_before, r.some_used)))
       (record { kind = refl; flag = refl; largest = omega (arith, clo_size, r.large); least = omega (arith, clo_size) })
 
   -- the CLO is taken, and is the last frame
@@ -465,9 +431,8 @@ module _ (limits : Limits) (channel : ℕ) (octets : List ℕ) (told : List Told
           goes_on = r.run.ends.0;
           sized = omega (arith, clo_size);
           let_in = clo_in;
-          accepted = ap (λ (k : Content). first_reason (server_reasons limits channel (received r.frames) k)) clo_carried ∙ clo_good;
-        }) (ap (λ (b : Received). b.closed) clo_now);
+          accepted = rw clo_carried clo_good;
+        }) (rw clo_now);
     told_is = events-push (server_rules limits channel) r.frames (close_frame channel token at.next id moment)
-        ∙ (ap (λ (ts : List Told). ts ++ server_tells limits (received r.frames) (content (close_frame channel token at.next id moment))) r.told_is
-        ∙ ap (λ (k : Content). told ++ server_tells limits (received r.frames) k) clo_carried);
+        ∙ (rw (r.told_is, clo_carried));
   }

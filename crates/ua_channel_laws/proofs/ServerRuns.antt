@@ -1,7 +1,9 @@
 -- That a server stands as its laws say it behind any good frames, where its channel is open and no message is unfinished.
+use Rattle.std.specs.Prelude.{◌↔◌}
 use Rattle.std.proofs.Common.{◌≡◌, ℕ, ◌+◌, ◌<◌, ◌≤◌, ◌^◌, Bool, true, false, IsTrue, ◌&&◌, ◌||◌, eqb, leb, ltb, List, [], ◌∷◌, ◌++◌}
-use Rattle.std.proofs.Common.{Option, Some, None, length, refl, sym, ◌∙◌, ap, subst, arith, append-nil, append_assoc, length-append}
+use Rattle.std.proofs.Common.{Option, Some, None, length, refl, sym, ◌∙◌, ap, arith, append-nil, append_assoc, length-append}
 use Rattle.std.proofs.lemmas.Bool.{and_from, and_parts, eq-eqb, eqb-false, leb-false, leb-true, lt-ltb, ltb-false, or_left, or_right}
+use Rattle.ua_wire.proofs.Readers.{some_is}
 use Rattle.ua_frame.specs.After.{AllAfter, AllFrom}
 use Rattle.ua_frame.specs.Hello.{hello_in}
 use Rattle.ua_frame.specs.Messages.{hello}
@@ -22,10 +24,10 @@ use Rattle.ua_channel.specs.Content.{Opening, closes, content, content_by, openi
 use Rattle.ua_channel.specs.Content.Content.{Greets, Opens}
 use Rattle.ua_channel_laws.specs.Conversation.{IsGoodHello, IsGoodRequest, MayCarry}
 use Rattle.ua_channel.specs.Received.{Received, after, or_before, received}
-use Rattle.ua_channel_laws.specs.ServerReads.{ServerReads}
+use Rattle.ua_channel_laws.specs.ServerReads.{AtServer, ServerReads, at_server, server_with}
 use Rattle.ua_channel.specs.ServerRefusals.{last_used}
 use Rattle.ua_channel.specs.ServerRules.{server_rules}
-use Rattle.ua_channel.specs.ServerTold.{issued}
+use Rattle.ua_channel.specs.ServerTold.{Told, issued}
 use Rattle.ua_channel_laws.proofs.Conversing.{content_kind}
 use Rattle.ua_channel.proofs.OneFrameMore.{received-nil, received-push}
 use Rattle.ua_channel_laws.proofs.ServerConversing.{IsPlaced, converses, nothing_placed, placed_next}
@@ -59,9 +61,10 @@ module _ (channel : ℕ) (b : Received) (known : Known b) where
 
   greeted : (body : List ℕ) → IsGoodHello (hello_in body) → Known (after b (Greets (hello_in body)))
   greeted body g = record {
-    large = λ h e. subst (λ (x : Hello). 8192 ≤ x.send_buffer_size) (said_is (hello_in body) g h e)
+    large = λ h e.
+        rw (← said_is (hello_in body) g h e)
         (ltb-false g.said.send_buffer_size 8192 (second_false (ltb g.said.receive_buffer_size 8192) (ltb g.said.send_buffer_size 8192) g.sizes));
-    sized = λ h e. subst (λ (x : Hello). x.send_buffer_size < 2 ^ 32) (said_is (hello_in body) g h e) (small_read body g.said g.reads);
+    sized = λ h e. rw (← said_is (hello_in body) g h e) (small_read body g.said g.reads);
     few_issued = known.few_issued;
     some_used = known.some_used;
   }
@@ -106,16 +109,15 @@ nothing_known =
 module _ (limits : Limits) (channel : ℕ) where
   known_next : (start : List Frame) (f : Frame) → Known (received start) → MayCarry channel (received start) (content f) → Known (received (start ++ f ∷ []))
   known_next start f known may =
-      subst Known (sym (received-push start f ∙ ap (after (received start)) (content_kind f)))
-      (known_more channel (received start) known f f.kind (subst (MayCarry channel (received start)) (content_kind f) may))
+      rw (received-push start f ∙ ap (after (received start)) (content_kind f)) (known_more channel (received start) known f f.kind (rw (← content_kind f) may))
 
   all_from : (start fs : List Frame) → IsPlaced (received start) → Known (received start) → AllFrom (Fits (server_rules limits channel)) start fs
       → AllFrom (λ us f. MayCarry channel (received us) (content f)) start fs
       → IsPlaced (received (start ++ fs)) × Known (received (start ++ fs))
-  all_from start [] placed known fits may = subst (λ (us : List Frame). IsPlaced (received us) × Known (received us)) (sym (append-nil start)) (placed, known)
+  all_from start [] placed known fits may = rw (append-nil start) (placed, known)
   all_from start (f ∷ fs) placed known fits may =
-      subst (λ (us : List Frame). IsPlaced (received us) × Known (received us)) (append_assoc start (f ∷ []) fs)
-      (all_from (start ++ f ∷ []) fs (placed_next limits channel start f placed fits.0.let_in.kind) (known_next start f known may.0) fits.1 may.1)
+      rw (← append_assoc start (f ∷ []) fs) (all_from (start ++ f ∷ []) fs (placed_next limits channel start f placed fits.0.let_in.kind)
+      (known_next start f known may.0) fits.1 may.1)
 
   all_known : (frames : List Frame) → AllAfter (Fits (server_rules limits channel)) frames → IsPlaced (received frames) × Known (received frames)
   unfolding AllAfter
@@ -145,30 +147,57 @@ pub some_follows : (last : Option ℕ) → (next : ℕ) × IsTrue (may_follow la
 some_follows None = (1, refl, omega arith)
 some_follows (Some s) = next_by (leb s 4294966271) s refl
 
--- a server stands so behind its frames
-pub reads_run : (limits : Limits) (channel : ℕ) (octets : List ℕ) (frames : List Frame) → Run (server_rules limits channel) octets frames [] Going
-    → 0 < issued (received frames) → open_ids (received frames).messages ≡ []
-    → (next : ℕ) → IsTrue (may_follow (received frames).last next) → next ≤ 4294966272
-    → (said : Hello) × ((received frames).hello ≡ Some said) × ServerReads limits channel octets (events (server_rules limits channel) frames)
-    (record { hello = said; issued = issued (received frames); used = last_used (received frames); next = next })
-reads_run limits channel octets frames run some none next follows small =
-    let all = all_known limits channel frames run.good in
-    let h = said_by (received frames).hello (issued (received frames)) all.0 some in (
-      h.0,
-      h.1,
-      record {
-        frames = frames;
-        run = run;
-        told_is = refl;
-        hello_is = h.1;
-        large = omega (arith, limits.receives, all.1.large h.0 h.1);
-        sized = omega (arith, all.1.sized h.0 h.1);
-        issued_is = refl;
-        few_issued = all.1.few_issued;
-        used_is = refl;
-        some_used = all.1.some_used;
-        follows = follows;
-        next_small = small;
-        none_open = none;
-      },
+-- the parts of a state
+stated : (o : Option Hello) (issued used next : ℕ) (at : AtServer) → server_with o issued used next ≡ Some at
+    → (o ≡ Some at.hello) × (issued ≡ at.issued) × (used ≡ at.used)
+stated None issued used next at e = absurd cc
+stated (Some h) issued used next at e =
+    let same = some_is (record { hello = h; issued = issued; used = used; next = next }) at e in
+    (ap (λ (x : AtServer). Some x.hello) same, ap (λ (x : AtServer). x.issued) same, ap (λ (x : AtServer). x.used) same)
+
+-- a server stands behind its frames where they and the next number say
+pub reads_at : {limits : Limits} {channel : ℕ} {octets : List ℕ} {told : List Told} {at : AtServer} (frames : List Frame)
+    → Run (server_rules limits channel) octets frames [] Going → events (server_rules limits channel) frames ≡ told
+    → at_server (received frames) at.next ≡ Some at → IsTrue (may_follow (received frames).last at.next) → at.next ≤ 4294966272
+    → open_ids (received frames).messages ≡ [] → ServerReads limits channel octets told at
+reads_at {limits = limits} {channel = channel} {at = at} frames run told_is is follows small none =
+    let known = (all_known limits channel frames run.good).1 in
+    let parts = stated (received frames).hello (issued (received frames)) (last_used (received frames)) at.next at is in
+    record {
+      frames = frames;
+      run = run;
+      told_is = told_is;
+      hello_is = parts.0;
+      large = omega (arith, limits.receives, known.large at.hello parts.0);
+      sized = omega (arith, known.sized at.hello parts.0);
+      issued_is = parts.1;
+      few_issued = omega (arith, parts.1, known.few_issued);
+      used_is = parts.2;
+      some_used = omega (arith, parts.2, known.some_used);
+      follows = follows;
+      next_small = small;
+      none_open = none;
+    }
+
+-- and they say it where it stands so
+stands_at : {limits : Limits} {channel : ℕ} {octets : List ℕ} {told : List Told} {at : AtServer} (r : ServerReads limits channel octets told at)
+    → at_server (received r.frames) at.next ≡ Some at
+stands_at r = rw (r.issued_is, r.used_is, r.hello_is) refl
+
+pub reads_by : (limits : Limits) (channel : ℕ) (octets : List ℕ) (told : List Told) (at : AtServer) → ServerReads limits channel octets told at
+    ↔ ((frames : List Frame) × Run (server_rules limits channel) octets frames [] Going × (events (server_rules limits channel) frames ≡ told)
+    × (at_server (received frames) at.next ≡ Some at) × IsTrue (may_follow (received frames).last at.next) × (at.next ≤ 4294966272)
+    × (open_ids (received frames).messages ≡ []))
+reads_by limits channel octets told at = (
+  λ r. (r.frames, r.run, r.told_is, stands_at r, r.follows, r.next_small, r.none_open),
+  λ h. reads_at h.0 h.1 h.2 h.3 h.4 h.5 h.6,
+)
+
+-- an open channel has a state
+pub open_at : (limits : Limits) (channel : ℕ) (octets : List ℕ) (frames : List Frame) (next : ℕ) → Run (server_rules limits channel) octets frames [] Going
+    → 0 < issued (received frames) → (at : AtServer) × (at_server (received frames) next ≡ Some at)
+open_at limits channel octets frames next run some =
+    let h = said_by (received frames).hello (issued (received frames)) (all_known limits channel frames run.good).0 some in (
+      record { hello = h.0; issued = issued (received frames); used = last_used (received frames); next = next },
+      ap (λ (o : Option Hello). server_with o (issued (received frames)) (last_used (received frames)) next) h.1,
     )

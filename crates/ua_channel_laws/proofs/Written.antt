@@ -1,12 +1,12 @@
 -- What the frames carry that an end writes.
-use Rattle.std.proofs.Common.{◌≡◌, ℕ, ◌+◌, ◌<◌, ◌≤◌, ◌^◌, true, IsTrue, ltb, List, [], ◌∷◌, ◌++◌, Some, length, refl, ◌∙◌, ap, arith, sym, subst}
+use Rattle.std.proofs.Common.{◌≡◌, ℕ, ◌<◌, ◌≤◌, ◌^◌, true, IsTrue, ltb, List, [], ◌∷◌, ◌++◌, Some, length, refl, ◌∙◌, ap, arith}
 use Rattle.std.specs.List.{AllByRecursion}
 use Rattle.std.proofs.lemmas.Bool.{and_from, lt-ltb}
 use Rattle.std.proofs.lemmas.Slice.Eq.{bytes_eq-Decides}
 use Rattle.ua_wire.specs.Counted.{counted}
 use Rattle.ua_frame.specs.declared.kind.Kind.TheVariants.{Msg, Opn}
 use Rattle.ua_frame.specs.Frames.{frame_size, LetsIn}
-use Rattle.ua_frame.specs.Kinds.{has_flag, least_size, lets_in}
+use Rattle.ua_frame.specs.Kinds.{has_flag, lets_in}
 use Rattle.ua_chunk.specs.declared.chunk.Chunk.{Chunk}
 use Rattle.ua_chunk.specs.declared.flag.Flag.{Flag}
 use Rattle.ua_chunk.specs.declared.flag.Flag.TheVariants.{F, C, A}
@@ -25,7 +25,6 @@ use Rattle.ua_channel.specs.Content.Content.{Sends}
 use Rattle.ua_channel.proofs.Carried.{content_msg}
 use Rattle.ua_frame.specs.declared.frame.Frame.{Frame}
 use Rattle.ua_frame.specs.declared.gate.Gate.{Gate}
-use Rattle.ua_frame.specs.declared.kind.Kind.{Kind}
 use Rattle.ua_channel.proofs.OpeningFrames.{none_header, opening_body}
 
 -- ---- chunks
@@ -60,9 +59,9 @@ pub lets_opn : (gate : Gate) (f : Frame) → IsTrue (lets_in gate Opn) → f.kin
     → LetsIn gate f
 lets_opn gate f opens kind flag fits least = record {
   kind = ap (lets_in gate) kind ∙ opens;
-  flag = ap (λ (k : Kind). has_flag k f.flag) kind ∙ ap (has_flag Opn) flag;
+  flag = rw kind (ap (has_flag Opn) flag);
   largest = fits;
-  least = subst (λ (k : Kind). least_size k ≤ frame_size f) (sym kind) least;
+  least = rw kind least;
 }
 
 -- ---- the chunks of a body

@@ -19,7 +19,7 @@ use Rattle.ua_channel.specs.ClientAsks.{call_lane}
 use Rattle.ua_channel.specs.ClientTable.{client_rules}
 use Rattle.ua_channel.specs.ClientTokens.{first_channel, from_last, held_tokens, opened_ids, open_responses}
 use Rattle.ua_channel.specs.ClientTold.{ClientTold, ClientTold as told}
-use Rattle.ua_channel.specs.Received.{latest, nothing_received, received}
+use Rattle.ua_channel.specs.Received.{Received, latest, nothing_received, received}
 
 -- ---- where a client is
 
@@ -48,6 +48,19 @@ pub record AtClient : Type 0 where
   pub renewals : List ℕ
   -- the number of the next chunk
   pub next : ℕ
+
+-- the state with this Acknowledge, channel and newest token, if there are these
+abbrev pub client_with : Option Ack → Option ℕ → Option ℕ → List ℕ → List ℕ → List ℕ → ℕ → Option AtClient
+client_with (Some a) (Some channel) (Some newest) tokens pending renewals next =
+    Some (record { ack = a; channel = channel; tokens = tokens; newest = newest; pending = pending; renewals = renewals; next = next })
+client_with a channel newest tokens pending renewals next = None
+
+-- the state of a client that received this and sent these operations, with this number next; none
+-- before the first OPN response
+abbrev pub at_client : Received → List Asking → ℕ → Option AtClient
+at_client before asked next =
+    client_with before.ack (first_channel (open_responses before.openings)) (latest (held_tokens before)) (held_tokens before)
+    (pending_calls before.messages asked) (pending_renewals (opened_ids before.openings) asked) next
 
 -- a client with these limits and operations decodes these bytes as whole frames that are good, with
 -- no message unfinished after them; they told it this, and then it has this state

@@ -1,5 +1,5 @@
 -- What a server decodes of a client that keeps to the protocol, one message after the other.
-use Rattle.std.specs.Prelude.{◌≡◌, ◌<◌, ◌≤◌, ◌+◌, ◌^◌, ℕ, List, [], IsTrue, IsFalse, Some, length}
+use Rattle.std.specs.Prelude.{◌≡◌, ◌<◌, ◌≤◌, ◌+◌, ◌^◌, ℕ, List, [], IsTrue, IsFalse, Option, None, Some, length}
 use Rattle.ua_frame.specs.Run.{Going, Over, Run, events}
 use Rattle.ua_frame.specs.declared.frame.Frame.{Frame}
 use Rattle.ua_frame.specs.declared.hello.Hello.{Hello}
@@ -9,7 +9,7 @@ use Rattle.ua_chunk.specs.Open.{open_ids}
 use Rattle.ua_chunk.specs.Refusal.{passes}
 use Rattle.ua_chunk.specs.Sequence.{may_follow, next_number}
 use Rattle.ua_chunk.specs.declared.lane.Lane.{Lane}
-use Rattle.ua_channel.specs.Received.{received}
+use Rattle.ua_channel.specs.Received.{Received, received}
 use Rattle.ua_channel.specs.ServerRefusals.{last_used}
 use Rattle.ua_channel.specs.ServerRules.{receive_size, server_rules}
 use Rattle.ua_channel.specs.ServerTold.{Told, issued}
@@ -24,6 +24,15 @@ pub record AtServer : Type 0 where
   pub used : ℕ
   -- the number of the next chunk
   pub next : ℕ
+
+-- the state with this Hello, if there is one
+abbrev pub server_with : Option Hello → ℕ → ℕ → ℕ → Option AtServer
+server_with None issued used next = None
+server_with (Some h) issued used next = Some (record { hello = h; issued = issued; used = used; next = next })
+
+-- the state of a server that received this, with this number next; none before the HEL
+abbrev pub at_server : Received → ℕ → Option AtServer
+at_server before next = server_with before.hello (issued before) (last_used before) next
 
 -- a server with these limits on this channel decodes these bytes as whole frames that are good,
 -- with no message unfinished after them; they told it this, and then it has this state

@@ -6,7 +6,7 @@
 //! wrote, `ClientReads` that of the client after what the server wrote, however these bytes are
 //! fragmented.
 
-ghost use Rattle.std.specs.Prelude.{◌≡◌, ◌<◌, ◌≤◌, ◌+◌, ◌^◌, ◌∷◌, ◌++◌, [], ℕ, List};
+ghost use Rattle.std.specs.Prelude.{◌≡◌, ◌↔◌, ◌<◌, ◌≤◌, ◌+◌, ◌^◌, ◌∷◌, ◌++◌, [], ℕ, List};
 ghost use Rattle.std.specs.Prelude.{Option, None, Some, IsTrue, IsFalse, length, map};
 ghost use Rattle.std.specs.List.{AllByRecursion, range_with_len};
 ghost use Rattle.ua_builtin.specs.DateTime.{date_time};
@@ -29,7 +29,7 @@ ghost use Rattle.ua_channel.specs.Asks.{Asking, Placed, asked_in, id_of, is_in};
 ghost use Rattle.ua_channel.specs.Asks.{next_id, pending_calls, pending_renewals};
 ghost use Rattle.ua_channel.specs.Asks.Asking.{Call, Renewal};
 ghost use Rattle.ua_channel_laws.specs.ClientReads.{AtClient, ClientAgrees, ClientReads, IsAnswered};
-ghost use Rattle.ua_channel_laws.specs.ClientReads.{IsLaneBack, lane_from, opened_at, told_reply};
+ghost use Rattle.ua_channel_laws.specs.ClientReads.{IsLaneBack, at_client, lane_from, opened_at, told_reply};
 ghost use Rattle.ua_channel_laws.specs.ClientReads.{with_answer, with_call, with_renewal, with_reply};
 ghost use Rattle.ua_channel.specs.ClientAsks.{is_too_large, reasons_of_call, reasons_of_renewal, room_of};
 ghost use Rattle.ua_channel_laws.specs.InStep.{AreInStep, lane_back};
@@ -41,7 +41,7 @@ ghost use Rattle.ua_channel.specs.ClientTable.{client_rules};
 ghost use Rattle.ua_channel.specs.ClientTokens.{first_channel, held_tokens, opened_ids, open_responses};
 ghost use Rattle.ua_channel.specs.ClientTold.{ClientTold, ClientTold as client_told, Why};
 ghost use Rattle.ua_channel_laws.specs.ServerReads.{AtServer, IsBodyFor, IsLaneTo, IsTakenAt, ServerCloses};
-ghost use Rattle.ua_channel_laws.specs.ServerReads.{ServerReads, greeted_at, with_message, with_token};
+ghost use Rattle.ua_channel_laws.specs.ServerReads.{ServerReads, at_server, greeted_at, with_message, with_token};
 ghost use Rattle.ua_channel.specs.ServerRefusals.{last_used};
 ghost use Rattle.ua_channel.specs.ServerRules.{server_rules};
 ghost use Rattle.ua_channel.specs.ServerSends.{opened_frame, replied};
@@ -96,22 +96,19 @@ pub fn server_reads_close()
         (told ++ server_told.Closed ∷ []) }
 {}
 
-/// Whatever was received before: after complete valid frames, with its channel open and no message
-/// unfinished, a server is in a state of these laws, with any next SequenceNumber that may follow
-/// and is at most 4294966272. There is such a number.
+/// Whatever was received before: the state of a server is a function of what it received in complete
+/// valid frames, with no message unfinished, and of the next SequenceNumber, any that may follow and
+/// is at most 4294966272. It has a state where its channel is open, and there is such a number.
 pub fn server_reads_run()
-    ensures reads { (limits : Limits) (channel : ℕ) (octets : List ℕ) (frames : List Frame)
-        → Run (server_rules limits channel) octets frames [] Going → 0 < issued (received frames)
-        → open_ids (received frames).messages ≡ [] →
-        (next : ℕ) → IsTrue (may_follow (received frames).last next) → next ≤ 4294966272 →
-        (said : Hello) × ((received frames).hello ≡ Some said)
-        × ServerReads limits channel octets (events (server_rules limits channel) frames)
-        (record {
-          hello = said;
-          issued = issued (received frames);
-          used = last_used (received frames);
-          next = next;
-        }) }
+    ensures at { (limits : Limits) (channel : ℕ) (octets : List ℕ) (told : List Told) (at : AtServer) →
+        ServerReads limits channel octets told at ↔ ((frames : List Frame)
+        × Run (server_rules limits channel) octets frames [] Going
+        × (events (server_rules limits channel) frames ≡ told) × (at_server (received frames) at.next ≡ Some at)
+        × IsTrue (may_follow (received frames).last at.next) × (at.next ≤ 4294966272)
+        × (open_ids (received frames).messages ≡ [])) }
+    ensures open { (limits : Limits) (channel : ℕ) (octets : List ℕ) (frames : List Frame) (next : ℕ)
+        → Run (server_rules limits channel) octets frames [] Going → 0 < issued (received frames) →
+        (at : AtServer) × (at_server (received frames) next ≡ Some at) }
     ensures numbered { (last : Option ℕ) → (next : ℕ) × IsTrue (may_follow last next) × (next ≤ 4294966272) }
 {}
 
@@ -171,30 +168,25 @@ pub fn client_reads_renewed()
         (told ++ client_told.Renewed token ∷ []) (with_answer at token (next_number at.next)) }
 {}
 
-/// Whatever was received and sent before: after complete valid frames, with its channel open and no
-/// message unfinished, a client is in a state of these laws, with any next SequenceNumber that may
-/// follow and is at most 4294966272. All operations were sent by then, under RequestIds below the
-/// next one; those of a channel are, as it counts RequestIds from 2. One of the tokens that it
-/// holds is the newest.
+/// Whatever was received and sent before: the state of a client is a function of what it received in
+/// complete valid frames, with no message unfinished, of its operations, and of the next
+/// SequenceNumber, any that may follow and is at most 4294966272. It has a state where its channel is
+/// open. All operations were sent by then, under RequestIds below the next one; those of a channel
+/// are, as it counts RequestIds from 2.
 pub fn client_reads_run()
-    ensures reads { (limits : Limits) (asks : List Placed) (octets : List ℕ) (frames : List Frame)
-        → Run (client_rules limits asks) octets frames [] Going →
-        AllByRecursion (λ (a : Placed). a.0 ≤ length octets) asks
-        → AllByRecursion (λ (a : Asking). id_of a < next_id (asked_in asks)) (asked_in asks) →
-        (channel : ℕ) → first_channel (open_responses (received frames).openings) ≡ Some channel
-        → open_ids (received frames).messages ≡ [] →
-        (next : ℕ) → IsTrue (may_follow (received frames).last next) → next ≤ 4294966272 →
-        (said : Ack) × ((received frames).ack ≡ Some said) × (newest : ℕ)
-        × (latest (held_tokens (received frames)) ≡ Some newest) ×
-        ClientReads limits asks octets (events (client_rules limits asks) frames) (record {
-          ack = said;
-          channel = channel;
-          tokens = held_tokens (received frames);
-          newest = newest;
-          pending = pending_calls (received frames).messages (asked_in asks);
-          renewals = pending_renewals (opened_ids (received frames).openings) (asked_in asks);
-          next = next;
-        }) }
+    ensures at { (limits : Limits) (asks : List Placed) (octets : List ℕ) (told : List ClientTold) (at : AtClient) →
+        ClientReads limits asks octets told at ↔ ((frames : List Frame)
+        × Run (client_rules limits asks) octets frames [] Going
+        × AllByRecursion (λ (a : Placed). a.0 ≤ length octets) asks × (events (client_rules limits asks) frames ≡ told)
+        × (at_client (received frames) (asked_in asks) at.next ≡ Some at)
+        × AllByRecursion (λ (a : Asking). id_of a < next_id (asked_in asks)) (asked_in asks)
+        × IsTrue (may_follow (received frames).last at.next) × (at.next ≤ 4294966272)
+        × (open_ids (received frames).messages ≡ [])) }
+    ensures open { (limits : Limits) (asks : List Placed) (octets : List ℕ) (frames : List Frame) (channel next : ℕ)
+        → Run (client_rules limits asks) octets frames [] Going
+        → AllByRecursion (λ (a : Asking). id_of a < next_id (asked_in asks)) (asked_in asks)
+        → first_channel (open_responses (received frames).openings) ≡ Some channel →
+        (at : AtClient) × (at_client (received frames) (asked_in asks) next ≡ Some at) }
     ensures own_asks { (x : ClientChannel) (asks : List Placed) (octets : List ℕ) (frames : List Frame) (rest : List ℕ)
         → ClientStands x asks octets frames rest →
         AllByRecursion (λ (a : Placed). a.0 ≤ length octets) asks

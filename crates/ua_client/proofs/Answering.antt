@@ -1,5 +1,5 @@
 -- Which reply a message is to which request.
-use Rattle.std.specs.Prelude.{◌≡◌, ◌+◌, ◌<◌, ◌++◌, ℕ, zero, suc, false, List, [], ◌∷◌, length, Option, Some, None, Result, Ok, Err}
+use Rattle.std.specs.Prelude.{◌≡◌, ◌+◌, ◌<◌, ◌++◌, ℕ, zero, suc, false, List, [], ◌∷◌, length, Option, Some, None, Result, Ok, Err, OnOk, OnErr, IfErr}
 use Rattle.std.specs.List.{concat}
 use Rattle.std.proofs.Common.{refl, sym, ◌∙◌, ap, subst, eqb, get_or, set, arith}
 use Rattle.ua_builtin.specs.declared.date_time.DateTime.{DateTime}
@@ -8,12 +8,15 @@ use Rattle.ua_channel.specs.ClientTold.{ClientTold}
 use Rattle.ua_channel.specs.ClientTold.ClientTold.{Agreed, Opened, Answered, GaveUp, Renewed}
 use Rattle.ua_channel.specs.declared.client.event.ClientEvent.{ClientEvent}
 use Rattle.ua_channel.specs.declared.client.event.ClientEvent.TheVariants as event
+use Rattle.ua_opening.specs.Laws.{OneMessage}
+use Rattle.ua_opening.specs.Message.{IsBody}
 use Rattle.ua_services.specs.Request.{kind_of_request}
+use Rattle.ua_services.specs.Response.{response, Answers, kind_of_response}
 use Rattle.ua_services.specs.declared.request.Request.{Request}
 use Rattle.ua_services.specs.declared.request.RequestKind.{RequestKind}
 use Rattle.ua_services.specs.declared.response.Response.{Response}
 use Rattle.ua_client.specs.Hearing.{Says}
-use Rattle.ua_client.specs.Replies.{IsAnswer, IsNoAnswer, ReadsAnswer, IsPlace, IsRequestAt, PlacesReply, AreSlots, FillsSlots}
+use Rattle.ua_client.specs.Replies.{IsAnswer, IsNoAnswer, ReadsAnswer, PutsAnswer, IsPlace, IsRequestAt, PlacesReply, AreSlots, FillsSlots}
 use Rattle.ua_client.specs.Told.{is_told_of, IsFirstOf}
 use Rattle.ua_client.specs.declared.fault.ClientFault.{ClientFault}
 use Rattle.ua_client.specs.declared.fault.ClientFault.TheVariants as fault
@@ -90,18 +93,6 @@ placed_other requests first (event.Aborted id code) answered aborted m t h = abs
 placed_other requests first (event.Failed code peer) answered aborted m t h = absurd h
 placed_other requests first (event.Renewed token) answered aborted m t h = of-no-call requests first t (Renewed token) h (λ n. refl)
 
-pub placed_answered : (requests : List Request) (first id : ℕ) (message : List (List ℕ)) (e : ClientEvent) (result : Result (Option (ℕ × Reply)) ClientFault)
-    → e ≡ event.Answered id message
-    → PlacesReply requests first (Answered id (concat message)) result → (m : DateTime) (t : ClientTold) → Says m e t → PlacesReply requests first t result
-placed_answered requests first id message e result is h m t says =
-    subst (λ (o : ClientTold). PlacesReply requests first o result) (sym (subst (λ (x : ClientEvent). Says m x t) is says)) h
-
-pub placed_aborted : (requests : List Request) (first id : ℕ) (code : StatusCode) (e : ClientEvent) (result : Result (Option (ℕ × Reply)) ClientFault)
-    → e ≡ event.Aborted id code
-    → PlacesReply requests first (GaveUp id code) result → (m : DateTime) (t : ClientTold) → Says m e t → PlacesReply requests first t result
-placed_aborted requests first id code e result is h m t says =
-    subst (λ (o : ClientTold). PlacesReply requests first o result) (sym (subst (λ (x : ClientEvent). Says m x t) is says)) h
-
 -- ---- slots
 
 pub fills_none : (requests : List Request) (first : ℕ) (told : List ClientTold) (t : ClientTold) (slots : List (Option Reply))
@@ -132,3 +123,47 @@ fills_fault requests first told t slots fault.Exhausted h once s = absurd h
 fills_fault requests first told t slots fault.Closed h once s = absurd h
 fills_fault requests first told t slots fault.TooManyTokens h once s = absurd h
 fills_fault requests first told t slots fault.TooLong h once s = absurd h
+
+-- what bytes that are an answer, or none, leave in the slots
+pub puts_fills : (requests : List Request) (first id : ℕ) (octets : List ℕ) (n : ℕ) (request d : Request) (kind : RequestKind) (old new : List (Option Reply))
+    (result : Result (Unit {0}) ClientFault)
+    → IsPlace first id (length requests) (Some n) → request ≡ get_or requests n d → kind ≡ kind_of_request request → PutsAnswer kind octets n old new result
+    → (told : List ClientTold) → IsFirstOf told (Answered id octets) → AreSlots requests first told old
+    → FillsSlots requests first (told ++ Answered id octets ∷ []) new result
+puts_fills requests first id octets n request d kind old new (Ok done) at is of p told once s =
+    subst (λ (ss : List (Option Reply)). AreSlots requests first (told ++ Answered id octets ∷ []) ss) (sym p.2)
+    (fills_some requests first told (Answered id octets) old n (Responds p.0) (answered_at requests first id octets n request d kind p.0 at is of p.1) once s)
+puts_fills requests first id octets n request d kind old new (Err x) at is of p told once s =
+    subst (λ (ss : List (Option Reply)). FillsSlots requests first (told ++ Answered id octets ∷ []) ss (Err x)) (sym p.0)
+    (fills_fault requests first told (Answered id octets) old x (misanswered_by requests first id octets n request d kind x at is of p.1) once s)
+
+-- what an event leaves in them, by what it tells
+pub told_fills : (requests : List Request) (first : ℕ) (u : ClientTold) (e : ClientEvent) (old new : List (Option Reply))
+    (result : Result (Unit {0}) ClientFault)
+    → ((m : DateTime) (t : ClientTold) → Says m e t → t ≡ u)
+    → ((told : List ClientTold) → IsFirstOf told u → AreSlots requests first told old → FillsSlots requests first (told ++ u ∷ []) new result)
+    → (m : DateTime) (told : List ClientTold) (t : ClientTold) → Says m e t → IsFirstOf told t → AreSlots requests first told old
+    → FillsSlots requests first (told ++ t ∷ []) new result
+told_fills requests first u e old new result is h m told t says =
+    subst (λ (o : ClientTold). IsFirstOf told o → AreSlots requests first told old → FillsSlots requests first (told ++ o ∷ []) new result)
+    (sym (is m t says)) (h told)
+
+pub says_answered : (id : ℕ) (message : List (List ℕ)) (e : ClientEvent) → e ≡ event.Answered id message → (m : DateTime) (t : ClientTold) → Says m e t
+    → t ≡ Answered id (concat message)
+says_answered id message e is m t says = subst (λ (x : ClientEvent). Says m x t) is says
+
+pub says_aborted : (id : ℕ) (code : StatusCode) (e : ClientEvent) → e ≡ event.Aborted id code → (m : DateTime) (t : ClientTold) → Says m e t
+    → t ≡ GaveUp id code
+says_aborted id code e is m t says = subst (λ (x : ClientEvent). Says m x t) is says
+
+-- a response that was read is put there, or is no answer
+pub puts_response : (kind : RequestKind) (octets : List ℕ) (m : Response) (n : ℕ) (old new : List (Option Reply)) (result : Result (Unit {0}) ClientFault)
+    → OneMessage response → IsBody response m octets → OnOk result (Answers (kind_of_response m) kind × (new ≡ set old n (Some (Responds m))))
+    → IfErr result (λ f. (f ≡ fault.UnknownResponse) × (Answers (kind_of_response m) kind → ⊥)) → OnErr result (new ≡ old)
+    → PutsAnswer kind octets n old new result
+puts_response kind octets m n old new (Ok done) one body put refused same = (m, (body, put.0), put.1)
+puts_response kind octets m n old new (Err f) one body put refused same = (
+  same,
+  subst (λ (x : ClientFault). ReadsAnswer kind octets (Err x)) (sym refused.0)
+      (λ k a. refused.1 (subst (λ (q : Response). Answers (kind_of_response q) kind) (one k m octets a.0 body) a.1)),
+)

@@ -16,7 +16,7 @@ use Rattle.ua_channel.specs.declared.client.phase.Phase.{Phase}
 use Rattle.ua_channel.specs.declared.client.phase.Phase.TheVariants.{Waiting, Agreed, Open, Done}
 use Rattle.ua_client.proofs.Lanes.{lane-talks}
 use Rattle.ua_client.specs.ClientPlace.{lane_behind}
-use Rattle.ua_client.specs.Sent.{calls_octets, numbers_behind, calls_at, asked_octets, AsksGroup, AsksFrom}
+use Rattle.ua_client.specs.Sent.{calls_octets, numbers_behind, calls_at, asked_len, AsksGroup, AsksFrom}
 
 -- ---- one call
 
@@ -93,14 +93,6 @@ next-calls asks place id bodies =
     let some = length-asked asks in
     omega (arith, all, sum, more, some)
 
-pub asks-nothing : (x : ClientChannel) (asks : List Placed) (octets : List ℕ) (frames : List Frame) (rest : List ℕ) → ClientStands x asks octets frames rest
-    → AsksGroup [] x x asks octets frames rest []
-asks-nothing x asks octets frames rest s = record {
-  stands = subst (λ (xs : List Placed). ClientStands x xs octets frames rest) (sym (append-nil asks)) s;
-  out_is = refl;
-  next_is = refl;
-}
-
 pub asks-more : (bodies : List (List ℕ)) (body : List ℕ) (old mid new : ClientChannel) (asks : List Placed) (octets : List ℕ) (frames : List Frame)
     (rest out : List ℕ) (id : ℕ) (more : List ℕ)
     → AsksGroup bodies old mid asks octets frames rest out
@@ -156,9 +148,6 @@ pub record Asked (bodies : List (List ℕ)) (old now : ClientChannel) (out : Lis
       × IsFirst first (next_id (asked_in xs)) bodies
   pub same : SameClient old now
 
-pub asked-nothing : (x : ClientChannel) → Asked [] x x [] None
-asked-nothing x = record { asks = λ xs os fs r s. (asks-nothing x xs os fs r s, refl); same = record { limits = refl; url = refl } }
-
 pub asked-more : (bodies : List (List ℕ)) (body : List ℕ) (old mid new : ClientChannel) (out : List ℕ) (first : Option ℕ) (id : ℕ) (more : List ℕ)
     → Asked bodies old mid out first
     → ((xs : List Placed) (os : List ℕ) (fs : List Frame) (r : List ℕ) → ClientStands mid xs os fs r
@@ -207,18 +196,15 @@ take-whole [] (suc n) few = refl
 take-whole (y ∷ ys) zero few = absurd (omega (arith, few))
 take-whole {A} (y ∷ ys) (suc n) few = ap (λ (zs : List A). y ∷ zs) (take-whole ys n (omega (arith, few)))
 
--- ---- the octets of calls
+-- ---- the length of calls
 
-pub asked-octets-push : (calls : List AskedCall) (call : AskedCall) → asked_octets calls ++ call.octets.items ≡ asked_octets (calls ++ call ∷ [])
-asked-octets-push [] call = sym (append-nil call.octets.items)
-asked-octets-push (c ∷ calls) call = append_assoc c.octets.items (asked_octets calls) call.octets.items
-    ∙ ap (λ (o : List ℕ). c.octets.items ++ o) (asked-octets-push calls call)
+pub asked-len-push : (calls : List AskedCall) (call : AskedCall) → asked_len (calls ++ call ∷ []) ≡ asked_len calls + call.len
+asked-len-push [] call = omega arith
+asked-len-push (c ∷ calls) call = omega (arith, asked-len-push calls call)
 
--- those before one of them, its own, and those behind it
-pub asked-octets-at : (calls : List AskedCall) (i : ℕ) (call d : AskedCall) → i < length calls → call ≡ get_or calls i d
-    → asked_octets calls ≡ asked_octets (take i calls) ++ (call.octets.items ++ asked_octets (drop (suc i) calls))
-asked-octets-at [] i call d few e = absurd (omega (arith, few))
-asked-octets-at (c ∷ calls) zero call d few e = ap (λ (x : AskedCall). x.octets.items ++ asked_octets calls) (sym e)
-asked-octets-at (c ∷ calls) (suc i) call d few e =
-    ap (λ (o : List ℕ). c.octets.items ++ o) (asked-octets-at calls i call d (omega (arith, few)) e)
-    ∙ sym (append_assoc c.octets.items (asked_octets (take i calls)) (call.octets.items ++ asked_octets (drop (suc i) calls)))
+-- that of those before one of them, its own, and that of those behind it
+pub asked-len-at : (calls : List AskedCall) (i : ℕ) (call d : AskedCall) → i < length calls → call ≡ get_or calls i d
+    → asked_len calls ≡ asked_len (take i calls) + call.len + asked_len (drop (suc i) calls)
+asked-len-at [] i call d few e = absurd (omega (arith, few))
+asked-len-at (c ∷ calls) zero call d few e = let same : call.len ≡ c.len = ap (λ (x : AskedCall). x.len) e in omega (arith, same)
+asked-len-at (c ∷ calls) (suc i) call d few e = omega (arith, asked-len-at calls i call d (omega (arith, few)) e)

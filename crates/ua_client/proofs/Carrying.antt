@@ -1,12 +1,11 @@
 -- What was carried, one call behind another.
-use Rattle.std.specs.Prelude.{◌≡◌, ℕ, ◌+◌, ◌-◌, ◌≤◌, ◌<◌, List, [], ◌++◌, length, take, drop, Option, Some, None, Ok, Err}
+use Rattle.std.specs.Prelude.{◌≡◌, ℕ, ◌+◌, ◌-◌, ◌≤◌, ◌<◌, List, [], ◌++◌, length, take, drop, Option, Some, None}
 use Rattle.std.proofs.Common.{refl, sym, ◌∙◌, ap, subst, append_assoc, append-nil, arith}
-use Rattle.std.proofs.Math.Seq.{take-add, take-length}
+use Rattle.std.proofs.Math.Seq.{take-add}
 use Rattle.std.proofs.lemmas.List.{length-append, length-drop, take-append-drop}
 use Rattle.ua_wire.specs.Format.{Extends}
-use Rattle.ua_channel.specs.Line.{Traffic, HandsOut, MovesTraffic, IfTrafficKnown}
-use Rattle.ua_channel.specs.declared.line.LineFault.{LineFault}
-use Rattle.ua_client.specs.Carried.{Carries, IsAtEnd, IsPart, WritesFront}
+use Rattle.ua_channel.specs.Line.{Traffic, MovesTraffic, IfTrafficKnown}
+use Rattle.ua_client.specs.Carried.{Carries, IsPart, WritesFront}
 
 -- ---- nothing, and one behind another
 
@@ -32,46 +31,12 @@ pub carried-as : (got sent got' sent' : List ℕ) (a b : Option Traffic) → got
 carried-as got sent got' sent' a b p q h = subst (λ (s : List ℕ). IfTrafficKnown (Carries got' s) a b) q
     (subst (λ (g : List ℕ). IfTrafficKnown (Carries g sent) a b) p h)
 
--- ---- calls of a line
-
-pub had-read : (buffer : List ℕ) (n : ℕ) (a b : Option Traffic) → IfTrafficKnown (HandsOut (Ok n) buffer) a b → IfTrafficKnown (Carries (take n buffer) []) a b
-had-read buffer n (Some a) (Some b) h = record { coming = h.0; written = h.1 ∙ sym (append-nil a.written) }
-had-read buffer n (Some a) None h = absurd h
-had-read buffer n None b h = h
-
-pub read-end : (buffer : List ℕ) (n : ℕ) (a b : Option Traffic) → IfTrafficKnown (HandsOut (Ok n) buffer) a b → 0 < length buffer → n ≡ 0 → IsAtEnd b
-read-end buffer n (Some a) (Some b) h room none =
-    let all : a.coming [] ≡ [] = h.2 none room in
-    sym (h.0 [] ∙ ap (λ (k : ℕ). take k buffer ++ b.coming []) none) ∙ all
-read-end buffer n (Some a) None h room none = tt
-read-end buffer n None None h room none = tt
-read-end buffer n None (Some b) h room none = absurd cc
-
-pub failed-read : (fault : LineFault) (buffer : List ℕ) (a b : Option Traffic) → IfTrafficKnown (HandsOut (Err fault) buffer) a b → b ≡ a
-failed-read fault buffer (Some a) (Some b) h = ap (λ (t : Traffic). Some t) h
-failed-read fault buffer (Some a) None h = absurd h
-failed-read fault buffer None b h = h
-
 -- ---- a whole write, step by step
 
 -- of these octets so many are written
 pub record Written (octets : List ℕ) (at : ℕ) (before after : Option Traffic) : Type 0 where
   pub within : at ≤ length octets
   pub carried : IfTrafficKnown (Carries [] (take at octets)) before after
-
-pub written-nothing : (octets : List ℕ) (t : Option Traffic) → Written octets 0 t t
-written-nothing octets t = record { within = omega arith; carried = carried-nothing t }
-
-all-rest : (octets : List ℕ) (at : ℕ) → take (length octets - at) (drop at octets) ≡ drop at octets
-all-rest octets at = ap (λ (k : ℕ). take k (drop at octets)) (sym (length-drop at octets)) ∙ take-length (drop at octets)
-
-pub length-rest : (octets : List ℕ) (at : ℕ) → length (take (length octets - at) (drop at octets)) ≡ length octets - at
-length-rest octets at = ap length (all-rest octets at) ∙ length-drop at octets
-
-pub written-all : (octets : List ℕ) (at : ℕ) (a b : Option Traffic) → Written octets at a b → length octets ≤ at → IfTrafficKnown (Carries [] octets) a b
-written-all octets at a b w all =
-    let whole : at ≡ length octets = omega (arith, w.within, all) in
-    carried-as [] (take at octets) [] octets a b refl (ap (λ (k : ℕ). take k octets) whole ∙ take-length octets) w.carried
 
 front-of : (sent octets : List ℕ) (a b : Option Traffic) → Extends sent octets → length sent < length octets → IfTrafficKnown (Carries [] sent) a b
     → IfTrafficKnown (WritesFront octets) a b
@@ -155,19 +120,3 @@ part-front octets at count a b c w some h =
         ∙ (ap (λ (t : List ℕ). take at octets ++ t) (sym (take-append-drop count (drop at octets))
         ∙ (ap (λ (t : List ℕ). t ++ drop count (drop at octets)) e.parts ∙ append_assoc sent e.more (drop count (drop at octets))))
         ∙ sym (append_assoc (take at octets) sent (e.more ++ drop count (drop at octets))))
-
--- ---- writes, one behind the other
-
--- a beginning of these octets is written behind others, of which the last are not written
-pub joined-front : (before here behind : List ℕ) (a b c : Option Traffic) → IfTrafficKnown (Carries [] before) a b → 0 < length here
-    → IfTrafficKnown (WritesFront here) b c → IfTrafficKnown (WritesFront (before ++ (here ++ behind))) a c
-joined-front before here behind a b c w some h =
-    let front = sends-front here b c h in
-    front-of (before ++ front.0) (before ++ (here ++ behind)) a c
-    (record {
-      more = front.1.more ++ behind;
-      parts = ap (λ (t : List ℕ). before ++ t) (ap (λ (t : List ℕ). t ++ behind) front.1.parts ∙ append_assoc front.0 front.1.more behind)
-          ∙ sym (append_assoc before front.0 (front.1.more ++ behind));
-    })
-    (omega (arith, front.3 some, length-append before front.0, length-append before (here ++ behind), length-append here behind))
-    (carried-then [] before [] front.0 a b c w front.2)

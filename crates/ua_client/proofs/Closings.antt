@@ -1,6 +1,6 @@
 -- What a close sends.
-use Rattle.std.specs.Prelude.{◌≡◌, ℕ, ◌<◌, List, [], length, Option, Ok, Err}
-use Rattle.std.proofs.Common.{refl, sym, ◌∙◌, ap, subst}
+use Rattle.std.specs.Prelude.{◌≡◌, ℕ, ◌<◌, List, length, Option, Err}
+use Rattle.std.proofs.Common.{sym, ◌∙◌, ap, subst}
 use Rattle.ua_builtin.specs.declared.date_time.DateTime.{DateTime}
 use Rattle.ua_chunk.specs.declared.lane.Lane.{Lane}
 use Rattle.ua_frame.specs.Frames.{frame_octets}
@@ -13,11 +13,11 @@ use Rattle.ua_channel.specs.Received.{Received, received}
 use Rattle.ua_channel.specs.declared.client.channel.ClientChannel.{ClientChannel}
 use Rattle.ua_channel.specs.declared.client.phase.Phase.{Phase}
 use Rattle.ua_channel.specs.declared.client.phase.Phase.TheVariants.{Waiting, Agreed, Open, Done}
-use Rattle.ua_client.specs.Carried.{Carries, IsPart, WritesFront}
+use Rattle.ua_client.specs.Carried.{IsPart, WritesFront}
 use Rattle.ua_client.specs.Client.{closing_by, closing_at, Closes}
 use Rattle.ua_client.specs.ClientPlace.{ClientPlace, StandsAt, id_at, lane_behind}
 use Rattle.ua_client.specs.declared.fault.ClientFault.TheVariants as fault
-use Rattle.ua_client.proofs.Carrying.{carried-nothing, sends-part}
+use Rattle.ua_client.proofs.Carrying.{sends-part}
 use Rattle.ua_client.proofs.Lanes.{lane-talks}
 
 closing-in : (limits : Limits) (p : Phase) (before : Received) (asked : List Asking) (number : ℕ) (moment : DateTime) (out : List ℕ)
@@ -36,11 +36,6 @@ closing-is x s moment out at h =
     ∙ (ap (λ (b : Received). closing_by (lane_behind b) (client_next x) (id_at s) moment) at.before_is
     ∙ ap (λ (n : ℕ). closing_by (lane_behind s.before) n (id_at s) moment) at.number_is)
 
-pub closes-whole : {A : Type 0} (x : ClientChannel) (moment : DateTime) (out : List ℕ) (before after : Option Traffic) (done : A)
-    → IsClosing (phase_of x) (client_next x) moment out → IfTrafficKnown (Carries [] out) before after
-    → Closes moment x before after (Ok done)
-closes-whole x moment out before after done h w = record { sent = out; carried = w; answers = λ s at. closing-is x s moment out at h }
-
 pub closes-front : {A : Type 0} (x : ClientChannel) (moment : DateTime) (out : List ℕ) (before after : Option Traffic)
     → IsClosing (phase_of x) (client_next x) moment out → 0 < length out → IfTrafficKnown (WritesFront out) before after
     → Closes {A = A} moment x before after (Err fault.Write)
@@ -51,6 +46,3 @@ closes-front x moment out before after h some w =
       carried = front.2;
       answers = λ s at. subst (IsPart front.0) (closing-is x s moment out at h) front.1;
     }
-
-pub closes-nothing : {A : Type 0} (x : ClientChannel) (moment : DateTime) (t : Option Traffic) → Closes {A = A} moment x t t (Err fault.OutOfMemory)
-closes-nothing x moment t = record { sent = []; carried = carried-nothing t; answers = λ s at. refl }

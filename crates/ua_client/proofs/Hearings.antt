@@ -39,7 +39,7 @@ told-at : (moment : DateTime) (piece : List ℕ) (n : ℕ) (e : ClientEvent) (ne
 told-at moment piece n event.NeedMore new asks octets told not good h = absurd (not refl)
 told-at moment piece n (event.Send sent) new asks octets told not good h = (Agreed h.ack, (h.sent_is, (h.ack, refl)), h.goes)
 told-at moment piece n event.Open new asks octets told not good h = (Opened h.channel h.token, (h.channel, (h.token, refl)), h.goes)
-told-at moment piece n (event.Answered id message) new asks octets told not good h = (Answered id (concat message), refl, h)
+told-at moment piece n (event.Answered id message) new asks octets told not good h = (Answered id (concat message), refl, h.0)
 told-at moment piece n (event.Aborted id code) new asks octets told not good h = (GaveUp id code, refl, h)
 told-at moment piece n (event.Failed code peer) new asks octets told not good h = absurd (good code peer refl)
 told-at moment piece n (event.Renewed token) new asks octets told not good h = (Renewed token, refl, h)
@@ -130,7 +130,7 @@ fault-at : (f : ClientTakeFault) (old new : Connection) (moment : DateTime) (ask
     → ListensAfter moment (Err (of_take_fault f)) (channel_of_connection new) asks (octets ++ []) told
 fault-at take_fault.Closed old new moment asks octets told keeps g h = h
 fault-at take_fault.OutOfMemory old new moment asks octets told keeps g h = starves (channel_of_connection old) (channel_of_connection new) asks octets told
-    keeps.same g h
+    keeps.same g h.2.done
 
 of-channel : (f : ClientTakeFault) → is_channel_fault (of_take_fault f) ≡ true
 of-channel take_fault.Closed = refl

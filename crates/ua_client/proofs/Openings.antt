@@ -461,9 +461,6 @@ module _ (moment : DateTime) (x mid : Connection) (hello : List ℕ) (a b c : Op
       abbrev both-moves : MovesConnection mid new [] d e → MovesConnection x new (hello ++ opening) a e
       both-moves m = moves-behind x mid new hello opening a c e (sent-first x mid hello a b c w h.moves) (sent-first mid new opening c d e v m)
 
-      spent-most : (got : List ℕ) (n : ℕ) → left ≤ n + length got → most_reads ≤ n + length (h.moves.got ++ got)
-      spent-most got n k = let l = length-append h.moves.got got in let s = h.stops in omega (arith, l, s, k)
-
       -- the channel is open
       opens-open : (done : Unit {0}) → Waits is_opened any_done mid new d e left less (Ok done) → Opens moment x new a e (Ok done)
       opens-open done k = record {

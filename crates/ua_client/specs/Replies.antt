@@ -1,5 +1,6 @@
 -- The replies to a client's calls: each is what was told under the RequestId of its call.
-use Rattle.std.specs.Prelude.{◌≡◌, ◌+◌, ◌<◌, ◌⊎◌, ◌++◌, ℕ, zero, suc, Bool, true, false, is_none, List, [], ◌∷◌, length, Option, Some, None, Result, Ok, Err}
+use Rattle.std.specs.Prelude.{◌≡◌, ◌+◌, ◌<◌, ◌⊎◌, ◌++◌, ℕ, zero, suc, Bool, true, false, is_none}
+use Rattle.std.specs.Prelude.{List, [], ◌∷◌, length, slice_set, Option, Some, None, Result, Ok, Err}
 use Rattle.std.specs.List.{list_any}
 use Rattle.ua_channel.specs.ClientTold.{ClientTold}
 use Rattle.ua_channel.specs.ClientTold.ClientTold.{Answered, GaveUp}
@@ -33,6 +34,11 @@ ReadsAnswer kind octets (Ok m) = IsAnswer kind octets m
 ReadsAnswer kind octets (Err fault.UnknownResponse) = IsNoAnswer kind octets
 ReadsAnswer kind octets (Err fault.OutOfMemory) = Unit {0}
 ReadsAnswer kind octets (Err other) = ⊥
+
+-- the answer that bytes are was put at this index, or nothing was
+abbrev pub PutsAnswer : RequestKind → List ℕ → ℕ → List (Option Reply) → List (Option Reply) → Result (Unit {0}) ClientFault → Type 0
+PutsAnswer kind octets place before now (Ok done) = (m : Response) × IsAnswer kind octets m × (now ≡ slice_set before place (Some (Responds m)))
+PutsAnswer kind octets place before now (Err fault) = (now ≡ before) × ReadsAnswer kind octets (Err fault)
 
 -- bytes are no answer, or an allocation failed
 abbrev pub is_reading_fault : ClientFault → Bool

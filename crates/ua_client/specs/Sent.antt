@@ -1,6 +1,5 @@
 -- What a client sends: the chunks of its calls, and which of them it refuses.
 use Rattle.std.specs.Prelude.{◌≡◌, ◌<◌, ◌+◌, ◌++◌, not, ℕ, Bool, true, false, List, [], ◌∷◌, map, length, take, Option, Some, None, Result, Ok, Err}
-use Rattle.std.specs.List.{flat_map}
 use Rattle.ua_builtin.specs.Reasons.{or_else, renamed_reason}
 use Rattle.ua_chunk.specs.declared.lane.Lane.{Lane}
 use Rattle.ua_services.specs.Request.{request}
@@ -117,9 +116,10 @@ pub record AsksGroup (bodies : List (List ℕ)) (old new : ClientChannel) (asks 
   pub out_is : out ≡ calls_octets (lane_behind (received frames)) (client_next old) (next_id (asked_in asks)) bodies
   pub next_is : client_next new ≡ numbers_behind (lane_behind (received frames)) (client_next old) bodies
 
--- the bytes of calls that were made, one after the other
-abbrev pub asked_octets : List AskedCall → List ℕ
-asked_octets calls = flat_map (λ (call : AskedCall). call.octets.items) calls
+-- the length in bytes of calls that were made, together
+abbrev pub asked_len : List AskedCall → ℕ
+asked_len [] = 0
+asked_len (call ∷ calls) = call.len + asked_len calls
 
 -- the same, and this is the RequestId of the first
 abbrev pub AsksFrom : List (List ℕ) → ClientChannel → ClientChannel → List Placed → List ℕ → List Frame → List ℕ → ℕ × List ℕ → Type 0

@@ -63,7 +63,7 @@ impl Connection {
         calls_are_told_behind();
         make_room(replies, group.requests.len())?;
         let asked = ask_group(self.alloc, &mut self.channel, group)?;
-        let Ok(()) = write_calls(line, &asked.calls) else {
+        let Ok(()) = write_calls(line, &asked.octets, &asked.calls) else {
             return Err(ClientFault::Write);
         };
         let mut slots = empty_slots(self.alloc, asked.requests)?;

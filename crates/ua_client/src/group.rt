@@ -7,7 +7,7 @@ ghost use Rattle.ua_frame.specs.declared.frame.Frame.{Frame};
 ghost use Rattle.ua_services.specs.Request.{request};
 ghost use Rattle.ua_channel.specs.Asks.{Placed};
 ghost use Rattle.ua_channel.specs.Client.{ClientStands, SameClient, phase_of, ask_refusal};
-ghost use Rattle.ua_client.specs.Sent.{asked_octets, of_ask, AnswersBy, request_refusal, group_refusal};
+ghost use Rattle.ua_client.specs.Sent.{asked_len, of_ask, AnswersBy, request_refusal, group_refusal};
 ghost use Rattle.ua_client.specs.Sent.{bodies_of, AsksFrom, AsksOr, RefusesBy, place_by};
 ghost use Rattle.ua_client.specs.Hearing.{fault_alone};
 ghost use Rattle.ua_client.specs.declared.fault.ClientFault.TheVariants.{OutOfMemory};
@@ -164,6 +164,8 @@ pub struct AskedGroup<'a> {
     pub requests: &'a [Request],
     /// The RequestId of the first call; 0 where there is none.
     pub first: u32,
+    /// The frames of the calls, one after the other.
+    pub octets: Vec<u8>,
     /// The calls, in order.
     pub calls: Vec<AskedCall>,
 }
@@ -177,15 +179,17 @@ pub fn ask_group<'a>(
     ensures asks { (asks : List Placed) (octets : List ℕ) (frames : List Frame) (rest : List ℕ)
         → ClientStands channel.old asks octets frames rest
         → AsksOr (λ found. AsksFrom group.now.bodies.items channel.old channel.new asks octets frames rest
-        (found.first, asked_octets found.calls.items)) result }
+        (found.first, found.octets.items)) result }
+    ensures len { IfOk result (λ found. asked_len found.calls.items ≡ length found.octets.items) }
     ensures requests { IfOk result (λ found. found.requests.now ≡ group.now.requests.now) }
     ensures same { SameClient channel.old channel.new }
     ensures memory { IfErr result (λ fault. fault ≡ OutOfMemory) }
 {
+    let mut octets = Vec::new(alloc);
     let mut calls = Vec::new(alloc);
     let mut first = None;
     for body in &group.bodies {
-        let Ok(call) = channel.call(body.octets()) else {
+        let Ok(call) = channel.call(body.octets(), &mut octets) else {
             return Err(ClientFault::OutOfMemory);
         };
         first = Some(first.unwrap_or(call.id));
@@ -196,6 +200,7 @@ pub fn ask_group<'a>(
     Ok(AskedGroup {
         requests: group.requests,
         first: first.unwrap_or(0),
+        octets,
         calls,
     })
 }

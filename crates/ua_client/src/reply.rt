@@ -1,13 +1,14 @@
 //! Replies to requests.
 
 ghost use Rattle.std.specs.Prelude.{◌≡◌, ◌<◌, ◌++◌, ◌∷◌, [], List, length, slice_set};
-ghost use Rattle.std.specs.Prelude.{true, Some, IfOk, IfErr, IfSome, OnErr};
+ghost use Rattle.std.specs.Prelude.{true, Some, IfErr, OnOk, OnErr};
 ghost use Rattle.std.specs.List.{concat};
 ghost use Rattle.ua_channel.specs.ClientTold.{ClientTold};
 ghost use Rattle.ua_channel.specs.ClientTold.ClientTold.{Answered};
 ghost use Rattle.ua_services.specs.Response.{Answers, kind_of_response};
 ghost use Rattle.ua_client.specs.declared.fault.ClientFault.TheVariants.{UnknownResponse};
-ghost use Rattle.ua_client.specs.Replies.{ReadsAnswer, IsPlace, PlacesReply, AreSlots, FillsSlots, is_reading_fault};
+ghost use Rattle.ua_client.specs.Replies.{PutsAnswer, IsPlace, AreSlots, FillsSlots, is_reading_fault};
+ghost use Rattle.ua_client.specs.declared.reply.Reply.TheVariants.{Response as Responds};
 ghost use Rattle.ua_client.specs.Told.{IsFirstOf};
 ghost use Rattle.ua_client.specs.Hearing.{Says};
 ghost use Rattle.ua_builtin.specs.declared.date_time.DateTime.{DateTime};
@@ -30,31 +31,46 @@ pub enum Reply {
     Aborted(StatusCode),
 }
 
-/// A response, where it answers a request of this kind.
-fn keep_answer(kind: RequestKind, response: Response) -> Result<Response, ClientFault>
-    ensures kept { IfOk result (λ m. (m ≡ response) × Answers (kind_of_response response) kind) }
+// A reply has more than 500 bytes: it is put into its slot as soon as it is read, and handed through
+// no results.
+
+/// Puts a response at an index, where it answers a request of this kind.
+fn put_answer(
+    kind: RequestKind,
+    response: Response,
+    slots: &mut Vec<Option<Reply>>,
+    place: usize,
+) -> Result<(), ClientFault>
+    requires { place < length slots.old.items }
+    ensures put { OnOk result (Answers (kind_of_response response) kind
+        × (slots.new.items ≡ slice_set slots.old.items place (Some (Responds response)))) }
     ensures refused { IfErr result (λ fault. (fault ≡ UnknownResponse)
         × (Answers (kind_of_response response) kind → ⊥)) }
+    ensures err { OnErr result (slots.new.items ≡ slots.old.items) }
 {
     if response.answers(kind) {
-        return Ok(response);
+        drop(mem::replace(&mut slots[place], Some(Reply::Response(response))));
+        return Ok(());
     }
     drop(response);
     Err(ClientFault::UnknownResponse)
 }
 
-/// The response that a source is, where it answers a request of this kind.
-fn read_answer_from<S: Source>(
+/// Puts the response that a source is at an index, where it answers a request of this kind.
+fn put_answer_from<S: Source>(
     alloc: Global,
     kind: RequestKind,
     src: &mut S,
-) -> Result<Response, ClientFault>
-    ensures reads { ReadsAnswer kind (S.octets src.old) result }
+    slots: &mut Vec<Option<Reply>>,
+    place: usize,
+) -> Result<(), ClientFault>
+    requires { place < length slots.old.items }
+    ensures puts { PutsAnswer kind (S.octets src.old) place slots.old.items slots.new.items result }
     ensures faults { IfErr result (λ fault. is_reading_fault fault ≡ true) }
 {
     bodies_of_responses_differ();
     match read_response(alloc, src) {
-        Ok(response) => keep_answer(kind, response),
+        Ok(response) => put_answer(kind, response, slots, place),
         Err(ResponseFault::OutOfMemory) => Err(ClientFault::OutOfMemory),
         Err(ResponseFault::Unknown | ResponseFault::Unreadable) => {
             Err(ClientFault::UnknownResponse)
@@ -62,15 +78,25 @@ fn read_answer_from<S: Source>(
     }
 }
 
-/// The response that a message is, where it answers a request of this kind. Nearly each message has
-/// one part, whose bytes are read faster than those of several.
-fn read_answer(alloc: Global, kind: RequestKind, message: &Message) -> Result<Response, ClientFault>
-    ensures reads { ReadsAnswer kind (concat message.now) result }
+/// Puts the response that a message is at an index, where it answers a request of this kind. Nearly
+/// each message has one part, whose bytes are read faster than those of several.
+fn put_answer_of(
+    alloc: Global,
+    kind: RequestKind,
+    message: &Message,
+    slots: &mut Vec<Option<Reply>>,
+    place: usize,
+) -> Result<(), ClientFault>
+    requires { place < length slots.old.items }
+    ensures puts { PutsAnswer kind (concat message.now) place slots.old.items slots.new.items result }
     ensures faults { IfErr result (λ fault. is_reading_fault fault ≡ true) }
 {
     match message.parts() {
-        [part] => read_answer_from(alloc, kind, &mut Octets::new(part.as_slice())),
-        _ => read_answer_from(alloc, kind, &mut message.source()),
+        [part] => {
+            let mut src = Octets::new(part.as_slice());
+            put_answer_from(alloc, kind, &mut src, slots, place)
+        }
+        _ => put_answer_from(alloc, kind, &mut message.source(), slots, place),
     }
 }
 
@@ -88,57 +114,66 @@ fn place_of(first: u32, id: u32, count: usize) -> Option<usize>
     Some(place)
 }
 
-/// The reply to one of these requests that a message under a RequestId is, and the index of the
-/// request; the calls have RequestIds counted from the first.
-fn answer_by(
-    alloc: Global,
-    requests: &[Request],
-    first: u32,
-    id: u32,
-    message: &Message,
-) -> Result<Option<(usize, Reply)>, ClientFault>
-    ensures placed { PlacesReply requests.now first (Answered id (concat message.now)) result }
-    ensures within { IfOk result (λ found. IfSome found (λ p. p.0 < length requests.now)) }
-    ensures faults { IfErr result (λ fault. is_reading_fault fault ≡ true) }
-{
-    let Some(place) = place_of(first, id, requests.len()) else {
-        return Ok(None);
-    };
-    match read_answer(alloc, requests[place].kind(), message) {
-        Ok(response) => Ok(Some((place, Reply::Response(response)))),
-        Err(fault) => Err(fault),
-    }
-}
-
-/// The reply to one of these requests that an event brings, and the index of the request; the calls
-/// have RequestIds counted from the first.
-fn reply_by(
-    alloc: Global,
-    requests: &[Request],
-    first: u32,
-    event: &ClientEvent,
-) -> Result<Option<(usize, Reply)>, ClientFault>
-    ensures placed { (moment : DateTime) (t : ClientTold) → Says moment event.now t
-        → PlacesReply requests.now first t result }
-    ensures within { IfOk result (λ found. IfSome found (λ p. p.0 < length requests.now)) }
-    ensures faults { IfErr result (λ fault. is_reading_fault fault ≡ true) }
-{
-    match event {
-        ClientEvent::Answered(id, message) => answer_by(alloc, requests, first, *id, message),
-        ClientEvent::Aborted(id, code) => match place_of(first, *id, requests.len()) {
-            None => Ok(None),
-            Some(place) => Ok(Some((place, Reply::Aborted(*code)))),
-        },
-        _ => Ok(None),
-    }
-}
-
 /// Puts a reply at an index.
 fn set_reply(slots: &mut Vec<Option<Reply>>, place: usize, reply: Reply)
     requires { place < length slots.old.items }
     ensures { slots.new.items ≡ slice_set slots.old.items place (Some reply) }
 {
     drop(mem::replace(&mut slots[place], Some(reply)));
+}
+
+/// Puts the reply that a message under a RequestId is at the index of its request; the calls have
+/// RequestIds counted from the first.
+fn put_by(
+    alloc: Global,
+    requests: &[Request],
+    first: u32,
+    id: u32,
+    message: &Message,
+    slots: &mut Vec<Option<Reply>>,
+) -> Result<(), ClientFault>
+    requires { length slots.old.items ≡ length requests.now }
+    ensures fills { (told : List ClientTold) → IsFirstOf told (Answered id (concat message.now))
+        → AreSlots requests.now first told slots.old.items
+        → FillsSlots requests.now first (told ++ Answered id (concat message.now) ∷ []) slots.new.items result }
+    ensures faults { IfErr result (λ fault. is_reading_fault fault ≡ true) }
+    ensures count { length slots.new.items ≡ length slots.old.items }
+    ensures err { OnErr result (slots.new.items ≡ slots.old.items) }
+{
+    let Some(place) = place_of(first, id, requests.len()) else {
+        return Ok(());
+    };
+    put_answer_of(alloc, requests[place].kind(), message, slots, place)
+}
+
+/// Puts the reply that an event brings at the index of its request; the calls have RequestIds
+/// counted from the first.
+fn put_reply(
+    alloc: Global,
+    requests: &[Request],
+    first: u32,
+    event: &ClientEvent,
+    slots: &mut Vec<Option<Reply>>,
+) -> Result<(), ClientFault>
+    requires { length slots.old.items ≡ length requests.now }
+    ensures fills { (moment : DateTime) (told : List ClientTold) (t : ClientTold) → Says moment event.now t
+        → IsFirstOf told t → AreSlots requests.now first told slots.old.items
+        → FillsSlots requests.now first (told ++ t ∷ []) slots.new.items result }
+    ensures faults { IfErr result (λ fault. is_reading_fault fault ≡ true) }
+    ensures count { length slots.new.items ≡ length slots.old.items }
+    ensures err { OnErr result (slots.new.items ≡ slots.old.items) }
+{
+    match event {
+        ClientEvent::Answered(id, message) => put_by(alloc, requests, first, *id, message, slots),
+        ClientEvent::Aborted(id, code) => match place_of(first, *id, requests.len()) {
+            None => Ok(()),
+            Some(place) => {
+                set_reply(slots, place, Reply::Aborted(*code));
+                Ok(())
+            }
+        },
+        _ => Ok(()),
+    }
 }
 
 /// Puts the reply that an event brings at the index of its request.
@@ -157,16 +192,9 @@ pub fn place_reply(
     ensures count { length slots.new.items ≡ length slots.old.items }
     ensures err { OnErr result (slots.new.items ≡ slots.old.items) }
 {
-    let found = reply_by(alloc, requests, first, &event);
+    let put = put_reply(alloc, requests, first, &event, slots);
     drop(event);
-    match found {
-        Ok(None) => Ok(()),
-        Ok(Some((place, reply))) => {
-            set_reply(slots, place, reply);
-            Ok(())
-        }
-        Err(fault) => Err(fault),
-    }
+    put
 }
 
 /// The reply of a group of one.

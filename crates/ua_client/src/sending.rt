@@ -1,9 +1,9 @@
 //! Complete writes to a transport.
 
-ghost use Rattle.std.specs.Prelude.{◌≡◌, ◌<◌, ◌≤◌, length, OnErr};
+ghost use Rattle.std.specs.Prelude.{◌≡◌, ◌<◌, ◌≤◌, ◌+◌, length, OnErr};
 ghost use Rattle.ua_channel.specs.Line.{IfTrafficKnown, failures_after};
 ghost use Rattle.ua_client.specs.Carried.{Writes};
-ghost use Rattle.ua_client.specs.Sent.{asked_octets};
+ghost use Rattle.ua_client.specs.Sent.{asked_len};
 
 use ua_channel::{AskedCall, Line, LineFault, write_whole};
 
@@ -52,16 +52,33 @@ fn write_frames<L: Line>(line: &mut L, octets: &[u8], frame_len: usize) -> Resul
     Ok(())
 }
 
+/// The end of the frames of a call that begin at a place among bytes.
+fn call_end(octets: &[u8], at: usize, call: &AskedCall) -> usize
+    requires { at + call.now.len ≤ length octets.now }
+    ensures is { result ≡ at + call.now.len }
+    ensures within { result ≤ length octets.now }
+{
+    let _len = octets.len();
+    at + call.len
+}
+
 /// Writes the frames of calls completely, each by one write where the transport takes it so.
-pub fn write_calls<L: Line>(line: &mut L, calls: &[AskedCall]) -> Result<(), LineFault>
-    ensures written { IfTrafficKnown (Writes result (asked_octets calls.now)) (L.traffic line.old)
-        (L.traffic line.new) }
-    ensures some { OnErr result (0 < length (asked_octets calls.now)) }
+/// `octets` are the frames of all the calls, in order.
+pub fn write_calls<L: Line>(
+    line: &mut L,
+    octets: &[u8],
+    calls: &[AskedCall],
+) -> Result<(), LineFault>
+    requires { asked_len calls.now ≡ length octets.now }
+    ensures written { IfTrafficKnown (Writes result octets.now) (L.traffic line.old) (L.traffic line.new) }
+    ensures some { OnErr result (0 < length octets.now) }
     ensures failed { L.failures line.new ≡ failures_after (L.failures line.old) result }
 {
+    let mut at = 0;
     for call in calls {
-        match write_frames(line, &call.octets, call.frame_len) {
-            Ok(()) => {}
+        let end = call_end(octets, at, call);
+        match write_frames(line, &octets[at..end], call.frame_len) {
+            Ok(()) => at = end,
             Err(fault) => return Err(fault),
         }
     }

@@ -1,6 +1,6 @@
 -- Events of a connection beside an application, some behind others.
 use Rattle.std.specs.Prelude.{◌≡◌, ℕ, Bool, true, false, List, [], ◌∷◌, ◌++◌, cond, length, Option}
-use Rattle.std.proofs.Common.{refl, sym, ◌∙◌, ap, subst, append_assoc, arith}
+use Rattle.std.proofs.Common.{refl, sym, ◌∙◌, ap, append_assoc, arith}
 use Rattle.ua_builtin.specs.declared.date_time.DateTime.{DateTime}
 use Rattle.ua_channel.specs.Agreement.{Agreement}
 use Rattle.ua_channel.specs.ServerPlaces.{agreed_by}
@@ -24,14 +24,13 @@ use Rattle.ua_server.proofs.Steps.{course}
 
 pub told_in-append : (a b : List ConnectionEvent) → told_in (a ++ b) ≡ told_in a ++ told_in b
 told_in-append [] b = refl
-told_in-append (Heard t m ∷ a) b = ap (λ (x : List Told). t ∷ x) (told_in-append a b)
+told_in-append (Heard t m ∷ a) b = rw (told_in-append a b)
 told_in-append (Became nodes made ∷ a) b = told_in-append a b
 
 pub moments_of-append : (a b : List ConnectionEvent) → moments_of (a ++ b) ≡ moments_of a ++ moments_of b
 moments_of-append [] b = refl
 moments_of-append (Heard t m ∷ a) b =
-    ap (λ (x : List DateTime). times_of_answers (t ∷ []) m ++ x) (moments_of-append a b)
-    ∙ sym (append_assoc (times_of_answers (t ∷ []) m) (moments_of a) (moments_of b))
+    rw (moments_of-append a b) (sym (append_assoc (times_of_answers (t ∷ []) m) (moments_of a) (moments_of b)))
 moments_of-append (Became nodes made ∷ a) b = moments_of-append a b
 
 pub requests_over-append : (channel : ℕ) (c : Course) (a b : List ConnectionEvent) → requests_over channel c (a ++ b) ≡ requests_over channel c a
@@ -50,7 +49,7 @@ silent-append (Became nodes made ∷ a) b p q = silent-append a b p q
 
 pub heard-append : (m : DateTime) (a b : List Told) → heard_at m (a ++ b) ≡ heard_at m a ++ heard_at m b
 heard-append m [] b = refl
-heard-append m (t ∷ a) b = ap (λ (x : List ConnectionEvent). Heard t m ∷ x) (heard-append m a b)
+heard-append m (t ∷ a) b = rw (heard-append m a b)
 
 -- ---- what an application does
 
@@ -62,7 +61,7 @@ module _ {A : Type 0} (changes : A → State → A → State → Type 0) (channe
 
   pub acts-append : (c : Course) (a b d : A) (hs more : List ConnectionEvent) → Acts changes channel c a hs b
       → Acts changes channel (course_over channel c hs) b more d → Acts changes channel c a (hs ++ more) d
-  acts-append c a b d [] more p q = subst (λ (x : A). Acts changes channel c x more d) (sym p) q
+  acts-append c a b d [] more p q = rw p q
   acts-append c a b d (Heard t m ∷ hs) more p q = acts-append (event_answer channel c (Heard t m)).1 a b d hs more p q
   acts-append c a b d (Became nodes made ∷ hs) more p q = (p.0, p.1, p.2, acts-append (event_answer channel c (Became nodes made)).1 p.0 b d hs more p.3 q)
 
@@ -74,11 +73,11 @@ module _ {A : Type 0} (changes : A → State → A → State → Type 0) (channe
       → (course_over channel c hs).state ≡ before → changes b before d after → after ≡ with_nodes before after.nodes
       → Acts changes channel c a (hs ++ Became after.nodes before.made ∷ []) d
   acts-became c a b d hs before after p state did alone =
-      let did_so : changes b before d (with_nodes before after.nodes) = subst (λ (s : State). changes b before d s) alone did in
+      let did_so : changes b before d (with_nodes before after.nodes) = rw (← alone) did in
       acts-append c a b d hs (Became after.nodes before.made ∷ []) p (
         d,
-        subst (λ (s : State). changes b s d (with_nodes s after.nodes)) (sym state) did_so,
-        ap (λ (s : State). s.made) (sym state),
+        rw state did_so,
+        rw (sym state),
         refl,
       )
 
@@ -100,13 +99,6 @@ pub quiet-silent : (m : DateTime) (ids : List ℕ) (more : List Told) → IsSile
 quiet-silent m [] more h = h
 quiet-silent m (id ∷ ids) more h = (refl, quiet-silent m ids more h)
 
--- one thing at most, behind which the step stops
-pub acting-one : (new : ServerChannel) (octets piece : List ℕ) (n : ℕ) (out : List ℕ) (told more : List Told) (m : DateTime)
-    → StepStops new octets piece n out told more → ActsFirst true (heard_at m more)
-acting-one new octets piece n out told [] m h = tt
-acting-one new octets piece n out told (t ∷ []) m h = (λ e. refl, tt)
-acting-one new octets piece n out told (t ∷ (u ∷ more)) m h = absurd h
-
 acting-quiet : (m : DateTime) (ids : List ℕ) (more : List Told) → ActsFirst true (heard_at m more) → ActsFirst true (heard_at m (given_up ids ++ more))
 acting-quiet m [] more h = h
 acting-quiet m (id ∷ ids) more h = (λ e. refl, acting-quiet m ids more h)
@@ -115,7 +107,7 @@ pub acting-on : (hs : List ConnectionEvent) (m : DateTime) (ids : List ℕ) (mor
     → ActsFirst true (heard_at m more) → ActsFirst false (hs ++ heard_at m (given_up ids ++ more))
 acting-on hs m ids more acted p h =
     acting-append false hs (heard_at m (given_up ids ++ more)) p
-    (subst (λ (b : Bool). ActsFirst b (heard_at m (given_up ids ++ more))) (sym acted) (acting-quiet m ids more h))
+    (rw acted (acting-quiet m ids more h))
 
 quiet-moments : (m : DateTime) (ids : List ℕ) (more : List Told) → moments_of (heard_at m (given_up ids ++ more)) ≡ moments_of (heard_at m more)
 quiet-moments m [] more = refl
@@ -124,7 +116,7 @@ quiet-moments m (id ∷ ids) more = quiet-moments m ids more
 pub moments-heard : (hs : List ConnectionEvent) (m : DateTime) (ids : List ℕ) (more : List Told) → moments_of (hs ++ heard_at m (given_up ids ++ more))
     ≡ moments_of hs ++ moments_of (heard_at m more)
 moments-heard hs m ids more = moments_of-append hs (heard_at m (given_up ids ++ more))
-    ∙ ap (λ (x : List DateTime). moments_of hs ++ x) (quiet-moments m ids more)
+    ∙ rw (quiet-moments m ids more)
 
 quiet-requests : (channel : ℕ) (s : State) (n : ℕ) (a : Option Agreement) (m : DateTime) (ids : List ℕ) (more : List Told)
     → requests_over channel (course s n [] a) (heard_at m (given_up ids ++ more)) ≡ requests_over channel (course s n [] a) (heard_at m more)
@@ -137,8 +129,7 @@ pub requests-behind : (x : ServerChannel) (octets : List ℕ) (hs : List Connect
     ≡ requests_over (channel_of x) (start first []) hs ++ requests_over (channel_of x) (course before (next_of x) [] (agreed_by (told_in hs))) (heard_at m more)
 requests-behind x octets hs first before m ids more s =
     requests_over-append (channel_of x) (start first []) hs (heard_at m (given_up ids ++ more))
-    ∙ ap (λ (r : List AnsweredRequest). requests_over (channel_of x) (start first []) hs ++ r)
-    (ap (λ (c : Course). requests_over (channel_of x) c (heard_at m (given_up ids ++ more))) (course-after x octets hs first before s)
+    ∙ rw (ap (λ (c : Course). requests_over (channel_of x) c (heard_at m (given_up ids ++ more))) (course-after x octets hs first before s)
     ∙ quiet-requests (channel_of x) before (next_of x) (agreed_by (told_in hs)) m ids more)
 
 -- at most one thing is told at a moment

@@ -81,7 +81,7 @@ agreed-behind channel d Closed false first e = let f = (first refl).1 in absurd 
 -- ---- a step
 
 same-rules : (x y : ServerChannel) → limits_of y ≡ limits_of x → channel_of y ≡ channel_of x → rules_of y ≡ rules_of x
-same-rules x y limits channel = ap (λ (l : Limits). server_rules l (channel_of y)) limits ∙ ap (λ (n : ℕ). server_rules (limits_of x) n) channel
+same-rules x y limits channel = rw (limits, channel)
 
 module _ {A : Type 0} (changes : A → State → A → State → Type 0) (x : Serving) (server : Server) (m : DateTime) (piece read written : List ℕ)
     (given ts : List Event) (first : State × A) (now0 now1 : State) (app : A) (some : 0 < length piece)
@@ -109,8 +109,7 @@ module _ {A : Type 0} (changes : A → State → A → State → Type 0) (x : Se
 
   moments-are : moments_in (given ++ ts) ≡ moments_of hs ++ m ∷ []
   moments-are = moments-append given ts
-      ∙ (ap (λ (a : List DateTime). a ++ moments_in ts) o.moments_are
-      ∙ (append_assoc (moments_of hs) (listed x.moment) (moments_in ts) ∙ ap (λ (a : List DateTime). moments_of hs ++ a) asked))
+      ∙ (rw o.moments_are (append_assoc (moments_of hs) (listed x.moment) (moments_in ts) ∙ rw asked))
 
   one-kept : length (m ∷ []) ≤ 1
   one-kept = omega arith
@@ -120,13 +119,13 @@ module _ {A : Type 0} (changes : A → State → A → State → Type 0) (x : Se
 
   run-here : (octets : List ℕ) (frames : List Frame) (rest : List ℕ) (end : End ℕ) → Run (rules_of ch) octets frames rest end
       → Run (server_rules l c) octets frames rest end
-  run-here octets frames rest end run = subst (λ (R : Rules Told ℕ). Run R octets frames rest end) rules-here run
+  run-here octets frames rest end run = rw (← rules-here) run
 
   stops-here : (frames : List Frame) (rest : List ℕ) (code : ℕ) → StopsAt (rules_of ch) frames rest code → StopsAt (server_rules l c) frames rest code
-  stops-here frames rest code stops = subst (λ (R : Rules Told ℕ). StopsAt R frames rest code) rules-here stops
+  stops-here frames rest code stops = rw (← rules-here) stops
 
   events-here : (frames : List Frame) (told : List Told) → events (rules_of ch) frames ≡ told → events (server_rules l c) frames ≡ told
-  events-here frames told e = ap (λ (R : Rules Told ℕ). events R frames) (sym rules-here) ∙ e
+  events-here frames told e = rw (sym rules-here) e
 
   enough-taken : (n : ℕ) → n ≡ length piece → n ≤ length piece
   enough-taken n all = omega (arith, all)
@@ -143,9 +142,9 @@ module _ {A : Type 0} (changes : A → State → A → State → Type 0) (x : Se
 
   whole-history : (q : List ℕ) (t : Told) → behind q (t ∷ []) ≡ behind q [] ++ (heard_at m (t ∷ []) ++ [])
   whole-history q t =
-      ap (λ (h : List ConnectionEvent). hs ++ h) (heard-append m (given_up q) (t ∷ [])
+      rw (heard-append m (given_up q) (t ∷ [])
       ∙ ap (λ (d : List Told). heard_at m d ++ heard_at m (t ∷ [])) (sym (append-nil (given_up q))))
-      ∙ sym (append_assoc hs (heard_at m (given_up q ++ [])) (heard_at m (t ∷ [])))
+      (sym (append_assoc hs (heard_at m (given_up q ++ [])) (heard_at m (t ∷ []))))
 
   quiet-here : (q : List ℕ) → told_in (behind q []) ≡ told_in hs ++ given_up q
   quiet-here q = sym (told-here q []) ∙ append-nil (told_in hs ++ given_up q)
@@ -159,7 +158,7 @@ module _ {A : Type 0} (changes : A → State → A → State → Type 0) (x : Se
   -- what is said over them, and the requests
   said-here : (q : List ℕ) (more : List Told) (out : List ℕ) → output_over c s0 (behind q more) ≡ output_over c s0 hs ++ out
       → output_over c s0 (behind q more) ≡ written ++ out
-  said-here q more out e = e ∙ ap (λ (w : List ℕ). w ++ out) (o.said_is ∙ append-nil written)
+  said-here q more out e = e ∙ rw (o.said_is ∙ append-nil written)
 
   said-quiet : (q : List ℕ) → output_over c s0 (behind q []) ≡ written
   said-quiet q = output-behind (channel_in x.server) read hs first.0 now0 m q [] o.stands
@@ -169,33 +168,29 @@ module _ {A : Type 0} (changes : A → State → A → State → Type 0) (x : Se
   said-before q = sym (append-nil (output_over c s0 (behind q [])) ∙ said-quiet q)
 
   state-quiet : (q : List ℕ) → (course_over c s0 (behind q [])).state ≡ now0
-  state-quiet q = ap (λ (d : Course). d.state) (course-behind (channel_in x.server) read hs first.0 now0 m q [] o.stands)
+  state-quiet q = rw (course-behind (channel_in x.server) read hs first.0 now0 m q [] o.stands)
 
   requests-here : (q : List ℕ) (more : List Told) (rs : List AnsweredRequest) → noted_in ts ≡ rs
       → requests_over c (course now0 (next_of (channel_in x.server)) [] (agreed_by (told_in hs))) (heard_at m more) ≡ rs
       → noted_in (given ++ ts) ≡ requests_over c s0 (behind q more)
   requests-here q more rs is e =
-      noted-append given ts ∙ (ap (λ (a : List AnsweredRequest). a ++ noted_in ts) o.requests_are
-      ∙ (ap (λ (a : List AnsweredRequest). requests_over c s0 hs ++ a) (is ∙ sym e)
-      ∙ sym (requests-behind (channel_in x.server) read hs first.0 now0 m q more o.stands)))
+      noted-append given ts ∙ (rw (o.requests_are, is ∙ sym e) (sym (requests-behind (channel_in x.server) read hs first.0 now0 m q more o.stands)))
 
   noted-told : noted_in ts ≡ [] → noted_in (given ++ ts) ≡ requests_over c s0 hs
-  noted-told none = noted-append given ts ∙ (ap (λ (a : List AnsweredRequest). noted_in given ++ a) none ∙ (append-nil (noted_in given) ∙ o.requests_are))
+  noted-told none = noted-append given ts ∙ (rw none (append-nil (noted_in given) ∙ o.requests_are))
 
   -- the moments of what a step adds
   moments-here : (q : List ℕ) (more : List Told) (kept : List DateTime) → moments_of (heard_at m more) ++ kept ≡ m ∷ []
       → moments_in (given ++ ts) ≡ moments_of (behind q more) ++ kept
   moments-here q more kept e =
-      moments-are ∙ (ap (λ (a : List DateTime). moments_of hs ++ a) (sym e)
-      ∙ (sym (append_assoc (moments_of hs) (moments_of (heard_at m more)) kept) ∙ ap (λ (a : List DateTime). a ++ kept) (sym (moments-heard hs m q more))))
+      moments-are ∙ (rw (sym e) (sym (append_assoc (moments_of hs) (moments_of (heard_at m more)) kept) ∙ rw (sym (moments-heard hs m q more))))
 
   -- they are asked for so
   asked-here : (octets : List ℕ) (q : List ℕ) (more : List Told) (kept : Option DateTime) → moments_in (given ++ ts) ≡ moments_of (behind q more) ++ listed kept
       → IsTimeKept l c octets kept
       → AreAsked l c octets (told_in (behind q more)) (moments_in (given ++ ts))
   asked-here octets q more kept are k =
-      subst (λ (ms : List DateTime). AreAsked l c octets (told_in (behind q more)) ms) (sym are)
-      (asked-by l c octets (told_in (behind q more)) (moments_of (behind q more)) kept (moments-count (behind q more)) k)
+      rw are (asked-by l c octets (told_in (behind q more)) (moments_of (behind q more)) kept (moments-count (behind q more)) k)
 
   used-before : (q : List ℕ) → used_in (told_in (behind q [])) ≡ used_in (told_in hs)
   used-before q = ap used_in (quiet-here q) ∙ used-quiet (told_in hs) q
@@ -219,8 +214,7 @@ module _ {A : Type 0} (changes : A → State → A → State → Type 0) (x : Se
   last-silent : (n : ℕ) (out q : List ℕ) (more : List Told) → out ≡ [] → IsSilent (heard_at m more)
       → LastSaid l c first.0 (read ++ take n piece) out written (behind q more)
   last-silent n out q more none quiet =
-      subst (λ (w : List ℕ). LastSaid l c first.0 (read ++ take n piece) w written (behind q more)) (sym none)
-      (last-on l c first.0 read (take n piece) [] written hs (heard_at m (given_up q ++ more)) (quiet-silent m q more quiet) o.last)
+      rw none (last-on l c first.0 read (take n piece) [] written hs (heard_at m (given_up q ++ more)) (quiet-silent m q more quiet) o.last)
 
   -- nothing is answered
   on-silent : (n : ℕ) (out q : List ℕ) (more : List Told) → noted_in ts ≡ [] → false ≡ has_some more
@@ -321,7 +315,7 @@ module _ {A : Type 0} (changes : A → State → A → State → Type 0) (x : Se
 
   -- the connection ends
   on-end : noted_in ts ≡ [] → (end : Ending) (n : ℕ) (out : List ℕ)
-      → NowBy c (next_of (channel_in x.server)) m piece (Some end) n out ch read (told_in hs) now0 now1
+      → NowBy (channel_in x.server) m piece (Some end) n out ch read (told_in hs) now0 now1
       → EndsOwing changes y end l c first (read ++ take n piece) out written (given ++ ts) (now1, app)
   on-end no_request ending.Closed n out s =
       let q = s.0.quiet in
@@ -342,11 +336,10 @@ module _ {A : Type 0} (changes : A → State → A → State → Type 0) (x : Se
           to = record {
             run = run;
             told_is = events-here closed.frames _ closed.told_is ∙ told-here q more;
-            written_is = ap (λ (w : List ℕ). written ++ w) s.1
-                ∙ (append-nil written
+            written_is = rw s.1 (append-nil written
                 ∙ sym (append-nil (output_over c s0 (behind q more)) ∙ (words ∙ (append-nil (output_over c s0 hs) ∙ (o.said_is ∙ append-nil written)))));
             requests_are = requests-here q more [] no_request refl;
-            state_is = ap (λ (d : Course). d.state) still ∙ sym s.2;
+            state_is = rw still (sym s.2);
             moments_are = (m ∷ [], moments_now, one-kept);
             asked = asked-here (read ++ take n piece) q more (Some m) moments_now
                 (over-left l c (read ++ take n piece) closed.frames [] Over (λ e. absurd cc) run);
@@ -362,7 +355,7 @@ module _ {A : Type 0} (changes : A → State → A → State → Type 0) (x : Se
       let moments_now = moments-here q [] (m ∷ []) refl in
       let left_over = refused-left n code.code refused.frames refused.rest refused.run in
       let words : output_over c s0 (behind q []) ++ last_words (Stopped code.code) ≡ written ++ out = ap (λ (w : List ℕ). w ++ last_words (Stopped code.code))
-      (said-quiet q) ∙ ap (λ (w : List ℕ). written ++ w) (sym s.1) in
+      (said-quiet q) ∙ rw (sym s.1) in
       let told_now = events-here refused.frames _ refused.told_is ∙ sym (quiet-here q) in
       record {
         count_is = o.count_is;
@@ -401,17 +394,16 @@ module _ {A : Type 0} (changes : A → State → A → State → Type 0) (x : Se
           };
           part = [];
           written_is = said-before q;
-          said_is = ap (λ (h : List ConnectionEvent). output_over c s0 h ++ last_words (Stopped code.code)) (append-nil (behind q [])) ∙ words;
+          said_is = rw (append-nil (behind q [])) words;
         };
-        asked = λ some_words. subst (λ (d : List Told). AreAsked l c (read ++ take n piece) d (moments_in (given ++ ts)))
-            (sym (append-nil (told_in (behind q [])))) (asked-here (read ++ take n piece) q [] (Some m) moments_now left_over);
+        asked = λ some_words. rw (append-nil (told_in (behind q []))) (asked-here (read ++ take n piece) q [] (Some m) moments_now left_over);
       }
   on-end no_request ending.NoClose n out s = absurd s
   on-end no_request ending.Cut n out s = absurd s
 
   -- what became of the first octets of the piece
   pub advanced-quiet : (request : Option AnsweredRequest) → noted_in ts ≡ [] → (end : Option Ending) (n : ℕ) (out : List ℕ)
-      → AdvanceNowBy false request c (next_of (channel_in x.server)) m piece end n out ch read (told_in hs) now0 now1
+      → AdvanceNowBy false request (channel_in x.server) m piece end n out ch read (told_in hs) now0 now1
       → AdvancesTo changes end y l c first (read ++ take n piece) out written (given ++ ts) (now1, app)
   advanced-quiet request no_request None n out t =
       on-silent n out t.goes.quiet t.goes.more no_request t.answered_is t.goes.stops
@@ -420,7 +412,7 @@ module _ {A : Type 0} (changes : A → State → A → State → Type 0) (x : Se
   advanced-quiet request no_request (Some end) n out t = on-end no_request end n out t.0
 
   pub advanced-saying : (request : Option AnsweredRequest) → noted_in ts ≡ listed request → (end : Option Ending) (n : ℕ) (out : List ℕ)
-      → AdvanceNowBy true request c (next_of (channel_in x.server)) m piece end n out ch read (told_in hs) now0 now1
+      → AdvanceNowBy true request (channel_in x.server) m piece end n out ch read (told_in hs) now0 now1
       → AdvancesTo changes end (noted y) l c first (read ++ take n piece) out written (given ++ ts) (now1, app)
   advanced-saying request telling None n out t =
       on-saying request n out t.goes.quiet t.goes.more telling t.answered_is t.goes.stops
@@ -446,7 +438,7 @@ module _ {A : Type 0} (changes : A → State → A → State → Type 0) (x : Se
     );
   }
 
-  pub advanced-broken : noted_in ts ≡ [] → (f : StepFault) → StepNow l c (next_of (channel_in x.server)) m piece (Err f) ch read (told_in hs) now0 now1
+  pub advanced-broken : noted_in ts ≡ [] → (f : StepFault) → StepNow (channel_in x.server) m piece (Err f) ch read (told_in hs) now0 now1
       → FailsTelling changes serve_fault.OutOfMemory l c first (read ++ piece) written (given ++ ts) (now1, app)
   advanced-broken no_request step_fault.Closed s = absurd s
   advanced-broken no_request step_fault.OutOfMemory (done, inl e) = broken-on no_request e
@@ -466,7 +458,7 @@ module _ {A : Type 0} (changes : A → State → A → State → Type 0) (x : Se
             last = record {
               front = read ++ take w.n piece;
               behind = drop w.n piece;
-              front_is = sym (append_assoc read (take w.n piece) (drop w.n piece) ∙ ap (λ (p : List ℕ). read ++ p) (take-append-drop w.n piece));
+              front_is = sym (append_assoc read (take w.n piece) (drop w.n piece) ∙ rw (take-append-drop w.n piece));
               before = behind q [];
               word = Answer t;
               moment = m;
@@ -476,10 +468,10 @@ module _ {A : Type 0} (changes : A → State → A → State → Type 0) (x : Se
               ends = record { frames = w.frames; frame = w.frame; run = w.run; told_is = w.told_is ∙ sym (quiet-here q); tells = w.tells; answered = refl };
               part = [];
               written_is = said-before q;
-              said_is = append-nil (output_over c s0 (behind q [] ++ heard_at m (t ∷ []))) ∙ (ap (λ (h : List ConnectionEvent). output_over c s0 h) (sym whole)
-                  ∙ said-here q (t ∷ []) reply (output-behind (channel_in x.server) read hs first.0 now0 m q (t ∷ []) o.stands));
+              said_is = append-nil (output_over c s0 (behind q [] ++ heard_at m (t ∷ [])))
+                  ∙ (rw (sym whole) (said-here q (t ∷ []) reply (output-behind (channel_in x.server) read hs first.0 now0 m q (t ∷ []) o.stands)));
             };
-            state_is = ap (λ (d : Course). d.state) (course-behind (channel_in x.server) read hs first.0 now0 m q (t ∷ []) o.stands) ∙ sym by.now_is;
+            state_is = rw (course-behind (channel_in x.server) read hs first.0 now0 m q (t ∷ []) o.stands) (sym by.now_is);
             moments_are = ([], moments-here q (t ∷ []) [] refl, omega arith);
           },
           inl (refl, requests-here q [] [] no_request refl),

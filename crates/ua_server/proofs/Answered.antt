@@ -33,7 +33,7 @@ use Rattle.ua_opening.specs.declared.header.ServiceFault.{ServiceFault}
 use Rattle.ua_variant.specs.Data.{VariantData, DataValueData}
 use Rattle.ua_variant.specs.View.{data_value_of, data_fields_of, value_within}
 use Rattle.ua_variant.specs.declared.values.DataValue.{DataValue}
-use Rattle.ua_server.specs.Attributes.{value_from, data_value_with}
+use Rattle.ua_server.specs.Attributes.{value_from}
 use Rattle.ua_server.specs.Endpoint.{description_of, IsEndpointEncodable}
 use Rattle.ua_server.specs.Sessions.{endpoints_for}
 use Rattle.ua_server.specs.Answer.{unless}
@@ -100,8 +100,8 @@ pub value_is : (d : DataValue) (x : DataValueData) → data_value_of d ≡ x →
 value_is d x h = by d.value refl ∙ ap value_from h
   where
     by : (v : Option VariantData) → d.value ≡ v → d ≡ value_from (value_within v (data_fields_of d))
-    by None e = ap (λ v. data_value_with v (data_fields_of d)) e
-    by (Some v) e = ap (λ v. data_value_with v (data_fields_of d)) e
+    by None e = rw e
+    by (Some v) e = rw e
 
 pub values_fit : (m : ReadResponse) → IsTrue (read_response.encodable m) → IsTrue (response.encodable (ReadMessage m))
 values_fit m h = response-encodable Read m ∙ h

@@ -14,7 +14,7 @@ use Rattle.ua_channel_laws.proofs.ServerReadsOnce.{goes_behind}
 use Rattle.ua_channel.specs.Agreement.{Agreement, agreement_of}
 use Rattle.ua_channel.specs.Received.{latest, received}
 use Rattle.ua_channel.specs.ServerPlaces.{agreements_in, agreed_by}
-use Rattle.ua_channel.specs.ServerStands.{limits_of, channel_of, next_of, bound_of, rules_of, bound_behind, bound_after, Goes}
+use Rattle.ua_channel.specs.ServerStands.{limits_of, channel_of, bound_of, rules_of, bound_behind, bound_after, Goes}
 use Rattle.ua_channel.specs.ServerTold.{Told, Asked}
 use Rattle.ua_channel.specs.declared.server.ServerChannel.{ServerChannel}
 use Rattle.ua_channel.specs.declared.server_event.ServerEvent.{ServerEvent}
@@ -61,8 +61,7 @@ same-bound : (old mid : ServerChannel) (octets : List ℕ) (told more : List Tol
     → flat_map agreements_in more ≡ []
     → bound_of mid ≡ bound_at (limits_of mid) (agreed_by (told ++ more)) → bound_of mid ≡ bound_of old
 same-bound old mid octets told more g limits none is =
-    is ∙ (ap (λ (l : Limits). bound_at l (agreed_by (told ++ more))) limits
-    ∙ (ap (bound_at (limits_of old)) (agreed-still told more none) ∙ sym (by-told old octets told g)))
+    is ∙ (rw limits (ap (bound_at (limits_of old)) (agreed-still told more none) ∙ sym (by-told old octets told g)))
 
 -- behind messages that were given up
 pub passed-bound : (old mid : ServerChannel) (piece : List ℕ) (taken : ℕ) (octets : List ℕ) (told : List Told) → Passed old mid piece taken
@@ -72,10 +71,10 @@ passed-bound old mid piece taken octets told p g =
     same-bound old mid octets told (given_up behind.0) g p.limits (none-agreed behind.0)
     (by-told mid (octets ++ take taken piece) (told ++ given_up behind.0) behind.1)
 
-module _ (old mid : ServerChannel) (moment : DateTime) (piece : List ℕ) (n : ℕ) (octets : List ℕ) (told : List Told) (g : Goes old octets told)
-    (limits : limits_of mid ≡ limits_of old) where
+module _ (old mid : ServerChannel) (moment : DateTime) (piece : List ℕ) (n : ℕ) (octets : List ℕ) (told : List Told)
+    (g : Goes old octets told) where
   -- behind a message
-  pub asked-bound : (id : ℕ) (message : List (List ℕ)) → AnswersBehind (channel_of old) (next_of old) moment piece n (Ok (event.Asked id message)) mid octets
+  pub asked-bound : (id : ℕ) (message : List (List ℕ)) → AnswersBehind old moment piece n (Ok (event.Asked id message)) mid octets
       told → bound_of mid ≡ bound_of old
   asked-bound id message b =
       let asks = b.answers.1.0 in
@@ -85,14 +84,14 @@ module _ (old mid : ServerChannel) (moment : DateTime) (piece : List ℕ) (n : �
       by-told mid (octets ++ take n piece) ((told ++ given_up b.quiet) ++ Asked id asks.token (concat message) ∷ [])
       (goes_behind mid (octets ++ take n piece) (told ++ given_up b.quiet) (Asked id asks.token (concat message)) asks.goes)
       ∙ (ap (bound_at (limits_of mid)) agreed
-      ∙ (ap (λ (l : Limits). bound_at l (agreed_by told)) limits ∙ sym (by-told old octets told g)))
+      ∙ (rw b.limits (sym (by-told old octets told g))))
 
   -- at a fault
   pub fault-bound : (f : ChannelFault) (r : Result ServerEvent ChannelFault) → r ≡ Err f → (IsErrOf r fault.OutOfMemory → bound_of mid ≡ bound_of old)
-      → AnswersBehind (channel_of old) (next_of old) moment piece n (Err f) mid octets told → bound_of mid ≡ bound_of old
+      → AnswersBehind old moment piece n (Err f) mid octets told → bound_of mid ≡ bound_of old
   fault-bound (fault.Refused code frame) r is starved b =
       let refused = b.answers.1 in
-      same-bound old mid octets told (given_up b.quiet) g limits (none-agreed b.quiet)
+      same-bound old mid octets told (given_up b.quiet) g b.limits (none-agreed b.quiet)
       (by-frames mid refused.frames (told ++ given_up b.quiet) refused.bound_is refused.told_is)
   fault-bound fault.OutOfMemory r is starved b = starved is
   fault-bound fault.Closed r is starved b = absurd b.answers

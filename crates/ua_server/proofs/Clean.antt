@@ -1,9 +1,7 @@
 -- No frame and no message is unfinished where nothing is counted and nothing held.
 use Rattle.std.specs.Prelude.{◌≡◌, ◌↔◌, ℕ, ◌+◌, IsTrue, nat_eq, List, [], ◌∷◌, length}
-use Rattle.std.specs.List.{sum_by}
 use Rattle.std.proofs.Common.{refl, sym, ◌∙◌, ap, arith}
 use Rattle.std.proofs.lemmas.Bool.{eq-eqb, eqb-true}
-use Rattle.ua_chunk.specs.Gathered.{joined, unfinished}
 use Rattle.ua_chunk.specs.Open.{open_ids, open_octets}
 use Rattle.ua_chunk.specs.declared.chunk.Chunk.{Chunk}
 
@@ -12,7 +10,7 @@ nothing-in [] e = refl
 nothing-in (x ∷ xs) e = absurd (omega (arith, e))
 
 none-held : (cs : List Chunk) → open_ids cs ≡ [] → open_octets cs ≡ 0
-none-held cs e = ap (λ (ids : List ℕ). sum_by (λ id. length (joined (unfinished id cs))) ids) e
+none-held cs e = rw e
 
 first-zero : (h l o : ℕ) → h ≡ l + o → h ≡ 0 → l ≡ 0
 first-zero h l o e z = omega (arith, e, z)

@@ -2,7 +2,7 @@
 -- which order.
 use Rattle.std.specs.Prelude.{◌≡◌, ◌⊎◌, ℕ, map, List, [], ◌∷◌, Option, Some, None, Result, Ok, Err}
 use Rattle.std.specs.Map.{keys_of}
-use Rattle.std.proofs.Common.{refl, ap, ◌∙◌, inl, inr}
+use Rattle.std.proofs.Common.{refl, inl, inr}
 use Rattle.ua_builtin.specs.Reasons.{first_reason}
 use Rattle.ua_builtin.specs.declared.date_time.DateTime.{DateTime}
 use Rattle.ua_builtin.specs.declared.node_id.NodeId.{NodeId}
@@ -30,7 +30,7 @@ Stays s t = (t.endpoint ≡ s.endpoint) × (keys_of t.nodes ≡ keys_of s.nodes)
 -- other nodes under the same NodeIds
 keys-mapped : (f : NodeId × Variable → Variable) (nodes : Nodes) → keys_of (map (λ node. (node.0, f node)) nodes) ≡ keys_of nodes
 keys-mapped f [] = refl
-keys-mapped f (node ∷ nodes) = ap (λ (ids : List NodeId). node.0 ∷ ids) (keys-mapped f nodes)
+keys-mapped f (node ∷ nodes) = rw (keys-mapped f nodes)
 
 keys-written : (items : List WriteValue) (moment : DateTime) (nodes : Nodes) → keys_of (after_write items moment nodes) ≡ keys_of nodes
 unfolding after_write
@@ -65,18 +65,18 @@ pub answered-stays : (s : State) (moment : DateTime) (octets : List ℕ) → (an
 answered-stays s moment octets = (all-stays s moment octets).0
 
 pub left_stays : (s now : State) (moment : DateTime) (octets : List ℕ) → now ≡ (answered s moment octets).0 → now.endpoint ≡ s.endpoint
-left_stays s now moment octets e = ap (λ (t : State). t.endpoint) e ∙ (all-stays s moment octets).0
+left_stays s now moment octets e = rw e ((all-stays s moment octets).0)
 
 pub broken_stays : (s now : State) (moment : DateTime) (octets : List ℕ) → (now ≡ s) ⊎ (now ≡ (answered s moment octets).0) → now.endpoint ≡ s.endpoint
-broken_stays s now moment octets (inl e) = ap (λ (t : State). t.endpoint) e
+broken_stays s now moment octets (inl e) = rw e
 broken_stays s now moment octets (inr e) = left_stays s now moment octets e
 
 -- the same of the NodeIds
 pub left_ids : (s now : State) (moment : DateTime) (octets : List ℕ) → now ≡ (answered s moment octets).0 → keys_of now.nodes ≡ keys_of s.nodes
-left_ids s now moment octets e = ap (λ (t : State). keys_of t.nodes) e ∙ (all-stays s moment octets).1
+left_ids s now moment octets e = rw e ((all-stays s moment octets).1)
 
 pub broken_ids : (s now : State) (moment : DateTime) (octets : List ℕ) → (now ≡ s) ⊎ (now ≡ (answered s moment octets).0) → keys_of now.nodes ≡ keys_of s.nodes
-broken_ids s now moment octets (inl e) = ap (λ (t : State). keys_of t.nodes) e
+broken_ids s now moment octets (inl e) = rw e
 broken_ids s now moment octets (inr e) = left_ids s now moment octets e
 
 -- the same of the limit
@@ -84,8 +84,8 @@ pub answered-limit : (s : State) (moment : DateTime) (octets : List ℕ) → (an
 answered-limit s moment octets = (all-stays s moment octets).2
 
 pub left_limit : (s now : State) (moment : DateTime) (octets : List ℕ) → now ≡ (answered s moment octets).0 → now.memory_limit ≡ s.memory_limit
-left_limit s now moment octets e = ap (λ (t : State). t.memory_limit) e ∙ answered-limit s moment octets
+left_limit s now moment octets e = rw e (answered-limit s moment octets)
 
 pub broken_limit : (s now : State) (moment : DateTime) (octets : List ℕ) → (now ≡ s) ⊎ (now ≡ (answered s moment octets).0) → now.memory_limit ≡ s.memory_limit
-broken_limit s now moment octets (inl e) = ap (λ (t : State). t.memory_limit) e
+broken_limit s now moment octets (inl e) = rw e
 broken_limit s now moment octets (inr e) = left_limit s now moment octets e

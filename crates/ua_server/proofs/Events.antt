@@ -4,14 +4,12 @@ use Rattle.std.proofs.Common.{sym, ◌∙◌, ap, subst}
 use Rattle.ua_builtin.specs.declared.status_code.StatusCode.{StatusCode}
 use Rattle.ua_builtin.specs.declared.date_time.DateTime.{DateTime}
 use Rattle.ua_chunk.specs.declared.lane.Lane.{Lane}
-use Rattle.ua_frame.specs.Run.{Rules, events}
-use Rattle.ua_frame.specs.declared.limits.Limits.{Limits}
+use Rattle.ua_frame.specs.Run.{Rules}
 use Rattle.ua_services.specs.Response.{response}
 use Rattle.ua_channel_laws.proofs.Replies.{reply_goes}
 use Rattle.ua_channel.specs.Agreement.{Agreement, lane_of}
 use Rattle.ua_channel.specs.Received.{received}
 use Rattle.ua_channel.specs.ServerPlaces.{agreed_by}
-use Rattle.ua_channel.specs.ServerRules.{server_rules}
 use Rattle.ua_channel.specs.ServerSends.{IsReply, RepliesGo}
 use Rattle.ua_channel.specs.ServerStands.{limits_of, channel_of, next_of, rules_of, GoesTelling, ChannelStands as Holds}
 use Rattle.ua_channel.specs.ServerTold.{Told, Asked}
@@ -28,7 +26,7 @@ use Rattle.ua_server.specs.Stepping.{IsReplyAt}
 -- ---- a channel that replied
 
 pub rules-same : (x y : ServerChannel) → limits_of y ≡ limits_of x → channel_of y ≡ channel_of x → rules_of y ≡ rules_of x
-rules-same x y limits channel = ap (λ (l : Limits). server_rules l (channel_of y)) limits ∙ ap (λ (n : ℕ). server_rules (limits_of x) n) channel
+rules-same x y limits channel = rw (limits, channel)
 
 -- it stands where it stood
 pub telling-on : (x y : ServerChannel) (octets : List ℕ) (before : List Told) (e : Told) (g : GoesTelling x octets before e) → limits_of y ≡ limits_of x
@@ -40,7 +38,7 @@ telling-on x y octets before e g limits channel stands =
       frames = g.frames;
       frame = g.frame;
       stands = stands;
-      told_is = ap (λ (R : Rules Told ℕ). events R g.frames) same ∙ g.told_is;
+      told_is = rw same g.told_is;
       tells = ap (λ (R : Rules Told ℕ). R.tells g.frames g.frame) same ∙ g.tells;
     }
 
@@ -75,6 +73,4 @@ noted-there x octets before id token message g lane s moment body request sent g
     let going : Lane → Option Lane = λ l. Some l in
     let agreed : Option Agreement → Option Lane = λ a. lane_at (channel_of x) token a in
     as_sent
-    ∙ (ap (λ (code : StatusCode). with-code request code) (is request.code)
-    ∙ (ap (λ (q : AnsweredRequest). with-code q (code_by (cut_refusal lane (response.canonical r)) q.code)) asked
-    ∙ ap at (ap going there.2 ∙ sym (ap agreed there.1))))
+    ∙ (rw (is request.code, asked) (ap at (ap going there.2 ∙ sym (ap agreed there.1))))

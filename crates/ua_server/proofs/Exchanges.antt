@@ -1,6 +1,5 @@
 -- Octets that a line moves and moments that are given, one after the other.
 use Rattle.std.specs.Prelude.{ℕ, List, [], ◌∷◌, ◌++◌, Option}
-use Rattle.std.proofs.Common.{sym, subst}
 use Rattle.ua_channel.specs.Line.{Traffic}
 use Rattle.ua_channel.proofs.Moving.{told-then}
 use Rattle.ua_server.specs.Happening.{Event, Leads}
@@ -8,7 +7,7 @@ use Rattle.ua_server.specs.ServingParts.{Exchanged}
 
 pub gives-then : {M : Type 0} (gives : M → Event → M → Type 0) (a b c : M) (ts us : List Event) → Leads gives a ts b → Leads gives b us c
     → Leads gives a (ts ++ us) c
-gives-then {M = M} gives a b c [] us g h = subst (λ (x : M). Leads gives x us c) (sym g) h
+gives-then {M = M} gives a b c [] us g h = rw g h
 gives-then gives a b c (t ∷ ts) us g h = (g.0, g.1, gives-then gives g.0 b c ts us g.2 h)
 
 pub exchanged-then : {M : Type 0} (gives : M → Event → M → Type 0) (a b c : M) (r r' : List ℕ) (x y z : Option Traffic) (P P' Q : List ℕ → List Event → Type 0)

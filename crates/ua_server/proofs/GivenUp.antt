@@ -1,5 +1,5 @@
 -- A reply that was given up is answered as the whole one is: by an abort.
-use Rattle.std.proofs.Common.{◌≡◌, inl, inr, ℕ, ◌<◌, ◌≤◌, List, length, Option, Some, None, refl, sym, ◌∙◌, ap, subst, arith}
+use Rattle.std.proofs.Common.{◌≡◌, inl, inr, ℕ, ◌<◌, ◌≤◌, List, length, Option, Some, None, refl, ◌∙◌, arith}
 use Rattle.ua_builtin.specs.declared.status_code.StatusCode.{StatusCode}
 use Rattle.ua_chunk.proofs.MostOctets.{most_is}
 use Rattle.ua_chunk.specs.Cutting.{cut_refusal, most_octets, IsAtMost}
@@ -25,7 +25,7 @@ not_both (Some most) n p w = absurd (omega (arith, p, w))
 
 -- what passes the limit is not cut
 refused : (lane : Lane) (most : Option ℕ) (b : List ℕ) → 0 < lane.room → most ≡ most_octets lane → Passes most (length b) → cut_refusal lane b ≡ None → ⊥
-refused lane most b room is p e = not_both most (length b) p (subst (λ (m : Option ℕ). IsAtMost (length b) m) (sym is) ((most_is lane b room).0 e))
+refused lane most b room is p e = not_both most (length b) p (rw is ((most_is lane b room).0 e))
 
 replied_same : (a b : Option CutFault) (lane : Lane) (body whole : List ℕ) (number id : ℕ) → (a ≡ None → ⊥) → (b ≡ None → ⊥)
     → replied_by a lane body number id ≡ replied_by b lane whole number id
@@ -41,15 +41,15 @@ code_same (Some f) (Some g) code h k = refl
 -- the reply is that of the whole body
 pub same_reply : (lane : Lane) (most : Option ℕ) (whole body : List ℕ) (number id : ℕ) (out : List ℕ) (next : ℕ) → (0 < lane.room) × (most ≡ most_octets lane)
     → IsBodyWithin most whole body → IsReply lane body number id out next → IsReply lane whole number id out next
-same_reply lane most whole body number id out next limit (inl e) reply = subst (λ (b : List ℕ). IsReply lane b number id out next) e reply
+same_reply lane most whole body number id out next limit (inl e) reply = rw (← e) reply
 same_reply lane most whole body number id out next limit (inr p) reply =
     let same = replied_same (cut_refusal lane body) (cut_refusal lane whole) lane body whole number id (refused lane most body limit.0 limit.1 p.0)
     (refused lane most whole limit.0 limit.1 p.1) in
-    (reply.0 ∙ ap (λ (r : List ℕ × ℕ). r.0) same, reply.1 ∙ ap (λ (r : List ℕ × ℕ). r.1) same)
+    (reply.0 ∙ rw same, reply.1 ∙ rw same)
 
 -- so is the code that is told of it
 pub same_code : (lane : Lane) (most : Option ℕ) (whole body : List ℕ) (code : StatusCode) → (0 < lane.room) × (most ≡ most_octets lane)
     → IsBodyWithin most whole body → code_by (cut_refusal lane body) code ≡ code_by (cut_refusal lane whole) code
-same_code lane most whole body code limit (inl e) = ap (λ (b : List ℕ). code_by (cut_refusal lane b) code) e
+same_code lane most whole body code limit (inl e) = rw e
 same_code lane most whole body code limit (inr p) =
     code_same (cut_refusal lane body) (cut_refusal lane whole) code (refused lane most body limit.0 limit.1 p.0) (refused lane most whole limit.0 limit.1 p.1)

@@ -9,11 +9,10 @@ use Rattle.ua_channel.specs.Line.{Traffic, IfTrafficKnown, HandsOut}
 use Rattle.ua_channel.specs.Received.{listed}
 use Rattle.ua_channel.specs.ServerRules.{server_rules}
 use Rattle.ua_channel.specs.ServerStands.{limits_of, channel_of, rules_of, ChannelStands as Holds}
-use Rattle.ua_channel.specs.ServerTold.{Told}
 use Rattle.ua_channel.specs.declared.line.LineFault.{LineFault}
 use Rattle.ua_channel.specs.declared.server.ServerChannel.{ServerChannel}
 use Rattle.ua_frame.proofs.Ends.{ends_stay}
-use Rattle.ua_frame.specs.Run.{Rules, Run, Going, events, End, Stopped, Over}
+use Rattle.ua_frame.specs.Run.{Going, End, Stopped, Over}
 use Rattle.ua_frame.specs.declared.frame.Frame.{Frame}
 use Rattle.ua_frame.specs.declared.limits.Limits.{Limits}
 use Rattle.ua_server.proofs.Acting.{moments-count}
@@ -22,10 +21,10 @@ use Rattle.ua_server.proofs.LeftOver.{asked-over, asked-by}
 use Rattle.ua_server.proofs.Passing.{fewer}
 use Rattle.ua_server.proofs.Turning.{listed-one}
 use Rattle.ua_server.specs.Happening.{Event, noted_in, Happens}
-use Rattle.ua_server.specs.History.{ConnectionEvent, course_over, output_over, told_in, moments_of}
+use Rattle.ua_server.specs.History.{ConnectionEvent, output_over, told_in, moments_of}
 use Rattle.ua_server.specs.Said.{start}
 use Rattle.ua_server.specs.Served.{channel_in}
-use Rattle.ua_server.specs.Serving.{moments_in, AreAsked, greatest, MovesTraffic, coming_now}
+use Rattle.ua_server.specs.Serving.{moments_in, greatest, MovesTraffic, coming_now}
 use Rattle.ua_server.specs.ServingOver.{ActsFirst, Acts, AllAnswered, FramesAnswered, ServesApplication, ServesOver, EndedOver, FailedOver}
 use Rattle.ua_server.specs.ServingParts.{OwesNothing, Exchanged, FailsTelling, Turns, TurnsTo, EndsTelling, Finishes, Handles, ReadsToEnd}
 use Rattle.ua_server.specs.State.{State}
@@ -38,7 +37,7 @@ use Rattle.ua_server.specs.declared.serve_fault.ServeFault.TheVariants as fault
 
 -- the same at other lists
 moved-to : (P : List ℕ → List ℕ → List Event → Type 0) (r r' w w' : List ℕ) (t t' : List Event) → r ≡ r' → w ≡ w' → t ≡ t' → P r w t → P r' w' t'
-moved-to P r r' w w' t t' a b c p = subst (λ (x : List ℕ). P x w' t') a (subst (λ (x : List ℕ). P r x t') b (subst (λ (x : List Event). P r w x) c p))
+moved-to P r r' w w' t t' a b c p = rw (← a, ← b, ← c) p
 
 -- ---- behind the end of a connection nothing counts
 
@@ -125,8 +124,8 @@ module _ {A : Type 0} (changes : A → State → A → State → Type 0) (limits
       back : (n : ℕ) → (there ++ take n (rest_of piece taken)) ++ drop n (rest_of piece taken) ≡ read ++ piece
       back n =
           append_assoc there (take n (rest_of piece taken)) (drop n (rest_of piece taken))
-          ∙ (ap (λ (p : List ℕ). there ++ p) (take-append-drop n (rest_of piece taken) ∙ rest-is piece taken)
-          ∙ (append_assoc read (take taken piece) (drop taken piece) ∙ ap (λ (p : List ℕ). read ++ p) (take-append-drop taken piece)))
+          ∙ (rw (take-append-drop n (rest_of piece taken) ∙ rest-is piece taken) (append_assoc read (take taken piece) (drop taken piece)
+          ∙ rw (take-append-drop taken piece)))
 
       -- the connection ends within the piece
       pub handled-end : (n : ℕ) (end : Option Ending) (e : Ending) → end ≡ Some e
@@ -161,12 +160,11 @@ module _ {A : Type 0} (changes : A → State → A → State → Type 0) (limits
           (λ more ts. FailsTelling changes f limits channel first (read ++ piece) (written ++ more) (given ++ ts) now') so_far t
           (λ w ts h. moved-to (λ r u o. FailsTelling changes f limits channel first r u o now') (there ++ rest_of piece taken) (read ++ piece)
           ((written ++ so_far.written) ++ w) (written ++ (so_far.written ++ w)) ((given ++ so_far.ticks) ++ ts) (given ++ (so_far.ticks ++ ts))
-          (ap (λ (p : List ℕ). there ++ p) (rest-is piece taken)
-          ∙ (append_assoc read (take taken piece) (drop taken piece) ∙ ap (λ (p : List ℕ). read ++ p) (take-append-drop taken piece)))
+          (rw (rest-is piece taken) (append_assoc read (take taken piece) (drop taken piece) ∙ rw (take-append-drop taken piece)))
           (append_assoc written so_far.written w) (append_assoc given so_far.ticks ts) h)
 
       all-of : taken ≤ length piece → length piece ≤ taken → take taken piece ≡ piece
-      all-of h k = let same : taken ≡ length piece = omega (arith, h, k) in ap (λ (n : ℕ). take n piece) same ∙ take-length piece
+      all-of h k = let same : taken ≡ length piece = omega (arith, h, k) in rw same (take-length piece)
 
       -- the whole piece is answered
       pub handled-all : taken ≤ length piece → length piece ≤ taken
@@ -176,14 +174,13 @@ module _ {A : Type 0} (changes : A → State → A → State → Type 0) (limits
         ticks = so_far.ticks;
         moved = so_far.moved;
         given = so_far.given;
-        holds = subst (λ (p : List ℕ). OwesNothing changes mid limits channel first (read ++ p) (written ++ so_far.written) (given ++ so_far.ticks) now)
-            (all-of h k) so_far.holds;
+        holds = rw (← all-of h k) so_far.holds;
       }
 
   -- ---- a line
 
   rules-at : (ch : ServerChannel) → limits_of ch ≡ limits → channel_of ch ≡ channel → rules_of ch ≡ server_rules limits channel
-  rules-at ch a b = ap (λ (l : Limits). server_rules l (channel_of ch)) a ∙ ap (λ (n : ℕ). server_rules limits n) b
+  rules-at ch a b = rw (a, b)
 
   -- all that was read is answered
   keeps-answered : (x : Serving) (read written : List ℕ) (given : List Event) (now : State × A)
@@ -193,14 +190,13 @@ module _ {A : Type 0} (changes : A → State → A → State → Type 0) (limits
       let g = k.stands.goes in
       let same = rules-at (channel_in x.server) k.limits_is k.channel_is in
       record {
-        run = subst (λ (R : Rules Told ℕ). Run R read g.frames g.rest Going) same g.stands.run;
-        told_is = ap (λ (R : Rules Told ℕ). events R g.frames) (sym same) ∙ g.told_is;
+        run = rw (← same) g.stands.run;
+        told_is = rw (sym same) g.told_is;
         written_is = sym (append-nil (output_over channel (start first.0 []) k.history) ∙ (k.said_is ∙ append-nil written));
         requests_are = k.requests_are;
-        state_is = ap (λ (n : ℕ). (course_over n (start first.0 []) k.history).state) (sym k.channel_is) ∙ k.stands.state_is;
+        state_is = rw (sym k.channel_is) k.stands.state_is;
         moments_are = (listed x.moment, k.moments_are, listed-one changes limits channel first x.moment);
-        asked = subst (λ (ms : List DateTime). AreAsked limits channel read (told_in k.history) ms) (sym k.moments_are)
-            (asked-by limits channel read (told_in k.history) (moments_of k.history) x.moment (moments-count k.history) k.kept_is);
+        asked = rw k.moments_are (asked-by limits channel read (told_in k.history) (moments_of k.history) x.moment (moments-count k.history) k.kept_is);
       }
 
   still-going : (x : Serving) (read written : List ℕ) (given : List Event) (now : State × A)
@@ -319,14 +315,13 @@ module _ {A : Type 0} (changes : A → State → A → State → Type 0) (limits
         → IfTrafficKnown (MovesTraffic [] []) a b
     not-handed f buffer (Some a) (Some b) h = (
       λ rest. ap (λ (t : Traffic). t.coming rest) (sym h),
-      ap (λ (t : Traffic). t.written) h
-          ∙ sym (append-nil a.written),
+      rw h (sym (append-nil a.written)),
     )
     not-handed f buffer (Some a) None h = h
     not-handed f buffer None b h = h
 
     ended : (n : ℕ) (buffer : List ℕ) (a b : Option Traffic) → IfTrafficKnown (HandsOut (Ok n) buffer) a b → n ≡ 0 → 0 < length buffer → coming_now b ≡ []
-    ended n buffer (Some a) (Some b) h zero room = sym (ap (λ (k : ℕ). take k buffer ++ b.coming []) zero) ∙ (sym (h.0 []) ∙ h.2 zero room)
+    ended n buffer (Some a) (Some b) h zero room = sym (rw zero) ∙ (sym (h.0 []) ∙ h.2 zero room)
     ended n buffer (Some a) None h zero room = refl
     ended n buffer None b h zero room = ap coming_now h
 
@@ -353,7 +348,7 @@ module _ {A : Type 0} (changes : A → State → A → State → Type 0) (limits
             record {
               unwritten = [];
               last = h.last;
-              state_is = ap (λ (n : ℕ). (course_over n (start first.0 []) h.history).state) (sym h.channel_is) ∙ h.stands.state_is;
+              state_is = rw (sym h.channel_is) h.stands.state_is;
               moments_are = (listed x.moment, h.moments_are, listed-one changes limits channel first x.moment);
             },
             inr (refl, h.requests_are),
@@ -367,8 +362,7 @@ module _ {A : Type 0} (changes : A → State → A → State → Type 0) (limits
     read-on la lb lc reads m x now n buffer s moved = record {
       written = s.exchanged.written;
       ticks = s.exchanged.ticks;
-      moved = subst (λ (w : List ℕ). IfTrafficKnown (MovesTraffic (s.read ++ take n buffer) w) la lc) (append-nil s.exchanged.written)
-          (told-then s.read s.exchanged.written (take n buffer) [] la lb lc s.exchanged.moved moved);
+      moved = rw (← append-nil s.exchanged.written) (told-then s.read s.exchanged.written (take n buffer) [] la lb lc s.exchanged.moved moved);
       given = s.exchanged.given;
       holds = s.exchanged.holds;
     }
@@ -421,10 +415,9 @@ module _ {A : Type 0} (changes : A → State → A → State → Type 0) (limits
           record {
             written = s.exchanged.written ++ f.written;
             ticks = s.exchanged.ticks ++ f.ticks;
-            moved = subst (λ (r : List ℕ). IfTrafficKnown (MovesTraffic r (s.exchanged.written ++ f.written)) la ld) (append-nil (s.read ++ take n buffer))
-                (subst (λ (w : List ℕ). IfTrafficKnown (MovesTraffic ((s.read ++ take n buffer) ++ []) (w ++ f.written)) la ld) (append-nil s.exchanged.written)
+            moved = rw (← append-nil (s.read ++ take n buffer), ← append-nil s.exchanged.written)
                 (told-then (s.read ++ take n buffer) (s.exchanged.written ++ []) [] f.written la lc ld
-                (told-then s.read s.exchanged.written (take n buffer) [] la lb lc s.exchanged.moved (handed n buffer lb lc h)) f.moved));
+                (told-then s.read s.exchanged.written (take n buffer) [] la lb lc s.exchanged.moved (handed n buffer lb lc h)) f.moved);
             given = gives-then step m0 m m' s.exchanged.ticks f.ticks s.exchanged.given f.given;
             holds = f.holds;
           }
@@ -439,7 +432,7 @@ module _ {A : Type 0} (changes : A → State → A → State → Type 0) (limits
       served-more some within f = record {
         read = s.read ++ take n buffer;
         enough = one-more (length s.read) (length (s.read ++ take n buffer)) reads n s.enough (length-append s.read (take n buffer)
-            ∙ ap (λ (k : ℕ). length s.read + k) (length-take-le n buffer within)) some;
+            ∙ rw (length-take-le n buffer within)) some;
         exchanged = handles-on (Ok None) f;
       }
 

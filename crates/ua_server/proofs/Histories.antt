@@ -8,7 +8,7 @@ use Rattle.ua_channel.specs.Agreement.{Agreement}
 use Rattle.ua_channel.specs.Received.{latest_behind}
 use Rattle.ua_channel.specs.ServerPlaces.{agreements_in, agreed_by}
 use Rattle.ua_frame.specs.Run.{Stopped}
-use Rattle.ua_channel.specs.ServerStands.{limits_of, channel_of, next_of, ClosedAt, Goes, RefusedAt}
+use Rattle.ua_channel.specs.ServerStands.{limits_of, channel_of, next_of, Goes}
 use Rattle.ua_channel.specs.ServerTold.{Told, Agreed, Opened, Asked, GaveUp, Closed}
 use Rattle.ua_channel.specs.declared.server.ServerChannel.{ServerChannel}
 use Rattle.ua_server.specs.History.{ConnectionEvent, Heard, Became, OverBy, StandsOver, StepOver, IsUndisturbed}
@@ -37,19 +37,19 @@ pub output_over-append : (channel : ℕ) (c : Course) (a b : List ConnectionEven
     ++ output_over channel (course_over channel c a) b
 output_over-append channel c [] b = refl
 output_over-append channel c (h ∷ a) b =
-    ap (λ (o : List ℕ). (event_answer channel c h).0 ++ o) (output_over-append channel (event_answer channel c h).1 a b)
-    ∙ sym (append_assoc (event_answer channel c h).0 (output_over channel (event_answer channel c h).1 a)
-    (output_over channel (course_over channel (event_answer channel c h).1 a) b))
+    rw (output_over-append channel (event_answer channel c h).1 a b)
+    (sym (append_assoc (event_answer channel c h).0 (output_over channel (event_answer channel c h).1 a)
+    (output_over channel (course_over channel (event_answer channel c h).1 a) b)))
 
 pub told-heard : (hs : List ConnectionEvent) (moment : DateTime) (told : List Told) → told_in (hs ++ heard_at moment told) ≡ told_in hs ++ told
 told-heard [] moment [] = refl
-told-heard [] moment (t ∷ told) = ap (λ (x : List Told). t ∷ x) (told-heard [] moment told)
-told-heard (Heard t m ∷ hs) moment told = ap (λ (x : List Told). t ∷ x) (told-heard hs moment told)
+told-heard [] moment (t ∷ told) = rw (told-heard [] moment told)
+told-heard (Heard t m ∷ hs) moment told = rw (told-heard hs moment told)
 told-heard (Became nodes made ∷ hs) moment told = told-heard hs moment told
 
 told-became : (hs : List ConnectionEvent) (nodes : Nodes) (made : ℕ) → told_in (hs ++ Became nodes made ∷ []) ≡ told_in hs
 told-became [] nodes made = refl
-told-became (Heard t m ∷ hs) nodes made = ap (λ (x : List Told). t ∷ x) (told-became hs nodes made)
+told-became (Heard t m ∷ hs) nodes made = rw (told-became hs nodes made)
 told-became (Became old before ∷ hs) nodes made = told-became hs nodes made
 
 -- ---- how far a server is that stands
@@ -83,9 +83,9 @@ pub history-became : (x : ServerChannel) (octets : List ℕ) (hs : List Connecti
 history-became x octets hs first now nodes made s =
     let behind = course_over-append (channel_of x) (start first []) hs (Became nodes made ∷ []) in
     record {
-      goes = subst (λ (t : List Told). Goes x octets t) (sym (told-became hs nodes made)) s.goes;
-      state_is = ap (λ (c : Course). c.state) behind ∙ ap (λ (n : State). with_changes n nodes made) s.state_is;
-      number_is = ap (λ (c : Course). c.number) behind ∙ s.number_is;
+      goes = rw (told-became hs nodes made) s.goes;
+      state_is = rw (behind, s.state_is);
+      number_is = rw behind s.number_is;
     }
 
 -- another connection, or the program, changed the state; this one has its own session
@@ -139,8 +139,7 @@ pub course-behind : (x : ServerChannel) (octets : List ℕ) (hs : List Connectio
     (course before (next_of x) [] (agreed_by (told_in hs))) (heard_at moment more)
 course-behind x octets hs first before moment ids more s =
     course_over-append (channel_of x) (start first []) hs (heard_at moment (given_up ids ++ more))
-    ∙ (ap (λ (c : Course). course_over (channel_of x) c (heard_at moment (given_up ids ++ more))) (course-after x octets hs first before s)
-    ∙ quiet-after (channel_of x) before (next_of x) (agreed_by (told_in hs)) moment ids more)
+    ∙ (rw (course-after x octets hs first before s) (quiet-after (channel_of x) before (next_of x) (agreed_by (told_in hs)) moment ids more))
 
 pub output-behind : (x : ServerChannel) (octets : List ℕ) (hs : List ConnectionEvent) (first before : State) (moment : DateTime) (ids : List ℕ)
     (more : List Told) → StandsOver x octets hs first before
@@ -149,8 +148,7 @@ pub output-behind : (x : ServerChannel) (octets : List ℕ) (hs : List Connectio
     (heard_at moment more)
 output-behind x octets hs first before moment ids more s =
     output_over-append (channel_of x) (start first []) hs (heard_at moment (given_up ids ++ more))
-    ∙ ap (λ (o : List ℕ). output_over (channel_of x) (start first []) hs ++ o)
-    (ap (λ (c : Course). output_over (channel_of x) c (heard_at moment (given_up ids ++ more))) (course-after x octets hs first before s)
+    ∙ rw (ap (λ (c : Course). output_over (channel_of x) c (heard_at moment (given_up ids ++ more))) (course-after x octets hs first before s)
     ∙ quiet-output (channel_of x) before (next_of x) (agreed_by (told_in hs)) moment ids more)
 
 pub told-behind : (hs : List ConnectionEvent) (moment : DateTime) (ids : List ℕ) (more : List Told)
@@ -164,53 +162,53 @@ Found new channel moment end octets out hs first before now =
     × OverBy end new channel octets out hs (heard_at moment told) first before now
 
 with-nothing : (a b c : List ℕ) → a ≡ b ++ [] → c ≡ [] → a ++ [] ≡ b ++ c
-with-nothing a b c e n = append-nil a ∙ (e ∙ ap (λ (o : List ℕ). b ++ o) (sym n))
+with-nothing a b c e n = append-nil a ∙ (e ∙ rw (sym n))
 
 with-words : (a b c w : List ℕ) → a ≡ b ++ [] → c ≡ w → a ++ w ≡ b ++ c
-with-words a b c w e n = ap (λ (o : List ℕ). o ++ w) (e ∙ append-nil b) ∙ ap (λ (o : List ℕ). b ++ o) (sym n)
+with-words a b c w e n = rw (e ∙ append-nil b, sym n)
 
 module _ (old new : ServerChannel) (moment : DateTime) (piece octets : List ℕ) (hs : List ConnectionEvent) (first before now : State)
     (s : StandsOver old octets hs first before) (same : channel_of new ≡ channel_of old) where
   -- it goes on: the state that all events leave, where it stands behind them, and what is sent over them
-  pub goes-state : (n : ℕ) (out : List ℕ) (g : NowGoes (channel_of old) (next_of old) moment piece n out new octets (told_in hs) before now)
+  pub goes-state : (n : ℕ) (out : List ℕ) (g : NowGoes old moment piece n out new octets (told_in hs) before now)
       → (course_over (channel_of old) (start first []) (hs ++ heard_at moment (given_up g.quiet ++ g.more))).state ≡ now
   goes-state n out g =
-      ap (λ (c : Course). c.state) (course-behind old octets hs first before moment g.quiet g.more s)
-      ∙ (one-state (channel_of old) before (next_of old) (agreed_by (told_in hs)) moment new octets piece n out (told_in hs ++ given_up g.quiet) g.more g.stops
+      rw (course-behind old octets hs first before moment g.quiet g.more s)
+      (one-state (channel_of old) before (next_of old) (agreed_by (told_in hs)) moment new octets piece n out (told_in hs ++ given_up g.quiet) g.more
+      g.stops
       ∙ sym g.state_is)
 
-  pub goes-stands : (n : ℕ) (out : List ℕ) (g : NowGoes (channel_of old) (next_of old) moment piece n out new octets (told_in hs) before now)
+  pub goes-stands : (n : ℕ) (out : List ℕ) (g : NowGoes old moment piece n out new octets (told_in hs) before now)
       → StandsOver new (octets ++ take n piece) (hs ++ heard_at moment (given_up g.quiet ++ g.more)) first now
   goes-stands n out g =
       let told = given_up g.quiet ++ g.more in
       record {
-        goes = subst (λ (t : List Told). Goes new (octets ++ take n piece) t) (told-behind hs moment g.quiet g.more) g.goes;
-        state_is = ap (λ (k : ℕ). (course_over k (start first []) (hs ++ heard_at moment told)).state) same ∙ goes-state n out g;
-        number_is = ap (λ (k : ℕ). (course_over k (start first []) (hs ++ heard_at moment told)).number) same
-            ∙ (ap (λ (c : Course). c.number) (course-behind old octets hs first before moment g.quiet g.more s)
-            ∙ (one-number (channel_of old) before (next_of old) (agreed_by (told_in hs)) moment new octets piece n out (told_in hs ++ given_up g.quiet) g.more
-            g.stops ∙ sym g.number_is));
+        goes = rw (← told-behind hs moment g.quiet g.more) g.goes;
+        state_is = rw same (goes-state n out g);
+        number_is = rw (same, course-behind old octets hs first before moment g.quiet g.more s)
+            (one-number (channel_of old) before (next_of old) (agreed_by (told_in hs)) moment new octets piece n out (told_in hs ++ given_up g.quiet) g.more
+            g.stops ∙ sym g.number_is);
       }
 
-  pub goes-output : (n : ℕ) (out : List ℕ) (g : NowGoes (channel_of old) (next_of old) moment piece n out new octets (told_in hs) before now)
+  pub goes-output : (n : ℕ) (out : List ℕ) (g : NowGoes old moment piece n out new octets (told_in hs) before now)
       → output_over (channel_of old) (start first []) (hs ++ heard_at moment (given_up g.quiet ++ g.more)) ≡ output_over (channel_of old) (start first []) hs
       ++ out
   goes-output n out g =
       output-behind old octets hs first before moment g.quiet g.more s
-      ∙ ap (λ (o : List ℕ). output_over (channel_of old) (start first []) hs ++ o)
-      (one-output (channel_of old) before (next_of old) (agreed_by (told_in hs)) moment new octets piece n out (told_in hs ++ given_up g.quiet) g.more g.stops
+      ∙ rw (one-output (channel_of old) before (next_of old) (agreed_by (told_in hs)) moment new octets piece n out (told_in hs ++ given_up g.quiet) g.more
+      g.stops
       ∙ sym g.out_is)
 
-  ended : (end : Option Ending) (n : ℕ) (out : List ℕ) → NowBy (channel_of old) (next_of old) moment piece end n out new octets (told_in hs) before now
+  ended : (end : Option Ending) (n : ℕ) (out : List ℕ) → NowBy old moment piece end n out new octets (told_in hs) before now
       → Found new (channel_of old) moment end (octets ++ take n piece) out hs first before now
   ended None n out g = (given_up g.quiet ++ g.more, goes-state n out g, (goes-stands n out g, goes-output n out g))
   ended (Some ending.Closed) n out g =
       let ids = g.0.quiet in
       let more = Closed ∷ [] in (
         given_up ids ++ more,
-        ap (λ (c : Course). c.state) (course-behind old octets hs first before moment ids more s) ∙ sym g.2,
+        rw (course-behind old octets hs first before moment ids more s) (sym g.2),
         (
-          subst (λ (t : List Told). ClosedAt new (octets ++ take n piece) t) (told-behind hs moment ids more) g.0.closed,
+          rw (← told-behind hs moment ids more) g.0.closed,
           g.2,
           with-nothing (output_over (channel_of old) (start first []) (hs ++ heard_at moment (given_up ids ++ more)))
               (output_over (channel_of old) (start first []) hs) out
@@ -220,9 +218,9 @@ module _ (old new : ServerChannel) (moment : DateTime) (piece octets : List ℕ)
   ended (Some (ending.Refused code)) n out g =
       let ids = g.0.quiet in (
         given_up ids ++ [],
-        ap (λ (c : Course). c.state) (course-behind old octets hs first before moment ids [] s) ∙ sym g.2,
+        rw (course-behind old octets hs first before moment ids [] s) (sym g.2),
         (
-          subst (λ (t : List Told). RefusedAt new (octets ++ take n piece) t code.code) (sym (append-nil (told_in hs ++ given_up ids))
+          rw (← sym (append-nil (told_in hs ++ given_up ids))
               ∙ told-behind hs moment ids []) g.0.refused,
           g.2,
           with-words (output_over (channel_of old) (start first []) (hs ++ heard_at moment (given_up ids ++ [])))
@@ -237,17 +235,16 @@ module _ (old new : ServerChannel) (moment : DateTime) (piece octets : List ℕ)
       → StepOver (limits_of old) (channel_of old) moment piece (Err step_fault.OutOfMemory) new octets hs first before now
   starved (done, inl stays) = record {
     told = [];
-    left_is = ap (λ (c : Course). c.state) (course-behind old octets hs first before moment [] [] s) ∙ sym stays;
+    left_is = rw (course-behind old octets hs first before moment [] [] s) (sym stays);
     comes_to = (done, inl refl);
   }
   starved (done, inr m) = record {
     told = given_up m.ends.quiet ++ Asked m.ends.id m.ends.token m.message ∷ [];
-    left_is = ap (λ (c : Course). c.state) (course-behind old octets hs first before moment m.ends.quiet (Asked m.ends.id m.ends.token m.message ∷ []) s)
-        ∙ sym m.now_is;
+    left_is = rw (course-behind old octets hs first before moment m.ends.quiet (Asked m.ends.id m.ends.token m.message ∷ []) s) (sym m.now_is);
     comes_to = (done, inr (m.message, m.ends, refl));
   }
 
-  by-result : (result : Result Step StepFault) → StepNow (limits_of old) (channel_of old) (next_of old) moment piece result new octets (told_in hs) before now
+  by-result : (result : Result Step StepFault) → StepNow old moment piece result new octets (told_in hs) before now
       → StepOver (limits_of old) (channel_of old) moment piece result new octets hs first before now
   by-result (Ok step) g = let f = ended step.end step.taken step.out.items g in record { told = f.0; left_is = f.1; comes_to = f.2 }
   by-result (Err step_fault.OutOfMemory) g = starved g
@@ -256,7 +253,7 @@ module _ (old new : ServerChannel) (moment : DateTime) (piece octets : List ℕ)
 pub step_over : (old new : ServerChannel) (moment : DateTime) (piece octets : List ℕ) (hs : List ConnectionEvent) (first before now : State)
     (result : Result Step StepFault)
     → StandsOver old octets hs first before → channel_of new ≡ channel_of old
-    → StepNow (limits_of old) (channel_of old) (next_of old) moment piece result new octets (told_in hs) before now
+    → StepNow old moment piece result new octets (told_in hs) before now
     → StepOver (limits_of old) (channel_of old) moment piece result new octets hs first before now
 step_over old new moment piece octets hs first before now result s same g = by-result old new moment piece octets hs first before now s same result g
 
@@ -279,15 +276,14 @@ same-left channel s n a (Became nodes made ∷ hs) u = absurd u
 pub same-said : (channel : ℕ) (s : State) (n : ℕ) (a : Option Agreement) (hs : List ConnectionEvent) → IsUndisturbed hs
     → output_over channel (course s n [] a) hs ≡ said_of channel (course s n (moments_of hs) a) (told_in hs)
 same-said channel s n a [] u = refl
-same-said channel s n a (Heard (Agreed g) m ∷ hs) u = ap (λ (o : List ℕ). (say channel (course s n (moments_of hs) a) (Agreed g)).0 ++ o)
-    (same-said channel s n (Some g) hs u)
+same-said channel s n a (Heard (Agreed g) m ∷ hs) u = rw (same-said channel s n (Some g) hs u)
 same-said channel s n a (Heard (Opened id handle token lifetime) m ∷ hs) u =
     let c = (say channel (course s n (m ∷ moments_of hs) a) (Opened id handle token lifetime)).1 in
     ap (λ (o : List ℕ). (say channel (course s n (m ∷ moments_of hs) a) (Opened id handle token lifetime)).0 ++ o)
     (same-said channel c.state c.number c.agreement hs u)
 same-said channel s n a (Heard (Asked id token octets) m ∷ hs) u =
     let c = (say channel (course s n (m ∷ moments_of hs) a) (Asked id token octets)).1 in
-    ap (λ (o : List ℕ). (say channel (course s n (m ∷ moments_of hs) a) (Asked id token octets)).0 ++ o) (same-said channel c.state c.number c.agreement hs u)
+    rw (same-said channel c.state c.number c.agreement hs u)
 same-said channel s n a (Heard (GaveUp id) m ∷ hs) u = same-said channel s n a hs u
 same-said channel s n a (Heard Closed m ∷ hs) u = same-said channel s n a hs u
 same-said channel s n a (Became nodes made ∷ hs) u = absurd u
@@ -309,8 +305,8 @@ stands-alone x octets hs first now s u =
     let same = same-left (channel_of x) first 1 None hs u in
     record {
       goes = s.goes;
-      state_is = sym (ap (λ (c : Course). c.state) same) ∙ s.state_is;
-      number_is = sym (ap (λ (c : Course). c.number) same) ∙ s.number_is;
+      state_is = sym (rw same) ∙ s.state_is;
+      number_is = sym (rw same) ∙ s.number_is;
       used = all-used hs u;
     }
 

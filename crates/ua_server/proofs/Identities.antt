@@ -1,5 +1,5 @@
 -- Who one is, in the object that carries it.
-use Rattle.std.specs.Prelude.{◌≡◌, ℕ, List, Bool, true, false, not, ◌&&◌, nat_eq, is_none, Option, Some, None}
+use Rattle.std.specs.Prelude.{◌≡◌, ℕ, List, Bool, true, false, ◌&&◌, nat_eq, Option, Some, None}
 use Rattle.std.proofs.Common.{refl, sym, ◌∙◌, ap}
 use Rattle.std.proofs.lemmas.Bool.{eqb-true}
 use Rattle.ua_builtin.specs.NodeId.{node}
@@ -19,8 +19,7 @@ use Rattle.ua_opening.proofs.BodyRead.{body_found, body_is}
 use Rattle.ua_server.specs.Sessions.{is_token, is_anonymous_by, is_anonymous_token}
 
 token_found : (token : AnonymousIdentityToken) (octets : List ℕ) → IsBody anonymous_identity_token token octets → is_token (Some octets) ≡ true
-token_found token octets h = ap (λ (o : Option AnonymousIdentityToken). not (is_none o))
-    (body_found anonymous_identity_token lawful_anonymous_identity_token octets token h)
+token_found token octets h = rw (body_found anonymous_identity_token lawful_anonymous_identity_token octets token h)
 
 pub carried : (object : ExtensionObject) (token : AnonymousIdentityToken) → CarriesToken object token → true ≡ is_anonymous_token object
 carried object token h = sym (ap is_anonymous_token h.1 ∙ token_found token h.0 h.2)
@@ -42,11 +41,11 @@ and_false false = refl
 
 no_token : (id : NodeId) (octets : List ℕ) (o : Option AnonymousIdentityToken) → body_of anonymous_identity_token octets ≡ o → id ≡ standard 321
     → CarriesNone (record { type_id = id; body = ByteString (Some octets) }) → is_token (Some octets) ≡ false
-no_token id octets None e same none = ap (λ (o : Option AnonymousIdentityToken). not (is_none o)) e
+no_token id octets None e same none = rw e
 no_token id octets (Some token) e same none =
     absurd (none token (
       octets,
-      ap (λ (i : NodeId). record { type_id = i; body = ByteString (Some octets) }) same,
+      rw same,
       body_is anonymous_identity_token lawful_anonymous_identity_token octets token e,
     ))
 

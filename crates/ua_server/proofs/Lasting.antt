@@ -1,21 +1,18 @@
 -- What is said over events and not written yet, beside an application.
-use Rattle.std.proofs.Common.{refl, sym, ◌∙◌, ap, inl, append_assoc, subst, append-nil}
-use Rattle.std.specs.Prelude.{◌≡◌, List, [], ◌∷◌, true, false, Option, ℕ, ◌++◌, pos}
-use Rattle.ua_builtin.specs.declared.date_time.DateTime.{DateTime}
+use Rattle.std.proofs.Common.{refl, sym, ◌∙◌, ap, inl, append_assoc, append-nil}
+use Rattle.std.specs.Prelude.{◌≡◌, List, [], ◌∷◌, true, false, ℕ, ◌++◌, pos}
 use Rattle.ua_channel.specs.Received.{listed}
-use Rattle.ua_channel.specs.ServerPlaces.{agreed_by}
-use Rattle.ua_channel.specs.ServerTold.{Told}
 use Rattle.ua_frame.specs.declared.limits.Limits.{Limits}
 use Rattle.ua_server.proofs.Acting.{acted-behind, acting-append, acts-became, moments_of-append, requests_over-append, silent-append, told_in-append}
 use Rattle.ua_server.proofs.Histories.{history-became, output_over-append}
 use Rattle.ua_server.proofs.LeftOver.{no-words}
 use Rattle.ua_server.specs.Happening.{Event}
-use Rattle.ua_server.specs.History.{ConnectionEvent, Became, StandsOver, course_over, heard_at, output_over, told_in, moments_of}
+use Rattle.ua_server.specs.History.{ConnectionEvent, Became, course_over, heard_at, output_over, told_in, moments_of}
 use Rattle.ua_server.specs.Said.{start}
 use Rattle.ua_server.specs.Served.{channel_in}
 use Rattle.ua_server.specs.Serving.{Nothing, told_at}
 use Rattle.ua_server.specs.ServingOver.{IsSilent, LastSaid, has_acted, requests_over}
-use Rattle.ua_server.specs.ServingParts.{BeginsServing, OwesNothing, IsTimeKept, is_there}
+use Rattle.ua_server.specs.ServingParts.{BeginsServing, OwesNothing}
 use Rattle.ua_server.specs.State.{State, with_nodes}
 use Rattle.ua_server.specs.declared.serving.Serving.{Serving}
 
@@ -26,14 +23,13 @@ module _ (limits : Limits) (channel : ℕ) (first : State) where
   last-on read more out written hs later quiet p = record {
     front = p.front;
     behind = p.behind ++ more;
-    front_is = ap (λ (x : List ℕ). x ++ more) p.front_is ∙ append_assoc p.front p.behind more;
+    front_is = rw p.front_is (append_assoc p.front p.behind more);
     before = p.before;
     word = p.word;
     moment = p.moment;
     later = p.later ++ later;
-    history_is = ap (λ (h : List ConnectionEvent). h ++ later) p.history_is
-        ∙ (append_assoc p.before (heard_at p.moment (told_at p.word) ++ p.later) later
-        ∙ ap (λ (h : List ConnectionEvent). p.before ++ h) (append_assoc (heard_at p.moment (told_at p.word)) p.later later));
+    history_is = rw p.history_is (append_assoc p.before (heard_at p.moment (told_at p.word) ++ p.later) later
+        ∙ rw (append_assoc (heard_at p.moment (told_at p.word)) p.later later));
     silent = silent-append p.later later p.silent quiet;
     ends = p.ends;
     part = p.part;
@@ -44,8 +40,7 @@ module _ (limits : Limits) (channel : ℕ) (first : State) where
   -- more octets are read
   pub last-read : (read more out written : List ℕ) (hs : List ConnectionEvent) → LastSaid limits channel first read out written hs
       → LastSaid limits channel first (read ++ more) out written hs
-  last-read read more out written hs p = subst (λ (h : List ConnectionEvent). LastSaid limits channel first (read ++ more) out written h) (append-nil hs)
-      (last-on read more out written hs [] tt p)
+  last-read read more out written hs p = rw (← append-nil hs) (last-on read more out written hs [] tt p)
 
   -- more octets are written
   abbrev pub last-written : (read out written : List ℕ) (hs : List ConnectionEvent) (done unwritten : List ℕ) → out ≡ done ++ unwritten
@@ -62,8 +57,8 @@ module _ (limits : Limits) (channel : ℕ) (first : State) where
     silent = p.silent;
     ends = p.ends;
     part = p.part ++ done;
-    written_is = ap (λ (w : List ℕ). w ++ done) p.written_is ∙ append_assoc (output_over channel (start first []) p.before) p.part done;
-    said_is = p.said_is ∙ (ap (λ (o : List ℕ). written ++ o) e ∙ sym (append_assoc written done unwritten));
+    written_is = rw p.written_is (append_assoc (output_over channel (start first []) p.before) p.part done);
+    said_is = p.said_is ∙ (rw e (sym (append_assoc written done unwritten)));
   }
 
 module _ {A : Type 0} (changes : A → State → A → State → Type 0) where
@@ -78,7 +73,7 @@ module _ {A : Type 0} (changes : A → State → A → State → Type 0) where
     acts_first = tt;
     moments_are = sym (ap listed b.none_kept);
     stands = b.stands first.0;
-    kept_is = subst (λ (m : Option DateTime). IsTimeKept limits channel [] m) (sym b.none_kept) (inl refl);
+    kept_is = rw b.none_kept (inl refl);
     greeted_is = b.not_greeted;
     count_is = b.none_written;
     said_is = refl;
@@ -109,7 +104,7 @@ module _ {A : Type 0} (changes : A → State → A → State → Type 0) where
     told-same = told_in-append k.history (Became after.nodes before.made ∷ []) ∙ append-nil (told_in k.history)
 
     state-there : (course_over channel (start first.0 []) k.history).state ≡ before
-    state-there = ap (λ (n : ℕ). (course_over n (start first.0 []) k.history).state) (sym k.channel_is) ∙ k.stands.state_is
+    state-there = rw (sym k.channel_is) k.stands.state_is
 
     pub acted : (j : OwesNothing changes x limits channel first read written ticks (after, b)) × (has_acted false j.history ≡ true)
     acted = (
@@ -120,19 +115,16 @@ module _ {A : Type 0} (changes : A → State → A → State → Type 0) where
         acted = acts-became changes channel (start first.0 []) first.1 a b k.history before after k.acted state-there did alone;
         acts_first = acting-append false k.history (Became after.nodes before.made ∷ []) k.acts_first tt;
         moments_are = k.moments_are
-            ∙ ap (λ (ms : List DateTime). ms ++ listed x.moment)
-            (sym (moments_of-append k.history (Became after.nodes before.made ∷ []) ∙ append-nil (moments_of k.history)));
-        stands = subst (λ (s : State). StandsOver (channel_in x.server) read (k.history ++ Became after.nodes before.made ∷ []) first.0 s) (sym alone)
-            (history-became (channel_in x.server) read k.history first.0 before after.nodes before.made k.stands);
+            ∙ rw (sym (moments_of-append k.history (Became after.nodes before.made ∷ []) ∙ append-nil (moments_of k.history)));
+        stands = rw alone (history-became (channel_in x.server) read k.history first.0 before after.nodes before.made k.stands);
         kept_is = k.kept_is;
-        greeted_is = k.greeted_is ∙ ap (λ (t : List Told). is_there (agreed_by t)) (sym told-same);
+        greeted_is = k.greeted_is ∙ rw (sym told-same);
         count_is = k.count_is;
         said_is = output_over-append channel (start first.0 []) k.history (Became after.nodes before.made ∷ [])
             ∙ (append-nil (output_over channel (start first.0 []) k.history) ∙ k.said_is);
         requests_are = k.requests_are ∙ sym (requests_over-append channel (start first.0 []) k.history (Became after.nodes before.made ∷ [])
             ∙ append-nil (requests_over channel (start first.0 []) k.history));
-        last = subst (λ (r : List ℕ). LastSaid limits channel first.0 r [] written (k.history ++ Became after.nodes before.made ∷ [])) (append-nil read)
-            (last-on limits channel first.0 read [] [] written k.history (Became after.nodes before.made ∷ []) tt k.last);
+        last = rw (← append-nil read) (last-on limits channel first.0 read [] [] written k.history (Became after.nodes before.made ∷ []) tt k.last);
         asked = λ some. absurd (no-words [] refl some);
       },
       acted-behind false k.history after.nodes before.made,

@@ -1,6 +1,6 @@
 -- Behind which octets a moment is left over that was asked for.
 use Rattle.std.specs.Prelude.{◌≡◌, ◌⊎◌, ℕ, ◌+◌, ◌<◌, ◌≤◌, Bool, true, false, IsTrue, List, [], ◌∷◌, ◌++◌, cond, length, Option, None, Some}
-use Rattle.std.proofs.Common.{refl, sym, ◌∙◌, ap, subst, inl, inr, append-nil, length-append, arith}
+use Rattle.std.proofs.Common.{refl, sym, ◌∙◌, ap, inl, inr, append-nil, length-append, arith}
 use Rattle.ua_builtin.specs.declared.date_time.DateTime.{DateTime}
 use Rattle.ua_frame.proofs.Ends.{ends_stay}
 use Rattle.ua_frame.proofs.Streams.{events-push, run_nil}
@@ -44,7 +44,7 @@ front_or_whole {A = A} (x ∷ first) later (y ∷ most) last e = on (front_or_wh
 
     on : (later ≡ []) ⊎ ((more : List A) × (most ≡ first ++ more)) → (later ≡ []) ⊎ ((more : List A) × (y ∷ most ≡ (x ∷ first) ++ more))
     on (inl none) = inl none
-    on (inr (more, is)) = inr (more, ap (λ (z : A). z ∷ most) (heads e) ∙ ap (λ (l : List A). x ∷ l) is)
+    on (inr (more, is)) = inr (more, rw (heads e, is))
 
 no-item : {A : Type 0} (most : List A) (last : A) → [] ≡ most ++ last ∷ [] → ⊥
 no-item most last e = omega (arith, ap length e, length-append most (last ∷ []))
@@ -59,7 +59,7 @@ module _ (limits : Limits) (channel : ℕ) where
       → (frames ≡ []) × (end ≡ Going)
   unfolding received closings
   no-octets octets frames rest end run none =
-      let same = unique rules [] frames [] rest [] end Going (subst (λ (o : List ℕ). Run rules o frames rest end) none run) (run_nil rules refl) in
+      let same = unique rules [] frames [] rest [] end Going (rw (← none) run) (run_nil rules refl) in
       (same.frames, same.ends)
 
   -- where the connection ended one is left over
@@ -96,19 +96,17 @@ module _ (limits : Limits) (channel : ℕ) where
       all = (unique rules (read ++ piece) after (u.frames ++ u.frame ∷ []) left [] Going Going later u.run).frames
 
       last : used_in (events rules after) ≡ used_in (events rules u.frames) + 1
-      last = ap (λ (fs : List Frame). used_in (events rules fs)) all
-          ∙ (ap used_in (events-push rules u.frames u.frame)
-          ∙ (used_in-append (events rules u.frames) (rules.tells u.frames u.frame) ∙ ap (λ (n : ℕ). used_in (events rules u.frames) + n) u.uses_one))
+      last = rw all (ap used_in (events-push rules u.frames u.frame)
+          ∙ (used_in-append (events rules u.frames) (rules.tells u.frames u.frame) ∙ rw u.uses_one))
 
       by : (front.0 ≡ []) ⊎ ((more : List Frame) × (u.frames ≡ before ++ more)) → ⊥
       by (inl none) =
-          let same_frames : u.frames ++ u.frame ∷ [] ≡ before = front.1 ∙ (ap (λ (m : List Frame). before ++ m) none ∙ append-nil before) in
-          no-piece read piece (frames_octets before) rest some run.whole (u.run.whole ∙ ap (λ (fs : List Frame). frames_octets fs ++ []) same_frames)
+          let same_frames : u.frames ++ u.frame ∷ [] ≡ before = front.1 ∙ (rw none (append-nil before)) in
+          no-piece read piece (frames_octets before) rest some run.whole (u.run.whole ∙ rw same_frames)
       by (inr (more, is)) =
           not-more (used_in (events rules before)) (used_in (events rules u.frames)) (used_in (each_from rules.tells before more))
           (used_in (events rules after)) same last
-          (ap (λ (fs : List Frame). used_in (events rules fs)) is
-          ∙ (ap used_in (events_on rules before more) ∙ used_in-append (events rules before) (each_from rules.tells before more)))
+          (rw is (ap used_in (events_on rules before more) ∙ used_in-append (events rules before) (each_from rules.tells before more)))
 
   -- behind a frame that uses none one is left over
   unused-left : (octets : List ℕ) (frames : List Frame) (frame : Frame) → Run rules octets (frames ++ frame ∷ []) [] Going
@@ -118,10 +116,10 @@ module _ (limits : Limits) (channel : ℕ) where
       let same = (unique rules octets (frames ++ frame ∷ []) (u.frames ++ u.frame ∷ []) [] [] Going Going run u.run).frames in
       let count : used_in (events rules (frames ++ frame ∷ [])) ≡ used_in (events rules frames) + 0 =
       ap used_in (events-push rules frames frame)
-      ∙ (used_in-append (events rules frames) (rules.tells frames frame) ∙ ap (λ (n : ℕ). used_in (events rules frames) + n) none) in
+      ∙ (used_in-append (events rules frames) (rules.tells frames frame) ∙ rw none) in
       let other : used_in (events rules (u.frames ++ u.frame ∷ [])) ≡ used_in (events rules u.frames) + 1 =
       ap used_in (events-push rules u.frames u.frame)
-      ∙ (used_in-append (events rules u.frames) (rules.tells u.frames u.frame) ∙ ap (λ (n : ℕ). used_in (events rules u.frames) + n) u.uses_one) in
+      ∙ (used_in-append (events rules u.frames) (rules.tells u.frames u.frame) ∙ rw u.uses_one) in
       by-front (front_or_whole frames (frame ∷ []) u.frames u.frame (sym same)) count other same
     where
       by-front : (frame ∷ [] ≡ []) ⊎ ((more : List Frame) × (u.frames ≡ frames ++ more))
@@ -133,7 +131,7 @@ module _ (limits : Limits) (channel : ℕ) where
           ap (λ (fs : List Frame). used_in (events rules fs)) is
           ∙ (ap used_in (events_on rules frames more) ∙ used_in-append (events rules frames) (each_from rules.tells frames more)) in
           let one : used_in (events rules (frames ++ frame ∷ [])) ≡ used_in (events rules (u.frames ++ u.frame ∷ [])) =
-          ap (λ (fs : List Frame). used_in (events rules fs)) same in
+          rw same in
           omega (arith, count, other, on, one)
 
   -- the moment that is kept behind an answer
@@ -156,7 +154,7 @@ module _ (limits : Limits) (channel : ℕ) where
   pub asked-by : (octets : List ℕ) (told : List Told) (used : List DateTime) (kept : Option DateTime) → length used ≡ used_in told
       → IsTimeKept limits channel octets kept → AreAsked limits channel octets told (used ++ listed kept)
   asked-by octets told used None e k = inl (k, ap length (append-nil used) ∙ e)
-  asked-by octets told used (Some m) e k = inr (k, length-append used (m ∷ []) ∙ ap (λ (n : ℕ). n + 1) e)
+  asked-by octets told used (Some m) e k = inr (k, length-append used (m ∷ []) ∙ rw e)
 
   -- more octets behind the end make no difference
   pub asked-over : (octets more : List ℕ) (frames : List Frame) (rest : List ℕ) (end : End ℕ) (told : List Told) (moments : List DateTime) → (end ≡ Going → ⊥)
@@ -183,10 +181,10 @@ module _ (limits : Limits) (channel : ℕ) where
       → AreAsked limits channel octets (before ++ t ∷ []) moments → length moments + times_used_by t ≡ used_in (before ++ t ∷ []) + 1
   answered-count octets before (Agreed a) moments e (inl m) = absurd (unused-left octets e.frames e.frame e.run (ap used_in e.tells) m.0)
   answered-count octets before (Agreed a) moments e (inr m) = omega (arith, m.1)
-  answered-count octets before (Opened id handle token lifetime) moments e (inl m) = ap (λ (n : ℕ). n + 1) m.1
+  answered-count octets before (Opened id handle token lifetime) moments e (inl m) = rw m.1
   answered-count octets before (Opened id handle token lifetime) moments e (inr m) =
       absurd (m.0 (inr (record { frames = e.frames; frame = e.frame; run = e.run; uses_one = ap used_in e.tells })))
-  answered-count octets before (Asked id token message) moments e (inl m) = ap (λ (n : ℕ). n + 1) m.1
+  answered-count octets before (Asked id token message) moments e (inl m) = rw m.1
   answered-count octets before (Asked id token message) moments e (inr m) =
       absurd (m.0 (inr (record { frames = e.frames; frame = e.frame; run = e.run; uses_one = ap used_in e.tells })))
   answered-count octets before (GaveUp id) moments e m = let h = e.answered in absurd cc

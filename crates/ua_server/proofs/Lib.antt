@@ -21,7 +21,7 @@ mod Advancing
 mod Turning
 mod Handling
 mod Nows
-mod NowStanding
+pub mod NowStanding
 mod Histories
 mod EndpointStays
 mod Sharings

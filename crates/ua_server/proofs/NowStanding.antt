@@ -1,32 +1,23 @@
 -- What a step answers by what stands is what it answers of all that was told, where a first state leaves what stands.
-use Rattle.std.specs.Prelude.{◌≡◌, ℕ, Bool, false, List, [], ◌∷◌, ◌++◌, take, Option, None, Some, Result, Ok, Err}
+use Rattle.std.specs.Prelude.{◌≡◌, ℕ, List, [], ◌∷◌, ◌++◌, take, Option, None, Some, Result, Ok, Err}
 use Rattle.std.proofs.Common.{sym, ◌∙◌, refl, subst, append-nil}
 use Rattle.ua_builtin.specs.declared.date_time.DateTime.{DateTime}
 use Rattle.ua_frame.specs.Run.{Stopped}
-use Rattle.ua_channel.specs.Received.{has_some, listed}
 use Rattle.ua_channel.specs.ServerPlaces.{agreed_by}
 use Rattle.ua_channel.specs.ServerStands.{limits_of, channel_of, next_of, Goes}
 use Rattle.ua_channel.specs.ServerTold.{Told}
 use Rattle.ua_channel.specs.declared.server.ServerChannel.{ServerChannel}
-use Rattle.ua_server.specs.Now.{AdvanceNow, AdvanceNowBy, NowBy, StepNow, standing}
-use Rattle.ua_server.specs.Requests.{request_at, requests_of, with_first}
+use Rattle.ua_server.specs.Now.{NowBy, StepNow, standing}
+use Rattle.ua_server.specs.Requests.{request_at}
 use Rattle.ua_server.specs.Said.{last_words, course_after, said_of, say}
 use Rattle.ua_server.specs.State.{State}
-use Rattle.ua_server.specs.Stepping.{AdvanceBy, Advances, ServerStands, StepAnswers, StepBy, StepCloses, StepGoes, StepRefuses, StepStops, StepTells, given_up}
-use Rattle.ua_server.specs.declared.step.Advanced.{Advanced}
+use Rattle.ua_server.specs.Stepping.{ServerStands, StandsBy, StepAnswers, StepBy, StepCloses, StepGoes, StepRefuses, StepStands, StepStops, given_up}
 use Rattle.ua_server.specs.declared.step.End.{End as Ending}
 use Rattle.ua_server.specs.declared.step.End.TheVariants as ending
 use Rattle.ua_server.specs.declared.step.Step.{Step}
 use Rattle.ua_server.specs.declared.step.StepFault.{StepFault}
 use Rattle.ua_server.specs.declared.step.StepFault.TheVariants as step_fault
-use Rattle.ua_server.specs.declared.watch.AnsweredRequest.{AnsweredRequest}
 use Rattle.ua_server.proofs.Steps.{goes-silent, goes-saying, closes, refuses}
-
-listed-is : (r q : Option AnsweredRequest) → listed r ≡ with_first q [] → r ≡ q
-listed-is None None e = refl
-listed-is None (Some y) e = absurd cc
-listed-is (Some x) None e = absurd cc
-listed-is (Some x) (Some y) e = cc
 
 module _ (old new : ServerChannel) (moment : DateTime) (piece octets : List ℕ) (told : List Told) (first : State) (ms : List DateTime) (before now : State)
     (s : ServerStands old octets told first ms before) (same : channel_of new ≡ channel_of old) where
@@ -40,7 +31,7 @@ module _ (old new : ServerChannel) (moment : DateTime) (piece octets : List ℕ)
       subst (λ (o : List ℕ). StepGoes (channel_of old) moment piece n o new octets told first ms now) (sym said)
       (subst (λ (t : State). StepGoes (channel_of old) moment piece n [] new octets told first ms t) (sym state)
       (goes-silent old new moment piece n octets told first ms before quiet s same stops.0
-      (subst (λ (t : List Told). Goes new (octets ++ take n piece) t) (append-nil (told ++ given_up quiet)) goes) number).goes)
+      (subst (λ (t : List Told). Goes new (octets ++ take n piece) t) (append-nil (told ++ given_up quiet)) goes) number))
   goes-by n out quiet (t ∷ []) stops goes said state number =
       let c = standing before (next_of old) (agreed_by told) (t ∷ []) moment in
       (goes-saying old new moment piece n octets told first ms before quiet s same (request_at (channel_of old) c t) t out now (stops.0, stops.1) stops.3
@@ -50,39 +41,10 @@ module _ (old new : ServerChannel) (moment : DateTime) (piece octets : List ℕ)
         number_is = sym number;
         answered = stops.2;
         request_is = refl;
-      })).goes
+      }))
   goes-by n out quiet (t ∷ (u ∷ more)) stops goes said state number = absurd stops
 
-  -- with whether something was answered, and which request
-  tells-by : (n : ℕ) (out quiet : List ℕ) (more : List Told) (answered : Bool) (request : Option AnsweredRequest)
-      → StepStops new octets piece n out (told ++ given_up quiet) more → Goes new (octets ++ take n piece) ((told ++ given_up quiet) ++ more)
-      → out ≡ said_of (channel_of old) (standing before (next_of old) (agreed_by told) more moment) more
-      → now ≡ (course_after (channel_of old) (standing before (next_of old) (agreed_by told) more moment) more).state
-      → next_of new ≡ (course_after (channel_of old) (standing before (next_of old) (agreed_by told) more moment) more).number
-      → answered ≡ has_some more → listed request ≡ requests_of (channel_of old) (standing before (next_of old) (agreed_by told) more moment) more
-      → StepTells answered request (channel_of old) moment piece n out new octets told first ms now
-  tells-by n out quiet [] answered request stops goes said state number a r =
-      subst (λ (b : Bool). StepTells b request (channel_of old) moment piece n out new octets told first ms now) (sym a)
-      (subst (λ (q : Option AnsweredRequest). StepTells false q (channel_of old) moment piece n out new octets told first ms now)
-      (sym (listed-is request None r))
-      (subst (λ (o : List ℕ). StepTells false None (channel_of old) moment piece n o new octets told first ms now) (sym said)
-      (subst (λ (t : State). StepTells false None (channel_of old) moment piece n [] new octets told first ms t) (sym state)
-      (goes-silent old new moment piece n octets told first ms before quiet s same stops.0
-      (subst (λ (t : List Told). Goes new (octets ++ take n piece) t) (append-nil (told ++ given_up quiet)) goes) number))))
-  tells-by n out quiet (t ∷ []) answered request stops goes said state number a r =
-      let c = standing before (next_of old) (agreed_by told) (t ∷ []) moment in
-      subst (λ (b : Bool). StepTells b request (channel_of old) moment piece n out new octets told first ms now) (sym a)
-      (goes-saying old new moment piece n octets told first ms before quiet s same request t out now (stops.0, stops.1) stops.3
-      (record {
-        out_is = sym (said ∙ append-nil (say (channel_of old) c t).0);
-        state_is = sym state;
-        number_is = sym number;
-        answered = stops.2;
-        request_is = sym (listed-is request (request_at (channel_of old) c t) r);
-      }))
-  tells-by n out quiet (t ∷ (u ∷ more)) answered request stops goes said state number a r = absurd stops
-
-  ends-by : (end : Option Ending) (n : ℕ) (out : List ℕ) → NowBy (channel_of old) (next_of old) moment piece end n out new octets told before now
+  ends-by : (end : Option Ending) (n : ℕ) (out : List ℕ) → NowBy old moment piece end n out new octets told before now
       → StepBy (channel_of old) moment piece end n out new octets told first ms before now
   ends-by None n out g = goes-by n out g.quiet g.more g.stops g.goes g.out_is g.state_is g.number_is
   ends-by (Some ending.Closed) n out g =
@@ -96,39 +58,33 @@ module _ (old new : ServerChannel) (moment : DateTime) (piece octets : List ℕ)
   ends-by (Some ending.NoClose) n out g = absurd g
   ends-by (Some ending.Cut) n out g = absurd g
 
-  step-by : (result : Result Step StepFault) → StepNow (limits_of old) (channel_of old) (next_of old) moment piece result new octets told before now
+  step-by : (result : Result Step StepFault) → StepNow old moment piece result new octets told before now
       → StepAnswers (limits_of old) (channel_of old) moment piece result new octets told first ms before now
   step-by (Ok step) g = ends-by step.end step.taken step.out.items g
   step-by (Err step_fault.OutOfMemory) g = g
   step-by (Err step_fault.Closed) g = absurd g
 
-  advanced-by : (answered : Bool) (request : Option AnsweredRequest) (end : Option Ending) (n : ℕ) (out : List ℕ)
-      → AdvanceNowBy answered request (channel_of old) (next_of old) moment piece end n out new octets told before now
-      → AdvanceBy answered request (channel_of old) moment piece end n out new octets told first ms before now
-  advanced-by answered request None n out g =
-      tells-by n out g.goes.quiet g.goes.more answered request g.goes.stops g.goes.goes g.goes.out_is g.goes.state_is g.goes.number_is g.answered_is
-      g.requests_are
-  advanced-by answered request (Some end) n out g = (ends-by (Some end) n out g.0, g.1)
-
-  advance-by : (result : Result Advanced StepFault) → AdvanceNow (limits_of old) (channel_of old) (next_of old) moment piece result new octets told before now
-      → Advances (limits_of old) (channel_of old) moment piece result new octets told first ms before now
-  advance-by (Ok found) g = advanced-by found.answered found.request found.step.end found.step.taken found.step.out.items g
-  advance-by (Err f) g = step-by (Err f) g
-
--- the same of a step that tells which request it answered
-pub as-advanced : (old new : ServerChannel) (moment : DateTime) (piece octets : List ℕ) (told : List Told) (first : State) (moments : List DateTime)
-    (before now : State) (result : Result Advanced StepFault)
-    → ServerStands old octets told first moments before → channel_of new ≡ channel_of old
-    → AdvanceNow (limits_of old) (channel_of old) (next_of old) moment piece result new octets told before now
-    → Advances (limits_of old) (channel_of old) moment piece result new octets told first moments before now
-as-advanced old new moment piece octets told first moments before now result s same g =
-    advance-by old new moment piece octets told first moments before now s same result g
-
 -- what stands answers as all that was told
 pub as-told : (old new : ServerChannel) (moment : DateTime) (piece octets : List ℕ) (told : List Told) (first : State) (moments : List DateTime)
     (before now : State) (result : Result Step StepFault)
     → ServerStands old octets told first moments before → channel_of new ≡ channel_of old
-    → StepNow (limits_of old) (channel_of old) (next_of old) moment piece result new octets told before now
+    → StepNow old moment piece result new octets told before now
     → StepAnswers (limits_of old) (channel_of old) moment piece result new octets told first moments before now
 as-told old new moment piece octets told first moments before now result s same g =
     step-by old new moment piece octets told first moments before now s same result g
+
+-- ---- where a step leaves a server
+
+module _ (old new : ServerChannel) (moment : DateTime) (piece octets : List ℕ) (told : List Told) (before now : State) where
+  left-by : (end : Option Ending) (n : ℕ) (out : List ℕ) → NowBy old moment piece end n out new octets told before now
+      → StandsBy piece end n out new octets told
+  left-by None n out g = record { quiet = g.quiet; more = g.more; stops = g.stops; goes = g.goes }
+  left-by (Some ending.Closed) n out g = g.0
+  left-by (Some (ending.Refused code)) n out g = g.0
+  left-by (Some ending.NoClose) n out g = g
+  left-by (Some ending.Cut) n out g = g
+
+  pub stands-now : (result : Result Step StepFault) → StepNow old moment piece result new octets told before now → StepStands piece result new octets told
+  stands-now (Ok step) g = left-by step.end step.taken step.out.items g
+  stands-now (Err step_fault.OutOfMemory) g = g.0
+  stands-now (Err step_fault.Closed) g = g

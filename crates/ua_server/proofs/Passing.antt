@@ -1,11 +1,11 @@
 -- Messages that were given up are passed over.
 use Rattle.std.specs.Prelude.{◌≡◌, ℕ, ◌+◌, ◌-◌, ◌≤◌, ◌<◌, true, false, List, [], ◌∷◌, ◌++◌, take, length, Result, Ok, Err}
-use Rattle.std.proofs.Common.{refl, sym, ◌∙◌, ap, subst, append_assoc, append-nil, arith}
+use Rattle.std.proofs.Common.{refl, ◌∙◌, ap, append_assoc, arith}
 use Rattle.ua_builtin.specs.declared.date_time.DateTime.{DateTime}
 use Rattle.ua_channel_laws.proofs.ServerReadsOnce.{goes_behind}
 use Rattle.ua_channel.proofs.Moving.{rest_of, rest-length, joined, within-piece}
 use Rattle.ua_channel.specs.ServerAnswers.{Counts, EventHandedOut, AnswersAt, Progress}
-use Rattle.ua_channel.specs.ServerStands.{limits_of, channel_of, next_of, IsDone, Goes, RefusedAt}
+use Rattle.ua_channel.specs.ServerStands.{limits_of, channel_of, next_of, IsDone, Goes}
 use Rattle.ua_channel.specs.ServerTold.{Told, GaveUp}
 use Rattle.ua_channel.specs.declared.server.ServerChannel.{ServerChannel}
 use Rattle.ua_channel.specs.declared.server_event.ServerEvent.{ServerEvent}
@@ -25,11 +25,11 @@ pub record Passed (old new : ServerChannel) (piece : List ℕ) (taken : ℕ) : T
       → (quiet : List ℕ) × Goes new (octets ++ take taken piece) (told ++ given_up quiet) × (next_of new ≡ next_of old)
 
 one-more : (told : List Told) (quiet : List ℕ) (id : ℕ) → (told ++ given_up quiet) ++ GaveUp id ∷ [] ≡ told ++ given_up (quiet ++ id ∷ [])
-one-more told quiet id = append_assoc told (given_up quiet) (GaveUp id ∷ []) ∙ ap (λ (t : List Told). told ++ t) (pushed quiet)
+one-more told quiet id = append_assoc told (given_up quiet) (GaveUp id ∷ []) ∙ rw (pushed quiet)
   where
     pushed : (ids : List ℕ) → given_up ids ++ GaveUp id ∷ [] ≡ given_up (ids ++ id ∷ [])
     pushed [] = refl
-    pushed (i ∷ ids) = ap (λ (t : List Told). GaveUp i ∷ t) (pushed ids)
+    pushed (i ∷ ids) = rw (pushed ids)
 
 -- a message that was given up
 gone : (channel number : ℕ) (moment : DateTime) (piece : List ℕ) (n : ℕ) (answer : Result ServerEvent ChannelFault) (new : ServerChannel) (octets : List ℕ)
@@ -104,8 +104,7 @@ next-passed old mid new moment piece taken n answer p answers progress limits ch
       let g = gone (channel_of mid) (next_of mid) moment (rest_of piece taken) n answer new (octets ++ take taken piece) (told ++ given_up before.0)
       (answers (octets ++ take taken piece) (told ++ given_up before.0) before.1) e in (
         before.0 ++ g.0 ∷ [],
-        subst (λ (t : List Told). Goes new (octets ++ take (taken + n) piece) t) (one-more told before.0 g.0)
-            (subst (λ (o : List ℕ). Goes new o ((told ++ given_up before.0) ++ GaveUp g.0 ∷ [])) (joined octets piece taken n) g.1),
+        rw (← one-more told before.0 g.0, ← joined octets piece taken n) g.1,
         g.2 ∙ before.2,
       );
 }
@@ -124,9 +123,7 @@ hands-moved : (channel number channel' number' : ℕ) (moment : DateTime) (e : S
     → channel' ≡ channel → number' ≡ number → octets' ≡ octets → EventHandedOut channel' number' moment e new octets' before
     → EventHandedOut channel number moment e new octets before
 hands-moved channel number channel' number' moment e new octets octets' before c k o a =
-    subst (λ (x : List ℕ). EventHandedOut channel number moment e new x before) o
-    (subst (λ (x : ℕ). EventHandedOut channel x moment e new octets' before) k
-    (subst (λ (x : ℕ). EventHandedOut x number' moment e new octets' before) c a))
+    rw (← o, ← k, ← c) a
 
 answers-moved : (channel number channel' number' : ℕ) (moment : DateTime) (piece : List ℕ) (taken n : ℕ) (answer : Result ServerEvent ChannelFault)
     (new : ServerChannel) (octets : List ℕ) (before : List Told)
@@ -139,28 +136,22 @@ answers-moved channel number channel' number' moment piece taken n (Ok e) new oc
       ((octets ++ take taken piece) ++ take n (rest_of piece taken)) before c k (joined octets piece taken n) a.1,
 )
 answers-moved channel number channel' number' moment piece taken n (Err (fault.Refused code err)) new octets before h c k a =
-    (within-piece piece taken n h a.0, subst (λ (x : List ℕ). RefusedAt new x before code.code) (joined octets piece taken n) a.1, a.2)
-answers-moved channel number channel' number' moment piece taken n (Err fault.OutOfMemory) new octets before h c k a = (within-piece piece taken n h a.0, a.1)
+    (within-piece piece taken n h a.0, rw (← joined octets piece taken n) a.1, a.2)
+answers-moved channel number channel' number' moment piece taken n (Err fault.OutOfMemory) new octets before h c k a =
+    (within-piece piece taken n h a.0, rw (← joined octets piece taken n) a.1)
 answers-moved channel number channel' number' moment piece taken n (Err fault.Closed) new octets before h c k a = a
-
-pub at-first : (old new : ServerChannel) (moment : DateTime) (piece : List ℕ) (n : ℕ) (answer : Result ServerEvent ChannelFault)
-    → ((octets : List ℕ) (told : List Told) → Goes old octets told → AnswersAt (channel_of old) (next_of old) moment piece n answer new octets told)
-    → (octets : List ℕ) (told : List Told) → Goes old octets told → AnswersBehind (channel_of old) (next_of old) moment piece n answer new octets told
-at-first old new moment piece n answer answers octets told h =
-    record {
-      quiet = [];
-      answers = subst (λ (t : List Told). AnswersAt (channel_of old) (next_of old) moment piece n answer new octets t)
-          (sym (append-nil told)) (answers octets told h);
-    }
 
 pub at-last : (old mid new : ServerChannel) (moment : DateTime) (piece : List ℕ) (taken n : ℕ) (answer : Result ServerEvent ChannelFault)
     → Passed old mid piece taken
     → ((octets : List ℕ) (told : List Told) → Goes mid octets told
     → AnswersAt (channel_of mid) (next_of mid) moment (rest_of piece taken) n answer new octets told)
-    → (octets : List ℕ) (told : List Told) → Goes old octets told → AnswersBehind (channel_of old) (next_of old) moment piece (taken + n) answer new octets told
-at-last old mid new moment piece taken n answer p answers octets told h =
+    → limits_of new ≡ limits_of mid → channel_of new ≡ channel_of mid
+    → (octets : List ℕ) (told : List Told) → Goes old octets told → AnswersBehind old moment piece (taken + n) answer new octets told
+at-last old mid new moment piece taken n answer p answers limits channel octets told h =
     let before = p.passed octets told h in
     record {
+      limits = limits ∙ p.limits;
+      channel = channel ∙ p.channel;
       quiet = before.0;
       answers = answers-moved (channel_of old) (next_of old) (channel_of mid) (next_of mid) moment piece taken n answer new octets (told ++ given_up before.0)
           p.within p.channel before.2 (answers (octets ++ take taken piece) (told ++ given_up before.0) before.1);
@@ -174,8 +165,12 @@ pub all-progress : (old new : ServerChannel) (piece : List ℕ) (taken : ℕ) �
 all-progress old new piece taken p = (p.within, p.some)
 
 pub all-passed : (old new : ServerChannel) (moment : DateTime) (piece : List ℕ) (taken : ℕ) → Passed old new piece taken → length piece ≤ taken
-    → (octets : List ℕ) (told : List Told) → Goes old octets told
-    → AnswersBehind (channel_of old) (next_of old) moment piece taken (Ok event.NeedMore) new octets told
+    → (octets : List ℕ) (told : List Told) → Goes old octets told → AnswersBehind old moment piece taken (Ok event.NeedMore) new octets told
 all-passed old new moment piece taken p all octets told h =
     let before = p.passed octets told h in
-    record { quiet = before.0; answers = (all-taken (length piece) taken p.within all, (before.1, before.2)) }
+    record {
+      limits = p.limits;
+      channel = p.channel;
+      quiet = before.0;
+      answers = (all-taken (length piece) taken p.within all, (before.1, before.2));
+    }

@@ -1,7 +1,7 @@
 -- The body of a Read response, part by part.
 use Rattle.std.specs.Prelude.{◌≡◌, ◌<◌, ℕ, suc, List, [], ◌∷◌, ◌++◌, length, Some, None, IsTrue}
 use Rattle.std.specs.List.{flat_map}
-use Rattle.std.proofs.Common.{inl, inr, ◌+◌, ◌≤◌, Option, length-append, refl, sym, ◌∙◌, ap, append_assoc, subst, arith}
+use Rattle.std.proofs.Common.{inl, inr, ◌+◌, ◌≤◌, Option, length-append, refl, sym, ◌∙◌, ap, append_assoc, arith}
 use Rattle.ua_builtin.specs.Counted.{null_count}
 use Rattle.ua_builtin.specs.NodeId.{node_id}
 use Rattle.ua_builtin.specs.Number.{number_octets}
@@ -59,9 +59,7 @@ results_octets : (nodes : Nodes) (items : List ReadValueId) (stamps : Stamps) (m
     → flat_map (result_octets nodes stamps moment) items ≡ flat_map data_value_format.canonical (read_answers nodes items stamps moment)
 results_octets nodes [] stamps moment = refl
 results_octets nodes (item ∷ items) stamps moment =
-    ap (λ (b : List ℕ). b ++ flat_map (result_octets nodes stamps moment) items) (value_octets (read_answer (node_at nodes item.node_id) item stamps moment))
-    ∙ ap (λ (b : List ℕ). data_value_format.canonical (value_from (read_answer (node_at nodes item.node_id) item stamps moment)) ++ b)
-    (results_octets nodes items stamps moment)
+    rw (value_octets (read_answer (node_at nodes item.node_id) item stamps moment), results_octets nodes items stamps moment)
 
 pub results_count : (nodes : Nodes) (items : List ReadValueId) (stamps : Stamps) (moment : DateTime)
     → length items ≡ length (read_answers nodes items stamps moment)
@@ -75,8 +73,7 @@ regrouped : (id header count values last : List ℕ) → ((id ++ (header ++ coun
 regrouped id header count values last =
     append_assoc (id ++ (header ++ count)) values last
     ∙ append_assoc id (header ++ count) (values ++ last)
-    ∙ ap (λ (b : List ℕ). id ++ b) (append_assoc header count (values ++ last))
-    ∙ ap (λ (b : List ℕ). id ++ (header ++ b)) (sym (append_assoc count values last))
+    ∙ rw (append_assoc header count (values ++ last), sym (append_assoc count values last))
 
 written_whole : (header : ResponseHeader) (nodes : Nodes) (items : List ReadValueId) (stamps : Stamps) (moment : DateTime)
     → (front header (length items) ++ flat_map (result_octets nodes stamps moment) items) ++ number_octets 4 null_count
@@ -103,7 +100,7 @@ null_diagnostics = refl
 
 pub null_fits : {A : Type 0} (format : Format A) (items : Option (List A)) → items ≡ None → IsTrue ((array format).encodable items)
 unfolding array
-null_fits {A = A} format items is = subst (λ (o : Option (List A)). IsTrue ((array format).encodable o)) (sym is) refl
+null_fits {A = A} format items is = rw is refl
 
 -- what stands there is the front, the results and no diagnostics
 pub written_parts : (most : Option ℕ) (header : ResponseHeader) (nodes : Nodes) (items : List ReadValueId) (stamps : Stamps) (moment : DateTime)
@@ -115,9 +112,8 @@ pub written_parts : (most : Option ℕ) (header : ResponseHeader) (nodes : Nodes
 written_parts most header nodes items stamps moment id body is adds =
     let named = λ (b : List ℕ). IsWithin most (result_octets nodes stamps moment) items b adds.behind in (
       adds.behind,
-      subst named (front-parts header (length items))
-          (subst (λ (i : List ℕ). named ((i ++ response_header.canonical header) ++ number_octets 4 (length items))) is adds.results),
-      adds.rest ∙ ap (λ (b : List ℕ). adds.behind ++ b) null_diagnostics,
+      rw (← front-parts header (length items), ← is) adds.results,
+      adds.rest ∙ rw null_diagnostics,
     )
 
 -- the body that is written, which may have been given up
@@ -129,7 +125,7 @@ written_within most header nodes items stamps moment results body within is =
     let all = front header (length items) ++ flat_map (result_octets nodes stamps moment) items in
     let whole = response.canonical (ReadMessage (read_response_of header (read_answers nodes items stamps moment))) in
     elim (whole_or_past most (result_octets nodes stamps moment) items (front header (length items)) results within) [
-      | inl e ↦ inl (is ∙ ap (λ (b : List ℕ). b ++ number_octets 4 null_count) e ∙ written_whole header nodes items stamps moment)
+      | inl e ↦ inl (is ∙ rw e (written_whole header nodes items stamps moment))
       | inr p ↦
           let few : length body ≡ length results + length (number_octets 4 null_count) = ap length is ∙ length-append results (number_octets 4 null_count) in
           let many : length whole ≡ length all + length (number_octets 4 null_count) =

@@ -18,8 +18,8 @@ pub said_of-append : (channel : ℕ) (c : Course) (a b : List Told) → said_of 
     ++ said_of channel (course_after channel c a) b
 said_of-append channel c [] b = refl
 said_of-append channel c (t ∷ a) b =
-    ap (λ (o : List ℕ). (say channel c t).0 ++ o) (said_of-append channel (say channel c t).1 a b)
-    ∙ sym (append_assoc (say channel c t).0 (said_of channel (say channel c t).1 a) (said_of channel (course_after channel (say channel c t).1 a) b))
+    rw (said_of-append channel (say channel c t).1 a b)
+    (sym (append_assoc (say channel c t).0 (said_of channel (say channel c t).1 a) (said_of channel (course_after channel (say channel c t).1 a) b)))
 
 pub used_in-append : (a b : List Told) → used_in (a ++ b) ≡ used_in a + used_in b
 used_in-append [] b = let none : 0 + used_in b ≡ used_in b = omega arith in sym none
@@ -64,7 +64,7 @@ pub left_by-more : (channel : ℕ) (c : Course) (more : List DateTime) (told : L
 left_by-more channel c more [] h = refl
 left_by-more channel c more (t ∷ told) h =
     let one = say-more channel c.state c.number c.moments c.agreement more t (uses-first t told (length c.moments) h) in
-    ap (λ (p : List ℕ × Course). course_after channel p.1 told) one ∙ left_by-more channel (say channel c t).1 more told (enough-left channel c t told h)
+    rw one (left_by-more channel (say channel c t).1 more told (enough-left channel c t told h))
 
 pub said_of-more : (channel : ℕ) (c : Course) (more : List DateTime) (told : List Told) → used_in told ≤ length c.moments
     → said_of channel (with_more c more) told ≡ said_of channel c told
@@ -97,8 +97,8 @@ pub said-append : (channel : ℕ) (s : State) (a b : List Told) (ending : End �
     ++ (said_of channel (state_after channel s a moments) b ++ last_words ending)
 unfolding output_of state_after
 said-append channel s a b ending moments =
-    ap (λ (o : List ℕ). o ++ last_words ending) (said_of-append channel (start s moments) a b)
-    ∙ regrouped (said_of channel (start s moments) a) (said_of channel (course_after channel (start s moments) a) b) (last_words ending)
+    rw (said_of-append channel (start s moments) a b)
+    (regrouped (said_of channel (start s moments) a) (said_of channel (course_after channel (start s moments) a) b) (last_words ending))
 
 pub left-more : (channel : ℕ) (s : State) (told : List Told) (moments more : List DateTime) → used_in told ≤ length moments
     → state_after channel s told (moments ++ more) ≡ with_more (state_after channel s told moments) more
@@ -108,4 +108,4 @@ left-more channel s told moments more h = left_by-more channel (start s moments)
 pub said-more : (channel : ℕ) (s : State) (told : List Told) (ending : End ℕ) (moments more : List DateTime) → used_in told ≤ length moments
     → output_of channel s told ending (moments ++ more) ≡ output_of channel s told ending moments
 unfolding output_of
-said-more channel s told ending moments more h = ap (λ (o : List ℕ). o ++ last_words ending) (said_of-more channel (start s moments) more told h)
+said-more channel s told ending moments more h = rw (said_of-more channel (start s moments) more told h)

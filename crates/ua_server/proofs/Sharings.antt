@@ -9,7 +9,8 @@ use Rattle.ua_channel.specs.ServerTold.{Told, Agreed, Opened, Asked, GaveUp, Clo
 use Rattle.ua_channel.specs.declared.server.ServerChannel.{ServerChannel}
 use Rattle.ua_nodes.specs.Table.{Nodes}
 use Rattle.ua_server.specs.History.{ConnectionEvent, Heard, Became, EndedAt, EndsOver, IsHandled, OverBy, ResultOver, StandsOver}
-use Rattle.ua_server.specs.History.{StepOver, course_over, event_answer, heard_at, output_over, told_in, with_changes}
+use Rattle.ua_server.specs.History.{course_over, event_answer, heard_at, output_over, told_in, with_changes}
+use Rattle.ua_server.specs.Now.{StepNow}
 use Rattle.ua_server.specs.Sharing.{SharedEvent, At, Changed, Own, SharedState, AmongBy, EndsAmong, OthersStand, ResultAmong, StandsAmong, StepAmong}
 use Rattle.ua_server.specs.Sharing.{answer_at, at_moment, course_at, opened, seen_as, seen_by}
 use Rattle.ua_server.specs.Sharing.{sent_for_event, sent_to, shared_by, shared_over, told_by, with_course}
@@ -24,6 +25,7 @@ use Rattle.ua_server.specs.declared.step.Step.{Step}
 use Rattle.ua_server.specs.declared.step.StepFault.{StepFault}
 use Rattle.ua_server.specs.declared.step.StepFault.TheVariants as step_fault
 use Rattle.ua_server.proofs.EndpointStays.{answered-limit, answered-stays}
+use Rattle.ua_server.proofs.Histories.{step_over}
 
 -- ---- numbers of connections
 
@@ -419,11 +421,14 @@ module _ (channels : ℕ → ℕ) (k : ℕ) (old new : ServerChannel) (session s
 pub step_among : (channels : ℕ → ℕ) (k : ℕ) (old new : ServerChannel) (session session' : Option Session) (moment : DateTime) (piece octets : List ℕ)
     (es : List SharedEvent) (first before now : State) (result : Result Step StepFault)
     → StandsAmong channels k old session octets es first before → channel_of new ≡ channel_of old → now.session ≡ before.session
-    → ((hs : List ConnectionEvent) (begins : State) → StandsOver old octets hs begins (with_session before session)
-    → StepOver (limits_of old) (channel_of old) moment piece result new octets hs begins (with_session before session) (with_session now session'))
+    → ((told : List Told) → Goes old octets told
+    → StepNow old moment piece result new octets told (with_session before session) (with_session now session'))
     → StepAmong (limits_of old) channels k moment piece result new session' octets es first before now
 step_among channels k old new session session' moment piece octets es first before now result s same apart steps =
-    let g = steps (seen_by channels k (opened first) es) (begun first) (stands-over channels k old session octets es first before s) in
+    let hs = seen_by channels k (opened first) es in
+    let o = stands-over channels k old session octets es first before s in
+    let g = step_over old new moment piece octets hs (begun first) (with_session before session) (with_session now session') result o same
+    (steps (told_in hs) o.goes) in
     record {
       told = g.told;
       left_is = shared-more channels k old new session session' moment piece octets es first before now s same apart g.told g.left_is;

@@ -2,7 +2,7 @@
 use Rattle.std.specs.Prelude.{◌≡◌, ℕ, ◌+◌, ◌<◌, ◌≤◌, ◌^◌, Bool, true, false, ◌||◌, not, nat_eq, nat_lt}
 use Rattle.std.specs.Prelude.{if◌then◌else◌, is_none, List, [], ◌∷◌, length, IsTrue, Option, Some, None}
 use Rattle.std.specs.List.{AllByRecursion, list_all}
-use Rattle.std.proofs.Common.{refl, sym, ◌∙◌, subst, arith, lit<, inl, inr}
+use Rattle.std.proofs.Common.{refl, sym, ◌∙◌, arith, lit<, inl, inr}
 use Rattle.std.proofs.lemmas.Bool.{eqb-false, lt-ltb, ltb-true, ltb-false}
 use Rattle.ua_wire.proofs.Readers.{both_true}
 use Rattle.ua_builtin.specs.DateTime.{date_time}
@@ -143,7 +143,7 @@ code_fits [] code h e = absurd cc
 code_fits (r ∷ rs) code h e = by r.1 e (code_fits rs code h.1)
   where
     by : (b : Bool) → (if b then Some r.0 else first_reason rs) ≡ Some code → (first_reason rs ≡ Some code → code < 4294967296) → code < 4294967296
-    by true here later = let same : r.0 ≡ code = cc in subst (λ (n : ℕ). n < 4294967296) same h.0
+    by true here later = let same : r.0 ≡ code = cc in rw (← same) h.0
     by false here later = later here
 
 status_fits : (code : ℕ) → code < 4294967296 → IsTrue (status_code.encodable (of_code code))

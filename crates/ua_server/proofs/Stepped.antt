@@ -3,7 +3,7 @@ use Rattle.std.proofs.Common.{refl, sym, ◌∙◌, ap, subst}
 use Rattle.std.specs.Prelude.{◌≡◌, List, [], ◌∷◌, length, Bool, true, false, Option, Some, None, ◌<◌, ℕ, ◌++◌, ℤ, map, Result, take, Ok, Err}
 use Rattle.ua_builtin.specs.declared.date_time.DateTime.{DateTime}
 use Rattle.ua_channel.specs.Received.{listed}
-use Rattle.ua_channel.specs.ServerStands.{limits_of, channel_of, next_of, Goes}
+use Rattle.ua_channel.specs.ServerStands.{limits_of, channel_of, Goes}
 use Rattle.ua_channel.specs.ServerTold.{Told}
 use Rattle.ua_frame.specs.declared.limits.Limits.{Limits}
 use Rattle.ua_server.proofs.Advancing.{advanced-quiet, advanced-saying, advanced-broken}
@@ -43,7 +43,7 @@ module _ {M W A : Type 0} (changes : A → State → A → State → Type 0) (gi
     (lim : limits_of (channel_in server) ≡ limits_of (channel_in mid.server)) (chan : channel_of (channel_in server) ≡ channel_of (channel_in mid.server))
     (result : Result Advanced StepFault)
     (answers : (octets : List ℕ) (told : List Told) → Goes (channel_in mid.server) octets told
-    → AdvanceNow (limits_of (channel_in mid.server)) (channel_of (channel_in mid.server)) (next_of (channel_in mid.server)) mom piece result
+    → AdvanceNow (channel_in mid.server) mom piece result
     (channel_in server) octets told now0 now1)
     (k : OwesNothing changes x limits channel first read written given (now0, app)) (acted : has_acted false k.history ≡ true) where
   abbrev l : Limits
@@ -68,16 +68,16 @@ module _ {M W A : Type 0} (changes : A → State → A → State → Type 0) (gi
       (subst (λ (n : ℕ). (j : OwesNothing changes x limits n first read written given (now0, app)) × (has_acted false j.history ≡ true)) (sym k.channel_is)
       (k, acted))
 
-  advanced : AdvanceNow l c (next_of (channel_in x.server)) mom piece result (channel_in server) read (told_in own.0.history) now0 now1
+  advanced : AdvanceNow (channel_in x.server) mom piece result (channel_in server) read (told_in own.0.history) now0 now1
   advanced =
-      subst (λ (s : Server). AdvanceNow (limits_of (channel_in s)) (channel_of (channel_in s)) (next_of (channel_in s)) mom piece result
+      subst (λ (s : Server). AdvanceNow (channel_in s) mom piece result
       (channel_in server) read (told_in own.0.history) now0 now1) same
       (answers read (told_in own.0.history) (subst (λ (s : Server). Goes (channel_in s) read (told_in own.0.history)) (sym same) own.0.stands.goes))
 
-  advanced-at : (r : Result Advanced StepFault) → result ≡ r → AdvanceNow l c (next_of (channel_in x.server)) mom piece r (channel_in server) read
+  advanced-at : (r : Result Advanced StepFault) → result ≡ r → AdvanceNow (channel_in x.server) mom piece r (channel_in server) read
       (told_in own.0.history) now0 now1
   advanced-at r is =
-      subst (λ (v : Result Advanced StepFault). AdvanceNow l c (next_of (channel_in x.server)) mom piece v (channel_in server) read (told_in own.0.history) now0
+      subst (λ (v : Result Advanced StepFault). AdvanceNow (channel_in x.server) mom piece v (channel_in server) read (told_in own.0.history) now0
       now1) is advanced
 
   -- at the limits and the channel that are named
@@ -101,7 +101,7 @@ module _ {M W A : Type 0} (changes : A → State → A → State → Type 0) (gi
             found.step.out.items written (given ++ ts) (now1, app))
             (advanced-quiet changes x server mom piece read written given ts first now0 now1 app some lim-here chan-here (kept-moment None) own.0 own.1
             found.request (meeting-noted a.ticks None) found.step.end found.step.taken found.step.out.items
-            (subst (λ (b : Bool). AdvanceNowBy b found.request c (next_of (channel_in x.server)) mom piece found.step.end found.step.taken found.step.out.items
+            (subst (λ (b : Bool). AdvanceNowBy b found.request (channel_in x.server) mom piece found.step.end found.step.taken found.step.out.items
             (channel_in server) read (told_in own.0.history) now0 now1) quiet (advanced-at (Ok found) is))));
       }
 
@@ -119,7 +119,7 @@ module _ {M W A : Type 0} (changes : A → State → A → State → Type 0) (gi
             (read ++ take found.step.taken piece) found.step.out.items written (given ++ ts) (now1, app))
             (advanced-saying changes x server mom piece read written given ts first now0 now1 app some lim-here chan-here (kept-moment found.request) own.0
             own.1 found.request (meeting-noted a.ticks found.request) found.step.end found.step.taken found.step.out.items
-            (subst (λ (b : Bool). AdvanceNowBy b found.request c (next_of (channel_in x.server)) mom piece found.step.end found.step.taken found.step.out.items
+            (subst (λ (b : Bool). AdvanceNowBy b found.request (channel_in x.server) mom piece found.step.end found.step.taken found.step.out.items
             (channel_in server) read (told_in own.0.history) now0 now1) said (advanced-at (Ok found) is))));
       }
 

@@ -1,5 +1,5 @@
 -- What is said and left, a step further.
-use Rattle.std.specs.Prelude.{◌≡◌, ℕ, zero, suc, ◌+◌, ◌≤◌, ◌<◌, true, false, IsTrue, List, [], ◌∷◌, ◌++◌, replicate, take, length, Option, None, Some}
+use Rattle.std.specs.Prelude.{◌≡◌, ℕ, zero, suc, ◌+◌, ◌≤◌, ◌<◌, IsTrue, List, [], ◌∷◌, ◌++◌, replicate, take, length, Option, None, Some}
 use Rattle.std.specs.List.{flat_map}
 use Rattle.std.proofs.Common.{refl, sym, ◌∙◌, ap, subst, append-nil, length-append, arith}
 use Rattle.ua_builtin.specs.declared.date_time.DateTime.{DateTime}
@@ -7,7 +7,7 @@ use Rattle.ua_frame.specs.Run.{End, Going, Stopped, Over}
 use Rattle.ua_services.specs.Response.{response}
 use Rattle.ua_channel_laws.proofs.ServerReadsOnce.{goes_behind}
 use Rattle.ua_channel.specs.Agreement.{Agreement}
-use Rattle.ua_channel.specs.Received.{latest_behind, listed}
+use Rattle.ua_channel.specs.Received.{latest_behind}
 use Rattle.ua_channel.specs.ServerPlaces.{agreements_in, agreed_by}
 use Rattle.ua_channel.specs.ServerSends.{AreSent, counted_by}
 use Rattle.ua_channel.specs.ServerStands.{channel_of, next_of, Goes, GoesTelling, ClosedAt, RefusedAt}
@@ -16,10 +16,9 @@ use Rattle.ua_channel.specs.declared.server.ServerChannel.{ServerChannel}
 use Rattle.ua_server.specs.Reply.{answered}
 use Rattle.ua_server.specs.Said.{Course, start, with_more, say, said_of, course_after, last_words, output_of, state_after, used_in, is_answered, lane_at}
 use Rattle.ua_server.specs.State.{State}
-use Rattle.ua_server.specs.Requests.{request_at, request_answered, requests_answered}
-use Rattle.ua_server.specs.Stepping.{IsReplyAt, given_up, ServerStands, times_of_answers, StepCloses, StepRefuses, StepTells}
+use Rattle.ua_server.specs.Requests.{request_at, request_answered}
+use Rattle.ua_server.specs.Stepping.{IsReplyAt, given_up, ServerStands, times_of_answers, StepCloses, StepGoes, StepRefuses}
 use Rattle.ua_server.specs.declared.watch.AnsweredRequest.{AnsweredRequest}
-use Rattle.ua_server.proofs.RequestsInParts.{requests-silent, requests-one}
 use Rattle.ua_server.proofs.SaidInParts.{used_in-append, left_by-uses, left-append, said-append, left-more, said-more}
 
 -- ---- messages that were given up
@@ -200,66 +199,53 @@ module _ (old new : ServerChannel) (moment : DateTime) (piece : List ℕ) (n : �
 
   -- nothing is answered
   pub goes-silent : n ≡ length piece → Goes new (octets ++ take n piece) (told ++ given_up quiet) → next_of new ≡ next_of old
-      → StepTells false None (channel_of old) moment piece n [] new octets told first ms before
+      → StepGoes (channel_of old) moment piece n [] new octets told first ms before
   goes-silent whole goes next =
       let ts = append-nil (told ++ given_up quiet) in
       let moments = append-nil ms in
       record {
-        answered_is = refl;
-        requests_are = ap (λ (x : List DateTime). requests_answered (channel_of old) first ((told ++ given_up quiet) ++ []) x) moments
-            ∙ (ap (λ (x : List Told). requests_answered (channel_of old) first x ms) ts
-            ∙ (requests-silent (channel_of old) first told quiet ms ∙ sym (append-nil (requests_answered (channel_of old) first told ms))));
-        goes = record {
-          quiet = quiet;
-          more = [];
-          stops = (whole, refl);
-          stands = subst (λ (x : List DateTime). ServerStands new (octets ++ take n piece) ((told ++ given_up quiet) ++ []) first x before) (sym moments)
-              (subst (λ (x : List Told). ServerStands new (octets ++ take n piece) x first ms before) (sym ts)
-              (record {
-                goes = goes;
-                state_is = ap (λ (ch : ℕ). (state_after ch first (told ++ given_up quiet) ms).state) same ∙ state-behind;
-                number_is = ap (λ (ch : ℕ). (state_after ch first (told ++ given_up quiet) ms).number) same ∙ (ap (λ (c : Course). c.number) behind ∙ sym next);
-                used = used-behind;
-              }));
-          out_is = ap (λ (x : List DateTime). output_of (channel_of old) first ((told ++ given_up quiet) ++ []) Going x) moments
-              ∙ (ap (λ (x : List Told). output_of (channel_of old) first x Going ms) ts
-              ∙ (said-silent (channel_of old) first told quiet ms ∙ sym (append-nil (output_of (channel_of old) first told Going ms))));
-        };
+        quiet = quiet;
+        more = [];
+        stops = (whole, refl);
+        stands = subst (λ (x : List DateTime). ServerStands new (octets ++ take n piece) ((told ++ given_up quiet) ++ []) first x before) (sym moments)
+            (subst (λ (x : List Told). ServerStands new (octets ++ take n piece) x first ms before) (sym ts)
+            (record {
+              goes = goes;
+              state_is = ap (λ (ch : ℕ). (state_after ch first (told ++ given_up quiet) ms).state) same ∙ state-behind;
+              number_is = ap (λ (ch : ℕ). (state_after ch first (told ++ given_up quiet) ms).number) same ∙ (ap (λ (c : Course). c.number) behind ∙ sym next);
+              used = used-behind;
+            }));
+        out_is = ap (λ (x : List DateTime). output_of (channel_of old) first ((told ++ given_up quiet) ++ []) Going x) moments
+            ∙ (ap (λ (x : List Told). output_of (channel_of old) first x Going ms) ts
+            ∙ (said-silent (channel_of old) first told quiet ms ∙ sym (append-nil (output_of (channel_of old) first told Going ms))));
       }
 
   -- one thing is answered
   pub goes-saying : (request : Option AnsweredRequest) (t : Told) (out : List ℕ) (now : State) → (0 < n) × (n ≤ length piece)
       → GoesTelling new (octets ++ take n piece) (told ++ given_up quiet) t
       → Says request (channel_of old) (next_of old) (next_of new) moment before now (agreed_by told) t out
-      → StepTells true request (channel_of old) moment piece n out new octets told first ms now
+      → StepGoes (channel_of old) moment piece n out new octets told first ms now
   goes-saying request t out now counts goes says =
       let extra = times_of_answers (t ∷ []) moment in
       let c = course before (next_of old) [] (agreed_by told) in
       let room = enough (used_in (told ++ given_up quiet)) (length ms) used-behind in
       let one = left-one (channel_of old) first (told ++ given_up quiet) t ms extra c behind room in
       record {
-        answered_is = refl;
-        requests_are = requests-one (channel_of old) first (told ++ given_up quiet) t ms extra c behind room
-            ∙ (ap (λ (r : List AnsweredRequest). r ++ listed (request_at (channel_of old) (course before (next_of old) extra (agreed_by told)) t))
-            (requests-silent (channel_of old) first told quiet ms)
-            ∙ ap (λ (r : Option AnsweredRequest). requests_answered (channel_of old) first told ms ++ listed r) says.request_is);
-        goes = record {
-          quiet = quiet;
-          more = t ∷ [];
-          stops = (counts.0, counts.1, says.answered, goes);
-          stands = record {
-            goes = goes_behind new (octets ++ take n piece) (told ++ given_up quiet) t goes;
-            state_is = ap (λ (ch : ℕ). (state_after ch first ((told ++ given_up quiet) ++ t ∷ []) (ms ++ extra)).state) same
-                ∙ (ap (λ (d : Course). d.state) one ∙ says.state_is);
-            number_is = ap (λ (ch : ℕ). (state_after ch first ((told ++ given_up quiet) ++ t ∷ []) (ms ++ extra)).number) same
-                ∙ (ap (λ (d : Course). d.number) one ∙ says.number_is);
-            used = used-one (told ++ given_up quiet) t ms moment used-behind;
-          };
-          out_is = said-one (channel_of old) first (told ++ given_up quiet) t ms extra c behind room
-              ∙ (ap (λ (o : List ℕ). o ++ (say (channel_of old) (course before (next_of old) extra (agreed_by told)) t).0)
-              (said-silent (channel_of old) first told quiet ms)
-              ∙ ap (λ (o : List ℕ). output_of (channel_of old) first told Going ms ++ o) says.out_is);
+        quiet = quiet;
+        more = t ∷ [];
+        stops = (counts.0, counts.1, says.answered, goes);
+        stands = record {
+          goes = goes_behind new (octets ++ take n piece) (told ++ given_up quiet) t goes;
+          state_is = ap (λ (ch : ℕ). (state_after ch first ((told ++ given_up quiet) ++ t ∷ []) (ms ++ extra)).state) same
+              ∙ (ap (λ (d : Course). d.state) one ∙ says.state_is);
+          number_is = ap (λ (ch : ℕ). (state_after ch first ((told ++ given_up quiet) ++ t ∷ []) (ms ++ extra)).number) same
+              ∙ (ap (λ (d : Course). d.number) one ∙ says.number_is);
+          used = used-one (told ++ given_up quiet) t ms moment used-behind;
         };
+        out_is = said-one (channel_of old) first (told ++ given_up quiet) t ms extra c behind room
+            ∙ (ap (λ (o : List ℕ). o ++ (say (channel_of old) (course before (next_of old) extra (agreed_by told)) t).0)
+            (said-silent (channel_of old) first told quiet ms)
+            ∙ ap (λ (o : List ℕ). output_of (channel_of old) first told Going ms ++ o) says.out_is);
       }
 
   -- it closed

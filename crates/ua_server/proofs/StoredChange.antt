@@ -30,7 +30,7 @@ not-good nodes id v item there refused = by (same_id item.node_id id) refl
 
     by : (t : Bool) → same_id item.node_id id ≡ t → is_good_for (id, v) item ≡ false
     by true e =
-        let found : node_at nodes item.node_id ≡ Some v = ap (λ (i : NodeId). node_at nodes i) ((same_id_is item.node_id id).0 e) ∙ there in
+        let found : node_at nodes item.node_id ≡ Some v = rw ((same_id_is item.node_id id).0 e) there in
         ap good e ∙ some-reason (first_reason (write_item_reasons v item)) (ap (λ (o : Option Variable). is_good (write_answer o item)) (sym found) ∙ refused)
     by false e = ap good e
 
@@ -41,14 +41,13 @@ last-stored nodes id v (item ∷ items) there = by (is_stored nodes item) refl (
   where
     by : (t : Bool) → is_stored nodes item ≡ t → last_good (id, v) (stored_items None nodes items) ≡ last_good (id, v) items
         → last_good (id, v) (cond t (item ∷ stored_items None nodes items) (stored_items None nodes items)) ≡ last_good (id, v) (item ∷ items)
-    by true e more = ap (λ (l : Option WriteValue). later (cond (is_good_for (id, v) item) (Some item) None) l) more
+    by true e more = rw more
     by false e more =
-        more ∙ sym (ap (λ (t : Bool). later (cond t (Some item) None) (last_good (id, v) items)) (not-good nodes id v item there e)
-        ∙ later-none (last_good (id, v) items))
+        more ∙ sym (rw (not-good nodes id v item there e) (later-none (last_good (id, v) items)))
 
 -- what becomes of a node, by whether there is one
 pub stored-leave : (nodes : Nodes) (id : NodeId) (items : List WriteValue) (moment : DateTime) (o : Option Variable) → node_at nodes id ≡ o
     → option_map (λ v. written_by v (last_good (id, v) (stored_items None nodes items)) moment) o
     ≡ option_map (λ v. written_by v (last_good (id, v) items) moment) o
 stored-leave nodes id items moment None there = refl
-stored-leave nodes id items moment (Some v) there = ap (λ (l : Option WriteValue). Some (written_by v l moment)) (last-stored nodes id v items there)
+stored-leave nodes id items moment (Some v) there = rw (last-stored nodes id v items there)

@@ -1,12 +1,12 @@
 -- What a step tells of a Write is what the Write stored.
 use Rattle.std.specs.Prelude.{◌≡◌, ℕ, Bool, true, false, cond, List, [], ◌∷◌, ◌++◌, take, Option, None, Some, Result, Ok, Err}
 use Rattle.std.specs.List.{concat}
-use Rattle.std.proofs.Common.{Vec, Global, refl, sym, ◌∙◌, ap, subst, append_assoc, append-nil}
+use Rattle.std.proofs.Common.{Vec, Global, refl, ◌∙◌, append_assoc, append-nil}
 use Rattle.ua_builtin.specs.declared.date_time.DateTime.{DateTime}
 use Rattle.ua_builtin.specs.declared.status_code.StatusCode.{StatusCode}
 use Rattle.ua_builtin.specs.Reasons.{first_reason}
 use Rattle.ua_channel.specs.ServerSends.{AreSent}
-use Rattle.ua_channel.specs.ServerStands.{GoesTelling}
+use Rattle.ua_channel.specs.ServerStands.{channel_of, next_of, GoesTelling}
 use Rattle.ua_channel.specs.ServerTold.{Told, Agreed, Opened, Asked, GaveUp, Closed}
 use Rattle.ua_channel.specs.declared.server.ServerChannel.{ServerChannel}
 use Rattle.ua_channel.specs.declared.server_event.ServerEvent.TheVariants as event
@@ -47,8 +47,7 @@ good_nothing (item ∷ items) = good_nothing items
 
 good-all : (nodes : Nodes) (items : List WriteValue) → good_items items (write_answers nodes items) ≡ stored_items None nodes items
 good-all nodes [] = refl
-good-all nodes (item ∷ items) = ap (λ (r : List WriteValue). cond (is_good (write_answer (node_at nodes item.node_id) item)) (item ∷ r) r)
-    (good-all nodes items)
+good-all nodes (item ∷ items) = rw (good-all nodes items)
 
 -- under a limit
 good-within : (room : ℕ) (nodes : Nodes) (items : List WriteValue) → good_items items (answers_within room nodes items) ≡ stored_items None nodes
@@ -62,7 +61,7 @@ good-within room nodes (item ∷ items) =
         → cond (is_good (cond t bad_out_of_memory (write_answer (node_at nodes item.node_id) item))) (item ∷ were) were ≡ stored_items None nodes
         (cond t are (item ∷ are))
     by true were are same = same
-    by false were are same = ap (λ (r : List WriteValue). cond (is_good (write_answer (node_at nodes item.node_id) item)) (item ∷ r) r) same
+    by false were are same = rw same
 
 good-stored : (most : Option ℕ) (nodes : Nodes) (items : List WriteValue) → good_items items (limited_answers most nodes items) ≡ stored_items most nodes items
 good-stored None nodes items = good-all nodes items
@@ -114,23 +113,21 @@ other_results s moment (Write m) other = absurd (other refl)
 pub kept-stored : (s : State) (moment : DateTime) (octets : List ℕ) (kept : List WriteValue) (results : Option (List StatusCode))
     → kept ≡ good_items (items_written (request_read octets)) (items_of results) → results ≡ results_of (answered s moment octets).1 → kept ≡ stored_of s octets
 kept-stored s moment octets kept results is answers =
-    is ∙ (ap (λ (r : Option (List StatusCode)). good_items (items_written (request_read octets)) (items_of r)) answers ∙ good-by (request_read octets) s moment)
+    is ∙ (rw answers (good-by (request_read octets) s moment))
 
 -- ---- a loop over the items and their results
 
 kept-by : (b : Bool) (done rest : List WriteValue) (item : WriteValue) → (done ++ cond b (item ∷ []) []) ++ rest ≡ done ++ cond b (item ∷ rest) rest
 kept-by true done rest item = append_assoc done (item ∷ []) rest
-kept-by false done rest item = ap (λ (d : List WriteValue). d ++ rest) (append-nil done)
+kept-by false done rest item = rw (append-nil done)
 
 -- one item more
 pub kept-on : (done now rest : List WriteValue) (item : WriteValue) (codes behind : List StatusCode) (b : Bool) → now ≡ done ++ cond b (item ∷ []) []
     → b ≡ begins_good codes → behind ≡ behind_code codes
     → now ++ good_items rest behind ≡ done ++ good_items (item ∷ rest) codes
 kept-on done now rest item codes behind b is good left =
-    ap (λ (n : List WriteValue). n ++ good_items rest behind) is
-    ∙ (kept-by b done (good_items rest behind) item
-    ∙ (ap (λ (cs : List StatusCode). done ++ cond b (item ∷ good_items rest cs) (good_items rest cs)) left
-    ∙ ap (λ (t : Bool). done ++ cond t (item ∷ good_items rest (behind_code codes)) (good_items rest (behind_code codes))) good))
+    rw is (kept-by b done (good_items rest behind) item
+    ∙ (rw (left, good)))
 
 -- ---- a step
 
@@ -148,38 +145,37 @@ pub stores-ended : (piece : List ℕ) (end : Option Ending) (n : ℕ) (out : Lis
 stores-ended piece None n out written new octets told before some none = absurd (some refl)
 stores-ended piece (Some end) n out written new octets told before some none = none
 
-module _ (channel number : ℕ) (moment : DateTime) (piece : List ℕ) (n : ℕ) (mid : ServerChannel) (octets : List ℕ) (told : List Told) (before : State) where
+module _ (old mid : ServerChannel) (moment : DateTime) (piece : List ℕ) (n : ℕ) (octets : List ℕ) (told : List Told) (before : State) where
   -- a step that says nothing, and one that says something
   pub silent-stores : (s : Step) (end : Option Ending) (written : List WriteValue) → s.taken ≡ n → s.out.items ≡ [] → s.end ≡ end → written ≡ []
       → ((out : List ℕ) → out ≡ [] → (written : List WriteValue) → written ≡ [] → StoresBy piece end n out written mid octets told before)
       → StoresBy piece s.end s.taken s.out.items written mid octets told before
   silent-stores s end written taken out is none by =
-      subst (λ (k : ℕ). StoresBy piece s.end k s.out.items written mid octets told before) (sym taken)
-      (subst (λ (e : Option Ending). StoresBy piece e n s.out.items written mid octets told before) (sym is) (by s.out.items out written none))
+      rw (taken, is) (by s.out.items out written none)
 
   pub saying-stores : (s t : Step) (written : List WriteValue) (new : ServerChannel) → s ≡ t
       → StoresBy piece t.end t.taken t.out.items written new octets told before
       → StoresBy piece s.end s.taken s.out.items written new octets told before
-  saying-stores s t written new is a = subst (λ (x : Step). StoresBy piece x.end x.taken x.out.items written new octets told before) (sym is) a
+  saying-stores s t written new is a = rw is a
 
   -- nothing came
-  pub stores-quiet : AnswersBehind channel number moment piece n (Ok event.NeedMore) mid octets told → (out : List ℕ) → out ≡ [] → (written : List WriteValue)
+  pub stores-quiet : AnswersBehind old moment piece n (Ok event.NeedMore) mid octets told → (out : List ℕ) → out ≡ [] → (written : List WriteValue)
       → written ≡ []
       → StoresBy piece None n out written mid octets told before
-  stores-quiet b out none written nothing = (stands-quiet channel number moment piece n mid octets told b out none, nothing)
+  stores-quiet b out none written nothing = (stands-quiet old mid moment piece n octets told b out none, nothing)
 
   -- an ACK or an OPN response
-  pub stores-sent : (sent : Vec ℕ Global) (b : AnswersBehind channel number moment piece n (Ok (event.Send sent)) mid octets told) (written : List WriteValue)
+  pub stores-sent : (sent : Vec ℕ Global) (b : AnswersBehind old moment piece n (Ok (event.Send sent)) mid octets told) (written : List WriteValue)
       → written ≡ []
       → StoresBy piece None n sent.items written mid octets told before
   stores-sent sent b written nothing =
       let s = b.answers.1 in
-      (stands-sent channel number moment piece n mid octets told sent b, nothing ∙ sent-stores channel number moment before s.said sent.items s.are_sent)
+      (stands-sent old mid moment piece n octets told sent b, nothing ∙ sent-stores (channel_of old) (next_of old) moment before s.said sent.items s.are_sent)
 
   -- a message, and its reply
   pub stores-replied : (id : ℕ) (message : List (List ℕ)) (new : ServerChannel) (out : List ℕ)
-      (b : AnswersBehind channel number moment piece n (Ok (event.Asked id message)) mid octets told) (written : List WriteValue)
+      (b : AnswersBehind old moment piece n (Ok (event.Asked id message)) mid octets told) (written : List WriteValue)
       → GoesTelling new (octets ++ take n piece) (told ++ given_up b.quiet) (Asked id b.answers.1.0.token (concat message))
       → written ≡ stored_of before (concat message)
       → StoresBy piece None n out written new octets told before
-  stores-replied id message new out b written goes is = (stands-replied channel number moment piece n mid octets told id message new out b goes, is)
+  stores-replied id message new out b written goes is = (stands-replied old mid moment piece n octets told id message new out b goes, is)

@@ -1,9 +1,8 @@
 -- No two connections have one session, so that the token of one is none of another.
 use Rattle.std.specs.Prelude.{◌≡◌, ℕ, ◌+◌, ◌≤◌, nat_eq, Bool, true, false, not, cond, List, [], ◌∷◌, ◌++◌, Option, None, Some, Result, Ok, Err}
-use Rattle.std.proofs.Common.{refl, sym, ◌∙◌, ap, subst, arith}
+use Rattle.std.proofs.Common.{refl, sym, ◌∙◌, subst, arith}
 use Rattle.ua_builtin.specs.Reasons.{first_reason}
 use Rattle.ua_builtin.specs.declared.date_time.DateTime.{DateTime}
-use Rattle.ua_builtin.specs.declared.node_id.NodeId.{NodeId}
 use Rattle.ua_channel.specs.ServerTold.{Told, Agreed, Opened, Asked, GaveUp, Closed}
 use Rattle.ua_services.specs.Request.{request_read}
 use Rattle.ua_services.specs.declared.fault.RequestFault.{RequestFault}
@@ -73,7 +72,7 @@ abbrev KeepsApart : Option Session → State → State → Type 0
 KeepsApart b s now = (Two s.session b s.made → Two now.session b now.made) × (s.made ≤ now.made)
 
 same-apart : (b : Option Session) (s now : State) → now.session ≡ s.session → now.made ≡ s.made → KeepsApart b s now
-same-apart b s now e f = (λ h. subst (λ (o : Option Session). Two o b now.made) (sym e) (subst (λ (n : ℕ). Two s.session b n) (sym f) h), omega (arith, f))
+same-apart b s now e f = (λ h. rw (e, f) h, omega (arith, f))
 
 unless-apart : (b : Option Session) (o : Option ℕ) (s : State) (moment : DateTime) (h : RequestHeader) (given : State × Response) → KeepsApart b s given.0
     → KeepsApart b s (unless o s moment h given).0
@@ -174,13 +173,13 @@ not-own None b theirs two e = refl
 not-own (Some mine) None theirs two e = absurd cc
 not-own (Some mine) (Some t) theirs two e =
     let same : t ≡ theirs = cc in
-    other-number theirs.number mine.number (λ e. two (sym e ∙ ap (λ (x : Session). x.number) (sym same)))
+    other-number theirs.number mine.number (λ e. two (sym e ∙ rw (sym same)))
 
 refused : (s : State) (moment : DateTime) (asking : RequestHeader) (rest : List (ℕ × Bool)) (given : State × Response)
     → is_own asking.authentication_token s.session ≡ false
     → unless (first_reason ((bad_session_id_invalid, not (is_own asking.authentication_token s.session)) ∷ rest)) s moment asking given
     ≡ (s, fault_of asking.request_handle bad_session_id_invalid moment)
-refused s moment asking rest given e = ap (λ (b : Bool). unless (first_reason ((bad_session_id_invalid, not b) ∷ rest)) s moment asking given) e
+refused s moment asking rest given e = rw e
 
 abbrev rest_of : List (ℕ × Bool) → List (ℕ × Bool)
 rest_of [] = []
@@ -195,24 +194,18 @@ refuses : (s : State) (moment : DateTime) (m : Request) (asking : RequestHeader)
 refuses s moment (GetEndpoints m) asking e h = absurd cc
 refuses s moment (CreateSession m) asking e h = absurd cc
 refuses s moment (ActivateSession m) asking e h =
-    subst (λ (x : RequestHeader). answer s moment (ActivateSession m) ≡ (s, fault_of x.request_handle bad_session_id_invalid moment))
-    (header-is m.request_header asking e)
-    (refused s moment m.request_header (rest_of (activate_reasons s m)) (with_activated s, activation_given moment m)
-    (ap (λ (x : RequestHeader). is_own x.authentication_token s.session) (header-is m.request_header asking e) ∙ h))
+    rw (← header-is m.request_header asking e) (refused s moment m.request_header (rest_of (activate_reasons s m)) (with_activated s, activation_given moment m)
+    (rw (header-is m.request_header asking e) h))
 refuses s moment (CloseSession m) asking e h =
-    subst (λ (x : RequestHeader). answer s moment (CloseSession m) ≡ (s, fault_of x.request_handle bad_session_id_invalid moment))
-    (header-is m.request_header asking e)
-    (refused s moment m.request_header (rest_of (close_reasons s m)) (begun s, close_given moment m)
-    (ap (λ (x : RequestHeader). is_own x.authentication_token s.session) (header-is m.request_header asking e) ∙ h))
+    rw (← header-is m.request_header asking e) (refused s moment m.request_header (rest_of (close_reasons s m)) (begun s, close_given moment m)
+    (rw (header-is m.request_header asking e) h))
 refuses s moment (Read m) asking e h =
-    subst (λ (x : RequestHeader). answer s moment (Read m) ≡ (s, fault_of x.request_handle bad_session_id_invalid moment)) (header-is m.request_header asking e)
-    (refused s moment m.request_header (rest_of (read_reasons s m)) (s, values_given s moment m)
-    (ap (λ (x : RequestHeader). is_own x.authentication_token s.session) (header-is m.request_header asking e) ∙ h))
+    rw (← header-is m.request_header asking e) (refused s moment m.request_header (rest_of (read_reasons s m)) (s, values_given s moment m)
+    (rw (header-is m.request_header asking e) h))
 refuses s moment (Write m) asking e h =
-    subst (λ (x : RequestHeader). answer s moment (Write m) ≡ (s, fault_of x.request_handle bad_session_id_invalid moment))
-    (header-is m.request_header asking e)
+    rw (← header-is m.request_header asking e)
     (refused s moment m.request_header (rest_of (write_reasons s m)) (with_written s moment m, statuses_given s moment m)
-    (ap (λ (x : RequestHeader). is_own x.authentication_token s.session) (header-is m.request_header asking e) ∙ h))
+    (rw (header-is m.request_header asking e) h))
 
 -- ---- a session of any time
 
@@ -235,11 +228,9 @@ since-event channels k b p (At i t moment) h = by (nat_eq k i) refl
 
     by : (x : Bool) → nat_eq k i ≡ x → Two (own-now (nat_eq k i)).session b made
     by true e =
-        subst (λ (x : Bool). Two (own-now x).session b made) (sym e)
-        ((told-apart channels p i t moment b).0 (subst (λ (n : ℕ). Two (p.own n).session b p.state.made) (number-is k i e) h))
+        rw e ((told-apart channels p i t moment b).0 (rw (← number-is k i e) h))
     by false e =
-        subst (λ (x : Bool). Two (own-now x).session b made) (sym e)
-        (let more = (told-apart channels p i t moment None).1 in record {
+        rw e (let more = (told-apart channels p i t moment None).1 in record {
           mine = made-more (p.own k).session p.state.made made more h.mine;
           theirs = made-more b p.state.made made more h.theirs;
           two = h.two;
@@ -258,11 +249,11 @@ two-sessions channels j k first before es theirs differ is =
     let then : Two (p.own k).session (p.own j).session p.state.made = events-apart channels k j (opened first) before differ
     (record { mine = tt; theirs = tt; two = tt }) in
     let after : Two ((shared_over channels p es).own k).session (Some theirs) (shared_over channels p es).state.made =
-    since-events channels k (Some theirs) p es (subst (λ (o : Option Session). Two (p.own k).session o p.state.made) is then) in
-    subst (λ (q : SharedState). AreTwo (q.own k).session (Some theirs)) (sym (shared-append channels (opened first) before es)) after.two
+    since-events channels k (Some theirs) p es (rw (← is) then) in
+    rw (shared-append channels (opened first) before es) after.two
 
 read-as : (s : State) (moment : DateTime) (octets : List ℕ) (m : Request) → request_read octets ≡ Ok m → answered s moment octets ≡ answer s moment m
-read-as s moment octets m e = ap (λ (r : Result Request RequestFault). answered_by r s moment) e
+read-as s moment octets m e = rw e
 
 pub other_token : (channels : ℕ → ℕ) (j k : ℕ) (first : State) (before es : List SharedEvent) (theirs : Session) (octets : List ℕ) (m : Request)
     (asking : RequestHeader) (moment : DateTime) → (k ≡ j → ⊥)
@@ -274,5 +265,4 @@ other_token channels j k first before es theirs octets m asking moment differ is
     let p = shared_over channels (opened first) (before ++ es) in
     read-as (course_at p k).state moment octets m read
     ∙ refuses (course_at p k).state moment m asking header
-    (ap (λ (t : NodeId). is_own t (p.own k).session) token
-    ∙ not-own (p.own k).session (Some theirs) theirs (two-sessions channels j k first before es theirs differ is) refl)
+    (rw token (not-own (p.own k).session (Some theirs) theirs (two-sessions channels j k first before es theirs differ is) refl))

@@ -1,5 +1,5 @@
 -- What a turn makes of a connection that is served: a step, and its answer written.
-use Rattle.std.proofs.Common.{refl, sym, ◌∙◌, ap, length-append, append_assoc, arith, subst, append-nil, take-append-drop}
+use Rattle.std.proofs.Common.{refl, sym, ◌∙◌, ap, length-append, append_assoc, arith, append-nil, take-append-drop}
 use Rattle.std.proofs.lemmas.List.{length-drop, length-take-le}
 use Rattle.std.specs.Prelude.{◌≡◌, List, [], length, Option, Some, None, ◌<◌, ℕ, ◌++◌, ◌+◌, ◌≤◌, take, Ok, Err, min, drop}
 use Rattle.ua_builtin.specs.declared.date_time.DateTime.{DateTime}
@@ -36,7 +36,7 @@ count-all n written out e = counted-on n (length written) (length out) (length (
 count-some : (n k : ℕ) (written out : List ℕ) → n ≡ min (length written) greatest → k ≤ length out
     → sum_up_to_greatest n k ≡ min (length (written ++ take k out)) greatest
 count-some n k written out e h = counted-on n (length written) k (length (written ++ take k out)) e (length-append written (take k out)
-    ∙ ap (λ (i : ℕ). length written + i) (length-take-le k out h))
+    ∙ rw (length-take-le k out h))
 
 module _ {A : Type 0} (changes : A → State → A → State → Type 0) (limits : Limits) (channel : ℕ) (first : State × A) where
   pub listed-one : (m : Option DateTime) → length (listed m) ≤ 1
@@ -101,7 +101,7 @@ module _ {A : Type 0} (changes : A → State → A → State → Type 0) (limits
       record {
         unwritten = drop k out;
         last = last-written limits channel first.0 read out written o.history (take k out) (drop k out) (sym (take-append-drop k out)) o.last;
-        state_is = ap (λ (n : ℕ). (course_over n (start first.0 []) o.history).state) (sym o.channel_is) ∙ o.stands.state_is;
+        state_is = rw (sym o.channel_is) o.stands.state_is;
         moments_are = (listed x.moment, o.moments_are, listed-one x.moment);
       },
       some-left k out (drop k out) refl h,
@@ -138,7 +138,7 @@ module _ {A : Type 0} (changes : A → State → A → State → Type 0) (limits
     last = record {
       front = b.last.front;
       behind = b.last.behind ++ more;
-      front_is = ap (λ (x : List ℕ). x ++ more) b.last.front_is ∙ append_assoc b.last.front b.last.behind more;
+      front_is = rw b.last.front_is (append_assoc b.last.front b.last.behind more);
       before = b.last.before;
       word = b.last.word;
       moment = b.last.moment;
@@ -175,7 +175,7 @@ module _ {A : Type 0} (changes : A → State → A → State → Type 0) (limits
       }
 
   front-back : (read piece : List ℕ) (n : ℕ) → (read ++ take n piece) ++ drop n piece ≡ read ++ piece
-  front-back read piece n = append_assoc read (take n piece) (drop n piece) ∙ ap (λ (p : List ℕ). read ++ p) (take-append-drop n piece)
+  front-back read piece n = append_assoc read (take n piece) (drop n piece) ∙ rw (take-append-drop n piece)
 
   module _ {M : Type 0} (gives : M → Event → M → Type 0) (m0 m1 : M) (la lb : Option Traffic) (piece read written : List ℕ) (given : List Event)
       (now : State × A) where
@@ -189,9 +189,7 @@ module _ {A : Type 0} (changes : A → State → A → State → Type 0) (limits
       ticks = a.ticks;
       moved = moved;
       given = a.given;
-      holds = subst (λ (w : Serving). TurnsTo changes step.end w limits channel first (read ++ take step.taken piece) (written ++ step.out.items)
-          (given ++ a.ticks) now) (sym same)
-          (turned step.end y (read ++ take step.taken piece) step.out.items written (given ++ a.ticks) now a.holds);
+      holds = rw same (turned step.end y (read ++ take step.taken piece) step.out.items written (given ++ a.ticks) now a.holds);
     }
 
     pub turn-unsaid : (step : Step) (y z : Serving) (f : ServeFault)
@@ -203,12 +201,9 @@ module _ {A : Type 0} (changes : A → State → A → State → Type 0) (limits
       ticks = a.ticks;
       moved = s.3;
       given = a.given;
-      holds = subst (λ (r : List ℕ). FailsTelling changes f limits channel first r (written ++ take s.0 step.out.items) (given ++ a.ticks) now)
-          (front-back read piece step.taken)
-          (fails-on f (read ++ take step.taken piece) (drop step.taken piece) (written ++ take s.0 step.out.items) (given ++ a.ticks) now
-          (subst (λ (g : ServeFault). FailsTelling changes g limits channel first (read ++ take step.taken piece) (written ++ take s.0 step.out.items)
-          (given ++ a.ticks) now) (sym s.1)
-          (unwritten step.end y (read ++ take step.taken piece) step.out.items written (given ++ a.ticks) now s.0 s.2 a.holds)));
+      holds = rw (← front-back read piece step.taken) (fails-on f (read ++ take step.taken piece) (drop step.taken piece) (written ++ take s.0 step.out.items)
+          (given ++ a.ticks) now
+          (rw s.1 (unwritten step.end y (read ++ take step.taken piece) step.out.items written (given ++ a.ticks) now s.0 s.2 a.holds)));
     }
 
     pub turn-broken : (g : StepFault) (y : Serving)
@@ -220,6 +215,5 @@ module _ {A : Type 0} (changes : A → State → A → State → Type 0) (limits
       ticks = a.ticks;
       moved = told-nothing la;
       given = a.given;
-      holds = subst (λ (w : List ℕ). FailsTelling changes fault.OutOfMemory limits channel first (read ++ piece) w (given ++ a.ticks) now)
-          (sym (append-nil written)) a.holds;
+      holds = rw (append-nil written) a.holds;
     }

@@ -20,11 +20,10 @@ use Rattle.ua_server.specs.History.{ConnectionEvent, Became, course_over, heard_
 use Rattle.ua_server.specs.History.{Heard, event_answer, with_changes, IsUndisturbed, moments_of, answered_at}
 use Rattle.ua_server.specs.Requests.{with_first, request_at, requests_of, requests_answered}
 use Rattle.ua_server.specs.Said.{say, start, Course, last_words, said_of, course_after, output_of, state_after, used_in}
-use Rattle.ua_server.specs.Serving.{moments_in, ServesTelling, told_at, end_at, AreAsked, BrokenOff}
+use Rattle.ua_server.specs.Serving.{moments_in, ServesTelling, told_at, end_at, BrokenOff}
 use Rattle.ua_server.specs.Serving.{coming_now, AnsweredAllRead, AnsweredTo, ServesBy, TellsBy, AreUsed}
 use Rattle.ua_server.specs.ServingOver.{IsSilent, LastSaid, Acts, AllAnswered, BrokenOver, FramesAnswered, ServesApplication, ServesOver, requests_over}
 use Rattle.ua_server.specs.State.{State, with_nodes}
-use Rattle.ua_server.specs.Stepping.{times_of_answers}
 use Rattle.ua_server.specs.declared.serve_fault.ServeFault.{ServeFault}
 use Rattle.ua_server.specs.declared.step.End.{End as Ending}
 use Rattle.ua_server.specs.declared.watch.AnsweredRequest.{AnsweredRequest}
@@ -46,12 +45,12 @@ undisturbed (Became nodes made ∷ hs) = undisturbed hs
 
 heard-told : (hs : List ConnectionEvent) → told_in (heard_only hs) ≡ told_in hs
 heard-told [] = refl
-heard-told (Heard t m ∷ hs) = ap (λ (x : List Told). t ∷ x) (heard-told hs)
+heard-told (Heard t m ∷ hs) = rw (heard-told hs)
 heard-told (Became nodes made ∷ hs) = heard-told hs
 
 heard-moments : (hs : List ConnectionEvent) → moments_of (heard_only hs) ≡ moments_of hs
 heard-moments [] = refl
-heard-moments (Heard t m ∷ hs) = ap (λ (x : List DateTime). times_of_answers (t ∷ []) m ++ x) (heard-moments hs)
+heard-moments (Heard t m ∷ hs) = rw (heard-moments hs)
 heard-moments (Became nodes made ∷ hs) = heard-moments hs
 
 same-requests : (channel : ℕ) (s : State) (n : ℕ) (a : Option Agreement) (hs : List ConnectionEvent) → IsUndisturbed hs
@@ -94,7 +93,7 @@ quiet-told channel c (Became nodes made ∷ hs) h = quiet-told channel c hs h
 
 module _ {A : Type 0} (changes : A → State → A → State → Type 0) (none : (a b : A) (s t : State) → changes a s b t → t ≡ s) (channel : ℕ) where
   same-state : (s : State) (nodes : Nodes) (made : ℕ) (a b : A) → changes a s b (with_nodes s nodes) → made ≡ s.made → with_changes s nodes made ≡ s
-  same-state s nodes made a b did e = ap (λ (k : ℕ). with_changes s nodes k) e ∙ none a b s (with_nodes s nodes) did
+  same-state s nodes made a b did e = rw e (none a b s (with_nodes s nodes) did)
 
   front-acts : (c : Course) (a b : A) (hs more : List ConnectionEvent) → Acts changes channel c a (hs ++ more) b → (d : A) × Acts changes channel c a hs d
   front-acts c a b [] more p = (a, refl)
@@ -143,44 +142,38 @@ module _ {A : Type 0} (changes : A → State → A → State → Type 0) (none :
       (acts : Acts changes channel (start first []) a hs b) where
     plain-state : (state_after channel first (told_in hs) ms).state ≡ (course_over channel (start first []) hs).state
     plain-state =
-        ap (λ (x : List DateTime). (state_after channel first (told_in hs) x).state) are
-        ∙ (ap (λ (c : Course). c.state) (left-more channel first (told_in hs) (moments_of hs) more (enough hs)) ∙ ap (λ (c : Course). c.state) (sym by-events))
+        rw (are, left-more channel first (told_in hs) (moments_of hs) more (enough hs), sym by-events)
       where
         by-events : course_over channel (start first []) hs ≡ state_after channel first (told_in hs) (moments_of hs)
         by-events =
             only-left first 1 None a b hs acts
             ∙ (same-left channel first 1 None (heard_only hs) (undisturbed hs)
-            ∙ (ap (λ (x : List DateTime). course_after channel (start first x) (told_in (heard_only hs))) (heard-moments hs)
-            ∙ (ap (λ (t : List Told). course_after channel (start first (moments_of hs)) t) (heard-told hs)
-            ∙ sym (state-is channel first (told_in hs) (moments_of hs)))))
+            ∙ (rw (heard-moments hs, heard-told hs) (sym (state-is channel first (told_in hs) (moments_of hs)))))
 
     plain-said : (end : End ℕ) → output_over channel (start first []) hs ++ last_words end ≡ output_of channel first (told_in hs) end ms
     plain-said end =
-        ap (λ (o : List ℕ). o ++ last_words end) by-events
-        ∙ (sym (output-is channel first (told_in hs) end (moments_of hs))
+        rw by-events (sym (output-is channel first (told_in hs) end (moments_of hs))
         ∙ (sym (said-more channel first (told_in hs) end (moments_of hs) more (enough hs))
-        ∙ ap (λ (x : List DateTime). output_of channel first (told_in hs) end x) (sym are)))
+        ∙ rw (sym are)))
       where
         by-events : output_over channel (start first []) hs ≡ said_of channel (start first (moments_of hs)) (told_in hs)
         by-events =
             only-said first 1 None a b hs acts
             ∙ (same-said channel first 1 None (heard_only hs) (undisturbed hs)
-            ∙ (ap (λ (x : List DateTime). said_of channel (start first x) (told_in (heard_only hs))) (heard-moments hs)
-            ∙ ap (λ (t : List Told). said_of channel (start first (moments_of hs)) t) (heard-told hs)))
+            ∙ (rw (heard-moments hs, heard-told hs)))
 
     plain-requests : requests_over channel (start first []) hs ≡ requests_answered channel first (told_in hs) ms
     plain-requests =
         by-events
         ∙ (sym (requests-are channel first (told_in hs) (moments_of hs))
         ∙ (sym (requests-more channel first (told_in hs) (moments_of hs) more (enough hs))
-        ∙ ap (λ (x : List DateTime). requests_answered channel first (told_in hs) x) (sym are)))
+        ∙ rw (sym are)))
       where
         by-events : requests_over channel (start first []) hs ≡ requests_of channel (start first (moments_of hs)) (told_in hs)
         by-events =
             only-requests first 1 None a b hs acts
             ∙ (same-requests channel first 1 None (heard_only hs) (undisturbed hs)
-            ∙ (ap (λ (x : List DateTime). requests_of channel (start first x) (told_in (heard_only hs))) (heard-moments hs)
-            ∙ ap (λ (t : List Told). requests_of channel (start first (moments_of hs)) t) (heard-told hs)))
+            ∙ (rw (heard-moments hs, heard-told hs)))
 
   -- ---- what serving comes to
 
@@ -194,17 +187,16 @@ module _ {A : Type 0} (changes : A → State → A → State → Type 0) (none :
       run = f.run;
       written_is = f.written_is
           ∙ (plain-said first a b hs moments f.moments_are.0 f.moments_are.1 acts end
-          ∙ ap (λ (t : List Told). output_of channel first t end moments) (sym f.told_is));
-      state_is = ap (λ (t : List Told). (state_after channel first t moments).state) f.told_is
-          ∙ (plain-state first a b hs moments f.moments_are.0 f.moments_are.1 acts ∙ f.state_is);
-      asked = subst (λ (t : List Told). AreAsked limits channel read t moments) (sym f.told_is) f.asked;
+          ∙ rw (sym f.told_is));
+      state_is = rw f.told_is (plain-state first a b hs moments f.moments_are.0 f.moments_are.1 acts ∙ f.state_is);
+      asked = rw f.told_is f.asked;
     }
 
     plain-told : (frames : List Frame) (rest : List ℕ) (end : End ℕ) → FramesAnswered limits channel first read written moments requested hs now frames rest end
         → requested ≡ requests_answered channel first (events (server_rules limits channel) frames) moments
     plain-told frames rest end f = f.requests_are
         ∙ (plain-requests first a b hs moments f.moments_are.0 f.moments_are.1 acts
-        ∙ ap (λ (t : List Told). requests_answered channel first t moments) (sym f.told_is))
+        ∙ rw (sym f.told_is))
 
     plain-answered : (end : End ℕ) (w : AllAnswered limits channel first read written moments requested hs now end)
         → (v : AnsweredAllRead limits channel first read written moments now end)
@@ -227,31 +219,30 @@ module _ {A : Type 0} (changes : A → State → A → State → Type 0) (none :
       told-up = told-heard p.before p.moment (told_at p.word)
 
       told-all : told_in hs ≡ (told_in p.before ++ told_at p.word) ++ told_in p.later
-      told-all = ap told_in split ∙ (told_in-append up_to p.later ∙ ap (λ (t : List Told). t ++ told_in p.later) told-up)
+      told-all = ap told_in split ∙ (told_in-append up_to p.later ∙ rw told-up)
 
       moments-up : moments ≡ moments_of up_to ++ (moments_of p.later ++ w.moments_are.0)
       moments-up = w.moments_are.1 ∙ (ap (λ (h : List ConnectionEvent). moments_of h ++ w.moments_are.0) split
-          ∙ (ap (λ (ms : List DateTime). ms ++ w.moments_are.0) (moments_of-append up_to p.later)
-          ∙ append_assoc (moments_of up_to) (moments_of p.later) w.moments_are.0))
+          ∙ (rw (moments_of-append up_to p.later) (append_assoc (moments_of up_to) (moments_of p.later) w.moments_are.0)))
 
       moments-before : moments ≡ moments_of p.before ++ (moments_of (heard_at p.moment (told_at p.word)) ++ (moments_of p.later ++ w.moments_are.0))
       moments-before = moments-up
-          ∙ (ap (λ (ms : List DateTime). ms ++ (moments_of p.later ++ w.moments_are.0)) (moments_of-append p.before (heard_at p.moment (told_at p.word)))
-          ∙ append_assoc (moments_of p.before) (moments_of (heard_at p.moment (told_at p.word))) (moments_of p.later ++ w.moments_are.0))
+          ∙ (rw (moments_of-append p.before (heard_at p.moment (told_at p.word)))
+          (append_assoc (moments_of p.before) (moments_of (heard_at p.moment (told_at p.word))) (moments_of p.later ++ w.moments_are.0)))
 
       acts-up : (d : A) × Acts changes channel (start first []) a up_to d
-      acts-up = front-acts (start first []) a b up_to p.later (subst (λ (h : List ConnectionEvent). Acts changes channel (start first []) a h b) split acts)
+      acts-up = front-acts (start first []) a b up_to p.later (rw (← split) acts)
 
       acts-before : (d : A) × Acts changes channel (start first []) a p.before d
       acts-before = front-acts (start first []) a acts-up.0 p.before (heard_at p.moment (told_at p.word)) acts-up.1
 
       state-up : (state_after channel first (told_in p.before ++ told_at p.word) moments).state ≡ now
       state-up =
-          ap (λ (c : Course). c.state)
-          (sym (left-append channel first (told_in p.before ++ told_at p.word) (told_in p.later) moments
-          ∙ quiet-told channel (state_after channel first (told_in p.before ++ told_at p.word) moments) p.later p.silent))
-          ∙ (ap (λ (t : List Told). (state_after channel first t moments).state) (sym told-all)
-          ∙ (plain-state first a b hs moments w.moments_are.0 w.moments_are.1 acts ∙ w.state_is))
+          rw (
+            sym (left-append channel first (told_in p.before ++ told_at p.word) (told_in p.later) moments
+                ∙ quiet-told channel (state_after channel first (told_in p.before ++ told_at p.word) moments) p.later p.silent),
+            sym told-all,
+          ) (plain-state first a b hs moments w.moments_are.0 w.moments_are.1 acts ∙ w.state_is)
 
       used-up : AreUsed (told_in p.before ++ told_at p.word) moments
       used-up =
@@ -267,8 +258,8 @@ module _ {A : Type 0} (changes : A → State → A → State → Type 0) (none :
           moments-before acts-before.1 Going
 
       said-up : output_of channel first (told_in p.before ++ told_at p.word) (end_at p.word) moments ≡ written ++ w.unwritten
-      said-up = ap (λ (t : List Told). output_of channel first t (end_at p.word) moments) (sym told-up)
-          ∙ (sym (plain-said first a acts-up.0 up_to moments (moments_of p.later ++ w.moments_are.0) moments-up acts-up.1 (end_at p.word)) ∙ p.said_is)
+      said-up = rw (sym told-up) (sym (plain-said first a acts-up.0 up_to moments (moments_of p.later ++ w.moments_are.0) moments-up acts-up.1 (end_at p.word))
+          ∙ p.said_is)
 
       abbrev plain-broken : BrokenOff limits channel first read written moments now
       plain-broken = record {
@@ -281,7 +272,7 @@ module _ {A : Type 0} (changes : A → State → A → State → Type 0) (none :
         state_is = state-up;
         used = used-up;
         part = p.part;
-        written_is = p.written_is ∙ ap (λ (o : List ℕ). o ++ p.part) said-before;
+        written_is = p.written_is ∙ rw said-before;
         unwritten = w.unwritten;
         said_is = said-up;
       }
@@ -291,11 +282,10 @@ module _ {A : Type 0} (changes : A → State → A → State → Type 0) (none :
       asked-up =
           ap (λ (h : List ConnectionEvent). requests_over channel (start first []) h) split
           ∙ (requests_over-append channel (start first []) up_to p.later
-          ∙ (ap (λ (r : List AnsweredRequest). requests_over channel (start first []) up_to ++ r)
-          (silent-requests channel (course_over channel (start first []) up_to) p.later p.silent)
-          ∙ (append-nil (requests_over channel (start first []) up_to)
+          ∙ (rw (silent-requests channel (course_over channel (start first []) up_to) p.later p.silent)
+          (append-nil (requests_over channel (start first []) up_to)
           ∙ (plain-requests first a acts-up.0 up_to moments (moments_of p.later ++ w.moments_are.0) moments-up acts-up.1
-          ∙ ap (λ (t : List Told). requests_answered channel first t moments) told-up))))
+          ∙ rw told-up))))
 
       asked-before : requests_over channel (start first []) p.before ≡ requests_answered channel first (told_in p.before) moments
       asked-before = plain-requests first a acts-before.0 p.before moments

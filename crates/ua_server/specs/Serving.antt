@@ -195,14 +195,6 @@ ServesBy (Err fault.TooLong) limits channel first read written moments now comin
 abbrev pub TellsAll : (limits : Limits) (channel : ℕ) (first : State) (moments : List DateTime) → List Frame → List AnsweredRequest → Type 0
 TellsAll limits channel first moments frames told = told ≡ requests_answered channel first (events (server_rules limits channel) frames) moments
 
--- how a connection ended that its own bytes ended
-abbrev pub TellsAtEnd : (end : Ending) (limits : Limits) (channel : ℕ) (first : State) (read written : List ℕ) (moments : List DateTime) (now : State)
-    → EndsBy end limits channel first read written moments now → List AnsweredRequest → Type 0
-TellsAtEnd ending.Closed limits channel first read written moments now a told = TellsAll limits channel first moments a.frames told
-TellsAtEnd (ending.Refused code) limits channel first read written moments now a told = TellsAll limits channel first moments a.frames told
-TellsAtEnd ending.NoClose limits channel first read written moments now a told = ⊥
-TellsAtEnd ending.Cut limits channel first read written moments now a told = ⊥
-
 -- how an answer failed: at a failed write the request of the last answer is told; if an allocation
 -- fails it is told if that answer is written whole, and not if none of it is
 abbrev pub FailTells : (f : ServeFault) (limits : Limits) (channel : ℕ) (first : State) (read written : List ℕ) (moments : List DateTime) (now : State)

@@ -6,26 +6,22 @@ use Rattle.ua_frame.specs.Run.{Going, Run, Stopped, Over, events}
 use Rattle.ua_frame.specs.declared.frame.Frame.{Frame}
 use Rattle.ua_frame.specs.declared.limits.Limits.{Limits}
 use Rattle.ua_channel.specs.Agreement.{Agreement}
-use Rattle.ua_channel.specs.Received.{has_some, listed}
 use Rattle.ua_channel.specs.ServerAnswers.{AnswersAt}
 use Rattle.ua_channel.specs.ServerRules.{server_rules}
-use Rattle.ua_channel.specs.ServerStands.{channel_of, next_of, IsDone, Goes, GoesTelling, ClosedAt, RefusedAt}
+use Rattle.ua_channel.specs.ServerStands.{channel_of, limits_of, next_of, IsDone, Goes, GoesTelling, ClosedAt, RefusedAt}
 use Rattle.ua_channel.specs.ServerTold.{Told, GaveUp, Asked, Closed}
 use Rattle.ua_channel.specs.declared.server.ServerChannel.{ServerChannel}
 use Rattle.ua_channel.specs.declared.server_event.ServerEvent.{ServerEvent}
 use Rattle.ua_channel.specs.declared.server_event.ServerEvent.TheVariants as event
 use Rattle.ua_channel.specs.declared.server_fault.ChannelFault.{ChannelFault}
 use Rattle.ua_server.specs.Reply.{answered}
-use Rattle.ua_server.specs.Requests.{requests_answered}
 use Rattle.ua_server.specs.Said.{is_answered, lane_at, state_after, replied_at, output_of, used_in}
 use Rattle.ua_server.specs.State.{State}
-use Rattle.ua_server.specs.declared.step.Advanced.{Advanced}
 use Rattle.ua_server.specs.declared.step.End.{End as Ending}
 use Rattle.ua_server.specs.declared.step.End.TheVariants as ending
 use Rattle.ua_server.specs.declared.step.Step.{Step}
 use Rattle.ua_server.specs.declared.step.StepFault.{StepFault}
 use Rattle.ua_server.specs.declared.step.StepFault.TheVariants as step_fault
-use Rattle.ua_server.specs.declared.watch.AnsweredRequest.{AnsweredRequest}
 
 -- ---- where a server stands
 
@@ -185,40 +181,13 @@ is_given_up (Ok (event.Asked id message)) = false
 is_given_up (Ok event.Closed) = false
 is_given_up (Err f) = false
 
--- what is answered after messages that were aborted
-pub record AnswersBehind (channel number : ℕ) (moment : DateTime) (piece : List ℕ) (n : ℕ) (answer : Result ServerEvent ChannelFault) (new : ServerChannel)
+-- what a channel answers after messages that were aborted
+pub record AnswersBehind (old : ServerChannel) (moment : DateTime) (piece : List ℕ) (n : ℕ) (answer : Result ServerEvent ChannelFault) (new : ServerChannel)
     (octets : List ℕ) (before : List Told) : Type 0 where
+  pub limits : limits_of new ≡ limits_of old
+  pub channel : channel_of new ≡ channel_of old
   pub quiet : List ℕ
-  pub answers : AnswersAt channel number moment piece n answer new octets (before ++ given_up quiet)
-
--- what is answered is told separately, and which request it is, if it is one
-pub record StepTells (answered : Bool) (request : Option AnsweredRequest) (channel : ℕ) (moment : DateTime) (piece : List ℕ) (n : ℕ) (out : List ℕ)
-    (new : ServerChannel) (octets : List ℕ) (told : List Told) (first : State) (moments : List DateTime) (now : State) : Type 0 where
-  pub goes : StepGoes channel moment piece n out new octets told first moments now
-  pub answered_is : answered ≡ has_some goes.more
-  pub requests_are : requests_answered channel first ((told ++ given_up goes.quiet) ++ goes.more) (moments ++ times_of_answers goes.more moment)
-      ≡ requests_answered channel first told moments ++ listed request
-
--- the same by how the connection ended, with whether something was answered, and which request
-abbrev pub AdvanceBy : Bool → Option AnsweredRequest → ℕ → DateTime → List ℕ → Option Ending → ℕ → List ℕ → ServerChannel → List ℕ → List Told → State
-    → List DateTime → State → State → Type 0
-AdvanceBy answered request channel moment piece None n out new octets told first moments before now =
-    StepTells answered request channel moment piece n out new octets told first moments now
-AdvanceBy answered request channel moment piece (Some end) n out new octets told first moments before now =
-    StepBy channel moment piece (Some end) n out new octets told first moments before now × (answered ≡ false)
-
--- the outcome of a step, with whether something was answered, and which request
-abbrev pub Advances : Limits → ℕ → DateTime → List ℕ → Result Advanced StepFault → ServerChannel → List ℕ → List Told → State → List DateTime → State → State
-    → Type 0
-Advances limits channel moment piece (Ok found) new octets told first moments before now =
-    AdvanceBy found.answered found.request channel moment piece found.step.end found.step.taken found.step.out.items new octets told first moments before now
-Advances limits channel moment piece (Err f) new octets told first moments before now =
-    StepAnswers limits channel moment piece (Err f) new octets told first moments before now
-
--- the state in which it leaves a server, with whether something was answered
-abbrev pub AdvanceStands : List ℕ → Result Advanced StepFault → ServerChannel → List ℕ → List Told → Type 0
-AdvanceStands piece (Ok found) new octets told = StandsBy piece found.step.end found.step.taken found.step.out.items new octets told
-AdvanceStands piece (Err f) new octets told = StepStands piece (Err f) new octets told
+  pub answers : AnswersAt (channel_of old) (next_of old) moment piece n answer new octets (before ++ given_up quiet)
 
 -- these bytes are a reply by the agreement, and the number after them is this
 abbrev pub IsReplyAt : ℕ → ℕ → Option Agreement → List ℕ → ℕ → ℕ → List ℕ → ℕ → Type 0

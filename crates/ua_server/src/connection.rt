@@ -3,17 +3,17 @@
 ghost use Rattle.std.specs.Prelude.{◌≡◌, ◌≤◌, ◌↔◌, [], ℕ, List, Err, None, IfOk, OnErr, IsErrOf, IsTrue};
 ghost use Rattle.std.specs.Map.{keys_of};
 ghost use Rattle.ua_channel.specs.Received.{received};
-ghost use Rattle.ua_channel.specs.ServerStands.{limits_of, channel_of, next_of, bound_of, bound_after};
+ghost use Rattle.ua_channel.specs.ServerStands.{limits_of, channel_of, bound_of, bound_after};
 ghost use Rattle.ua_channel.specs.ServerStands.{held_after, Goes, IsDone, ChannelStands as Holds};
 ghost use Rattle.ua_channel.specs.ServerTold.{Told};
 ghost use Rattle.ua_frame.specs.declared.frame.Frame.{Frame};
-ghost use Rattle.ua_server.specs.History.{ConnectionEvent, StandsOver, StepOver};
+ghost use Rattle.ua_server.specs.History.{StandsOver};
 ghost use Rattle.ua_server.specs.Now.{StepNow};
 ghost use Rattle.ua_server.specs.Served.{channel_at, session_at, with_own_session};
 ghost use Rattle.ua_server.specs.Serving.{IsClean};
 ghost use Rattle.ua_server.specs.Sharing.{SharedEvent, StandsAmong, StepAmong, opened, shared_over, told_by};
 ghost use Rattle.ua_server.specs.State.{State};
-ghost use Rattle.ua_server.specs.Stepping.{StepStands, StepTakes};
+ghost use Rattle.ua_server.specs.Stepping.{StepTakes};
 ghost use Rattle.ua_server.specs.Storing.{StepStores};
 ghost use Rattle.ua_server.specs.declared.step.StepFault.TheVariants as step_fault;
 
@@ -104,18 +104,8 @@ impl Connection {
             (session_at self.new) octets es first services.old services.new }
         // As a function of the current state alone, however it arose.
         ensures now { (octets : List ℕ) (told : List Told) → Goes (channel_at self.old) octets told
-            → StepNow (limits_of (channel_at self.old)) (channel_of (channel_at self.old))
-            (next_of (channel_at self.old)) moment piece.now result (channel_at self.new) octets told
+            → StepNow (channel_at self.old) moment piece.now result (channel_at self.new) octets told
             (with_own_session self.old services.old) (with_own_session self.new services.new) }
-        // The same over the events of this connection, whatever changed the services before.
-        ensures history { (octets : List ℕ) (hs : List ConnectionEvent) (first : State)
-            → StandsOver (channel_at self.old) octets hs first (with_own_session self.old services.old)
-            → StepOver (limits_of (channel_at self.old)) (channel_of (channel_at self.old)) moment piece.now result
-            (channel_at self.new) octets hs first (with_own_session self.old services.old)
-            (with_own_session self.new services.new) }
-        // The state of the channel afterwards is the same whatever the services are.
-        ensures stands { (octets : List ℕ) (told : List Told) → Goes (channel_at self.old) octets told
-            → StepStands piece.now result (channel_at self.new) octets told }
         ensures apart { services.new.session ≡ services.old.session }
         ensures endpoint { services.new.endpoint ≡ services.old.endpoint }
         ensures memory_limit { services.new.memory_limit ≡ services.old.memory_limit }
@@ -151,18 +141,8 @@ impl Connection {
             (session_at self.new) octets es first services.old services.new }
         // As a function of the current state alone, however it arose.
         ensures now { (octets : List ℕ) (told : List Told) → Goes (channel_at self.old) octets told
-            → StepNow (limits_of (channel_at self.old)) (channel_of (channel_at self.old))
-            (next_of (channel_at self.old)) moment piece.now result (channel_at self.new) octets told
+            → StepNow (channel_at self.old) moment piece.now result (channel_at self.new) octets told
             (with_own_session self.old services.old) (with_own_session self.new services.new) }
-        // The same over the events of this connection, whatever changed the services before.
-        ensures history { (octets : List ℕ) (hs : List ConnectionEvent) (first : State)
-            → StandsOver (channel_at self.old) octets hs first (with_own_session self.old services.old)
-            → StepOver (limits_of (channel_at self.old)) (channel_of (channel_at self.old)) moment piece.now result
-            (channel_at self.new) octets hs first (with_own_session self.old services.old)
-            (with_own_session self.new services.new) }
-        // The state of the channel afterwards is the same whatever the services are.
-        ensures stands { (octets : List ℕ) (told : List Told) → Goes (channel_at self.old) octets told
-            → StepStands piece.now result (channel_at self.new) octets told }
         // `written` has just the items that were stored by the Write that this step answered, in
         // order, and nothing of another step.
         ensures stores { (octets : List ℕ) (told : List Told) → Goes (channel_at self.old) octets told

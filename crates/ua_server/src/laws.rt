@@ -3,8 +3,8 @@
 ghost use Rattle.std.specs.Prelude.{◌≡◌, ◌≤◌, ◌++◌, ◌∷◌, [], ℕ, List, length, IsTrue, Option, Some, Result, Ok};
 ghost use Rattle.ua_builtin.specs.DateTime.{date_time};
 ghost use Rattle.ua_builtin.specs.declared.date_time.DateTime.{DateTime};
-ghost use Rattle.ua_channel.specs.ServerStands.{limits_of, channel_of, next_of, ClosedAt};
-ghost use Rattle.ua_channel.specs.ServerStands.{RefusedAt, ChannelStands as Holds};
+ghost use Rattle.ua_channel.specs.ServerStands.{limits_of, channel_of};
+ghost use Rattle.ua_channel.specs.ServerStands.{ChannelStands as Holds};
 ghost use Rattle.ua_channel_laws.specs.ServerReads.{AtServer, ServerCloses, ServerReads};
 ghost use Rattle.ua_channel.specs.Stops.{StopsAt};
 ghost use Rattle.ua_channel.specs.declared.server.ServerChannel.{ServerChannel};
@@ -19,7 +19,7 @@ ghost use Rattle.ua_nodes.specs.Write.{after_write};
 ghost use Rattle.ua_server.specs.History.{ConnectionEvent, Became, IsUndisturbed, StandsOver, StepOver};
 ghost use Rattle.ua_server.specs.History.{course_over, with_changes, moments_of, output_over, told_in};
 ghost use Rattle.ua_server.specs.Now.{StepNow};
-ghost use Rattle.ua_server.specs.Stepping.{ServerStands, StepAnswers};
+ghost use Rattle.ua_server.specs.Stepping.{ServerStands, StepAnswers, StepStands};
 ghost use Rattle.ua_server.specs.declared.step.Step.{Step};
 ghost use Rattle.ua_server.specs.declared.step.StepFault.{StepFault};
 ghost use Rattle.ua_server.specs.Said.{Course, start, with_more, said_of, course_after};
@@ -89,13 +89,17 @@ pub fn later_moments_change_nothing_before()
 {}
 
 /// A step defined by the current state alone answers as one defined by all events before it,
-/// wherever these lead to the current state.
+/// wherever these lead to the current state; and where it leaves the channel is the same whatever
+/// the services are.
 pub fn what_stands_answers_as_all_that_was_told()
-    ensures { (old new : ServerChannel) (moment : DateTime) (piece octets : List ℕ) (told : List Told) (first : State)
-        (moments : List DateTime) (before now : State) (result : Result Step StepFault)
+    ensures answers { (old new : ServerChannel) (moment : DateTime) (piece octets : List ℕ) (told : List Told)
+        (first : State) (moments : List DateTime) (before now : State) (result : Result Step StepFault)
         → ServerStands old octets told first moments before → channel_of new ≡ channel_of old
-        → StepNow (limits_of old) (channel_of old) (next_of old) moment piece result new octets told before now
+        → StepNow old moment piece result new octets told before now
         → StepAnswers (limits_of old) (channel_of old) moment piece result new octets told first moments before now }
+    ensures stands { (old new : ServerChannel) (moment : DateTime) (piece octets : List ℕ) (told : List Told)
+        (before now : State) (result : Result Step StepFault)
+        → StepNow old moment piece result new octets told before now → StepStands piece result new octets told }
 {}
 
 /// The history of a server's connection goes on by each change of its nodes, by the application or
@@ -113,7 +117,7 @@ pub fn a_history_goes_on_by_changes_and_steps()
     ensures steps { (old new : ServerChannel) (moment : DateTime) (piece octets : List ℕ) (hs : List ConnectionEvent)
         (first before now : State) (result : Result Step StepFault)
         → StandsOver old octets hs first before → channel_of new ≡ channel_of old
-        → StepNow (limits_of old) (channel_of old) (next_of old) moment piece result new octets (told_in hs) before now
+        → StepNow old moment piece result new octets (told_in hs) before now
         → StepOver (limits_of old) (channel_of old) moment piece result new octets hs first before now }
     ensures unchanged { (channel : ℕ) (s : State) (hs : List ConnectionEvent) → IsUndisturbed hs
         → output_over channel (start s []) hs ≡ said_of channel (start s (moments_of hs)) (told_in hs) }

@@ -7,9 +7,9 @@ ghost use Rattle.ua_channel.specs.ServerStands.{limits_of, channel_of, next_of, 
 ghost use Rattle.ua_channel.specs.ServerTold.{Told};
 ghost use Rattle.ua_channel.specs.declared.server.ServerChannel.{ServerChannel};
 ghost use Rattle.ua_channel.specs.declared.server_fault.ChannelFault.TheVariants as channel_fault;
-ghost use Rattle.ua_server.specs.Now.{NowBehind, StepNow};
+ghost use Rattle.ua_server.specs.Now.{StepNow};
 ghost use Rattle.ua_server.specs.State.{State};
-ghost use Rattle.ua_server.specs.Stepping.{AnswersBehind, StepStands, is_given_up};
+ghost use Rattle.ua_server.specs.Stepping.{AnswersBehind, is_given_up};
 ghost use Rattle.ua_server.specs.declared.step.StepFault.TheVariants as step_fault;
 
 use crate::reply::Replied;
@@ -40,8 +40,7 @@ fn next_answered(
     moment: DateTime,
 ) -> Taken<Result<ServerEvent, ChannelFault>>
     ensures answers { (octets : List ℕ) (told : List Told) → Goes channel.old octets told
-        → AnswersBehind (channel_of channel.old) (next_of channel.old) moment piece.now result.size result.outcome
-        channel.new octets told }
+        → AnswersBehind channel.old moment piece.now result.size result.outcome channel.new octets told }
     ensures progress { Progress piece.now result.size result.outcome }
     ensures some { is_given_up result.outcome ≡ false }
     ensures closed { IsDone channel.old → (result.outcome ≡ Err channel_fault.Closed) × (channel.new ≡ channel.old) }
@@ -76,13 +75,10 @@ fn next_answered(
 /// The step for a fault of the channel after this many bytes: its output is the ERR frame with the
 /// reason for the refusal.
 fn refusal(alloc: Global, taken: usize, fault: ChannelFault) -> Result<Step, StepFault>
-    ensures stands { (old mid : ServerChannel) (moment : DateTime) (piece octets : List ℕ) (told : List Told)
-        → AnswersBehind (channel_of old) (next_of old) moment piece taken (Err fault) mid octets told
-        → StepStands piece result mid octets told }
     ensures now { (old mid : ServerChannel) (moment : DateTime) (piece octets : List ℕ) (told : List Told)
         (before : State)
-        → NowBehind old moment piece taken (Err fault) mid octets told
-        → StepNow (limits_of old) (channel_of old) (next_of old) moment piece result mid octets told before before }
+        → AnswersBehind old moment piece taken (Err fault) mid octets told
+        → StepNow old moment piece result mid octets told before before }
     ensures taken { IfOk result (λ step. (step.taken ≡ taken) × (step.end ≡ None → ⊥)) }
     ensures closed { fault ≡ channel_fault.Closed → result ≡ Err step_fault.Closed }
 {
@@ -114,7 +110,7 @@ pub struct Server {
 }
 
 impl Server {
-    ghost use Rattle.std.specs.Prelude.{◌≡◌, ◌≤◌, ◌↔◌, ◌⊎◌, ◌++◌, [], ℕ, List, length, take};
+    ghost use Rattle.std.specs.Prelude.{◌≡◌, ◌≤◌, ◌↔◌, ◌⊎◌, [], ℕ, List};
     ghost use Rattle.std.specs.Prelude.{None, false, Ok, Err, IfOk, OnErr, IsErrOf, IsTrue};
     ghost use Rattle.std.specs.List.{concat};
     ghost use Rattle.std.specs.Map.{keys_of};
@@ -128,16 +124,15 @@ impl Server {
     ghost use Rattle.ua_channel.specs.declared.server.ServerChannel.{ServerChannel};
     ghost use Rattle.ua_frame.specs.declared.frame.Frame.{Frame};
     ghost use Rattle.ua_services.specs.Response.{response};
-    ghost use Rattle.ua_server.specs.History.{ConnectionEvent, StandsOver, StepOver};
-    ghost use Rattle.ua_server.specs.Now.{AdvanceNow, NowBehind, StepNow};
+    ghost use Rattle.ua_server.specs.History.{StandsOver};
+    ghost use Rattle.ua_server.specs.Now.{AdvanceNow, StepNow};
     ghost use Rattle.ua_server.specs.Reply.{answered};
     ghost use Rattle.ua_server.specs.Requests.{request_answered};
     ghost use Rattle.ua_server.specs.Said.{lane_at};
     ghost use Rattle.ua_server.specs.Served.{channel_in};
     ghost use Rattle.ua_server.specs.Serving.{IsClean};
     ghost use Rattle.ua_server.specs.State.{State};
-    ghost use Rattle.ua_server.specs.Stepping.{AnswersBehind, Advances, AdvanceStands, IsReplyAt, ServerStands};
-    ghost use Rattle.ua_server.specs.Stepping.{StepAnswers, StepStands, StepTakes, is_given_up};
+    ghost use Rattle.ua_server.specs.Stepping.{AnswersBehind, IsReplyAt, ServerStands, StepTakes, is_given_up};
     ghost use Rattle.ua_server.specs.Stored.{stored_of};
     ghost use Rattle.ua_server.specs.Storing.{AdvanceStores, StepStores};
     ghost use Rattle.ua_server.specs.declared.step.StepFault.TheVariants as step_fault;
@@ -192,23 +187,10 @@ impl Server {
         piece: &[u8],
         moment: DateTime,
     ) -> Result<Step, StepFault>
-        ensures answers { (octets : List ℕ) (told : List Told) (first : State) (moments : List DateTime)
-            → ServerStands (channel_in self.old) octets told first moments services.old
-            → StepAnswers (limits_of (channel_in self.old)) (channel_of (channel_in self.old)) moment piece.now result
-            (channel_in self.new) octets told first moments services.old services.new }
         // As a function of the current state alone, however it arose.
         ensures now { (octets : List ℕ) (told : List Told) → Goes (channel_in self.old) octets told
-            → StepNow (limits_of (channel_in self.old)) (channel_of (channel_in self.old))
-            (next_of (channel_in self.old)) moment piece.now result (channel_in self.new) octets told services.old
+            → StepNow (channel_in self.old) moment piece.now result (channel_in self.new) octets told services.old
             services.new }
-        // The same over the events of the connection, whatever changed its services before.
-        ensures history { (octets : List ℕ) (hs : List ConnectionEvent) (first : State)
-            → StandsOver (channel_in self.old) octets hs first services.old
-            → StepOver (limits_of (channel_in self.old)) (channel_of (channel_in self.old)) moment piece.now result
-            (channel_in self.new) octets hs first services.old services.new }
-        // The state of the channel afterwards is the same whatever the services are.
-        ensures stands { (octets : List ℕ) (told : List Told) → Goes (channel_in self.old) octets told
-            → StepStands piece.now result (channel_in self.new) octets told }
         ensures endpoint { services.new.endpoint ≡ services.old.endpoint }
         ensures memory_limit { services.new.memory_limit ≡ services.old.memory_limit }
         // No node comes, goes or moves.
@@ -236,23 +218,10 @@ impl Server {
         moment: DateTime,
         written: &mut Written,
     ) -> Result<Step, StepFault>
-        ensures answers { (octets : List ℕ) (told : List Told) (first : State) (moments : List DateTime)
-            → ServerStands (channel_in self.old) octets told first moments services.old
-            → StepAnswers (limits_of (channel_in self.old)) (channel_of (channel_in self.old)) moment piece.now result
-            (channel_in self.new) octets told first moments services.old services.new }
         // As a function of the current state alone, however it arose.
         ensures now { (octets : List ℕ) (told : List Told) → Goes (channel_in self.old) octets told
-            → StepNow (limits_of (channel_in self.old)) (channel_of (channel_in self.old))
-            (next_of (channel_in self.old)) moment piece.now result (channel_in self.new) octets told services.old
+            → StepNow (channel_in self.old) moment piece.now result (channel_in self.new) octets told services.old
             services.new }
-        // The same over the events of the connection, whatever changed its services before.
-        ensures history { (octets : List ℕ) (hs : List ConnectionEvent) (first : State)
-            → StandsOver (channel_in self.old) octets hs first services.old
-            → StepOver (limits_of (channel_in self.old)) (channel_of (channel_in self.old)) moment piece.now result
-            (channel_in self.new) octets hs first services.old services.new }
-        // The state of the channel afterwards is the same whatever the services are.
-        ensures stands { (octets : List ℕ) (told : List Told) → Goes (channel_in self.old) octets told
-            → StepStands piece.now result (channel_in self.new) octets told }
         // `written` has just the items that were stored by the Write that this step answered, in
         // order, and nothing of another step.
         ensures stores { (octets : List ℕ) (told : List Told) → Goes (channel_in self.old) octets told
@@ -294,16 +263,9 @@ impl Server {
         moment: DateTime,
         written: &mut Written,
     ) -> Result<Advanced, StepFault>
-        ensures answers { (octets : List ℕ) (told : List Told) (first : State) (moments : List DateTime)
-            → ServerStands (channel_in self.old) octets told first moments services.old
-            → Advances (limits_of (channel_in self.old)) (channel_of (channel_in self.old)) moment piece.now result
-            (channel_in self.new) octets told first moments services.old services.new }
         ensures now { (octets : List ℕ) (told : List Told) → Goes (channel_in self.old) octets told
-            → AdvanceNow (limits_of (channel_in self.old)) (channel_of (channel_in self.old))
-            (next_of (channel_in self.old)) moment piece.now result (channel_in self.new) octets told services.old
+            → AdvanceNow (channel_in self.old) moment piece.now result (channel_in self.new) octets told services.old
             services.new }
-        ensures stands { (octets : List ℕ) (told : List Told) → Goes (channel_in self.old) octets told
-            → AdvanceStands piece.now result (channel_in self.new) octets told }
         ensures stores { (octets : List ℕ) (told : List Told) → Goes (channel_in self.old) octets told
             → AdvanceStores piece.now result written.new (channel_in self.new) octets told services.old }
         ensures failed { OnErr result (written.new ≡ []) }
@@ -347,15 +309,12 @@ impl Server {
         requires some { is_given_up (Ok event) ≡ false }
         requires empty { written.old ≡ [] }
         ensures now { (old : ServerChannel) (piece octets : List ℕ) (told : List Told)
-            → NowBehind old moment piece taken (Ok event) (channel_in self.old) octets told
-            → AdvanceNow (limits_of old) (channel_of old) (next_of old) moment piece result (channel_in self.new) octets
+            → AnswersBehind old moment piece taken (Ok event) (channel_in self.old) octets told
+            → AdvanceNow old moment piece result (channel_in self.new) octets
             told services.old services.new }
-        ensures stands { (old : ServerChannel) (piece octets : List ℕ) (told : List Told)
-            → AnswersBehind (channel_of old) (next_of old) moment piece taken (Ok event) (channel_in self.old) octets
-            told → AdvanceStands piece result (channel_in self.new) octets told }
         ensures stores { (old : ServerChannel) (piece octets : List ℕ) (told : List Told)
-            → AnswersBehind (channel_of old) (next_of old) moment piece taken (Ok event) (channel_in self.old) octets
-            told → AdvanceStores piece result written.new (channel_in self.new) octets told services.old }
+            → AnswersBehind old moment piece taken (Ok event) (channel_in self.old) octets told
+            → AdvanceStores piece result written.new (channel_in self.new) octets told services.old }
         ensures failed { OnErr result (written.new ≡ []) }
         ensures endpoint { services.new.endpoint ≡ services.old.endpoint }
         ensures memory_limit { services.new.memory_limit ≡ services.old.memory_limit }
@@ -363,9 +322,7 @@ impl Server {
         ensures ids { keys_of services.new.nodes ≡ keys_of services.old.nodes }
         ensures taken { IfOk result (λ found. found.step.taken ≡ taken) }
         ensures starved { (old : ServerChannel) (piece octets : List ℕ) (told : List Told) → Goes old octets told
-            → limits_of (channel_in self.old) ≡ limits_of old
-            → AnswersBehind (channel_of old) (next_of old) moment piece taken (Ok event) (channel_in self.old) octets
-            told
+            → AnswersBehind old moment piece taken (Ok event) (channel_in self.old) octets told
             → IsErrOf result step_fault.OutOfMemory → bound_of (channel_in self.new) ≡ bound_of old }
         ensures limits { limits_of (channel_in self.new) ≡ limits_of (channel_in self.old) }
         ensures channel { channel_of (channel_in self.new) ≡ channel_of (channel_in self.old) }

@@ -8,15 +8,15 @@ ghost use Rattle.ua_frame.specs.Frames.{frame_octets};
 ghost use Rattle.ua_frame.specs.declared.frame.Frame.{Frame};
 ghost use Rattle.ua_channel.specs.Asks.{Placed, asked_in, next_id};
 ghost use Rattle.ua_channel.specs.Asks.Asking.{Call, Renewal};
-ghost use Rattle.ua_channel.specs.Client.{ClientStands, ClientGoes, ClientStarvedAt, IsClientDone, SameClient};
+ghost use Rattle.ua_channel.specs.Client.{ClientStands, ClientGoes, IsClientDone, SameClient};
 ghost use Rattle.ua_channel.specs.Client.{client_limits, url_of, client_next, client_bound};
 ghost use Rattle.ua_channel.specs.Client.{client_bound_behind, held_octets, call_refused, renewal_refused};
 ghost use Rattle.ua_channel.specs.Client.{closing_refused, JudgesLength, SendsCall, SendsRenewal, SendsClosing};
-ghost use Rattle.ua_channel.specs.ClientAnswers.{ClientAnswers, ComesInParts, ClientProgress, parts_handed};
+ghost use Rattle.ua_channel.specs.ClientAnswers.{ClientAnswers, ClientProgress};
 ghost use Rattle.ua_channel.specs.ClientAsks.{call_reasons, closing_reasons, renewing_reasons};
 ghost use Rattle.ua_channel.specs.ClientAsks.{AnswersFor, IsCalled, IsCloseWith, IsRenewalWith, JudgesBy};
 ghost use Rattle.ua_channel.specs.inside.ClientParts.{AnswersEvent, EndsWithEvent, outcome_counted};
-ghost use Rattle.ua_channel.specs.ClientSends.{AreFramesOf, hello_frame, hello_to};
+ghost use Rattle.ua_channel.specs.ClientSends.{AreFramesOf, appended, hello_frame, hello_to};
 ghost use Rattle.ua_channel.specs.ClientTold.{ClientTold};
 ghost use Rattle.ua_channel.specs.Received.{received};
 ghost use Rattle.ua_channel.specs.declared.client.fault.AskFault.TheVariants.{NotOpen};
@@ -147,15 +147,18 @@ impl ClientChannel {
         }
     }
 
-    /// Sends a call with this body: returns its chunks, where their frames end, and the RequestId
-    /// under which it is answered.
-    pub fn call(&mut self, body: &[u8]) -> Result<AskedCall, AskFault>
+    /// Sends a call with this body: appends its chunks to `out`, and returns where their frames
+    /// end, and the RequestId under which it is answered. A fault leaves `out` as it was.
+    pub fn call(&mut self, body: &[u8], out: &mut Vec<u8>) -> Result<AskedCall, AskFault>
         requires { 0 < length body.now }
         ensures answers { AnswersFor (call_refused self.old 0 body.now) result }
+        ensures behind { OnOk result (out.new.items ≡ out.old.items ++ appended out.old.items out.new.items) }
+        ensures len { IfOk result (λ asked. asked.len ≡ length (appended out.old.items out.new.items)) }
         ensures sent { IfOk result
-            (λ asked. SendsCall self.old (client_next self.old) body.now asked.id asked.octets.items
-            (client_next self.new)) }
-        ensures frames { IfOk result (λ asked. AreFramesOf asked.frame_len asked.octets.items) }
+            (λ asked. SendsCall self.old (client_next self.old) body.now asked.id
+            (appended out.old.items out.new.items) (client_next self.new)) }
+        ensures frames { IfOk result
+            (λ asked. AreFramesOf asked.frame_len (appended out.old.items out.new.items)) }
         // The same by what was received and sent, also inside a frame or a message.
         ensures refuses { (asks : List Placed) (octets : List ℕ) (frames : List Frame) (rest : List ℕ)
             → ClientStands self.old asks octets frames rest
@@ -163,11 +166,12 @@ impl ClientChannel {
         ensures calls { (asks : List Placed) (octets : List ℕ) (frames : List Frame) (rest : List ℕ)
             → ClientStands self.old asks octets frames rest
             → IfOk result (λ asked. IsCalled (received frames) (asked_in asks) (client_next self.old) body.now asked.id
-            asked.octets.items (client_next self.new)) }
+            (appended out.old.items out.new.items) (client_next self.new)) }
         ensures stands { (asks : List Placed) (octets : List ℕ) (frames : List Frame) (rest : List ℕ)
             → ClientStands self.old asks octets frames rest
             → IfOk result (λ asked. ClientStands self.new (asks ++ (length octets, Call asked.id) ∷ []) octets frames
             rest) }
+        ensures err { OnErr result (out.new.items ≡ out.old.items) }
 
         // After a fault the channel is in the state before, and sends next what it would have sent.
         ensures kept { (asks : List Placed) (octets : List ℕ) (frames : List Frame) (rest : List ℕ)
@@ -179,12 +183,12 @@ impl ClientChannel {
         ensures bound { client_bound self.new ≡ client_bound self.old }
     {
         match &mut self.end.phase {
-            Phase::Open(talking) => talking.ask(self.end.alloc, body, &mut self.end.numbers),
+            Phase::Open(talking) => talking.ask(body, &mut self.end.numbers, out),
             _ => Err(AskFault::NotOpen),
         }
     }
 
-    /// The chunks that [`call`](ClientChannel::call) returns, and the RequestId.
+    /// The chunks that [`call`](ClientChannel::call) appends, and the RequestId.
     pub fn ask(&mut self, body: &[u8]) -> Result<(u32, Vec<u8>), AskFault>
         requires { 0 < length body.now }
         ensures answers { AnswersFor (call_refused self.old 0 body.now) result }
@@ -211,8 +215,9 @@ impl ClientChannel {
         ensures same { SameClient self.old self.new }
         ensures bound { client_bound self.new ≡ client_bound self.old }
     {
-        match self.call(body) {
-            Ok(asked) => Ok((asked.id, asked.octets)),
+        let mut out = Vec::new(self.end.alloc);
+        match self.call(body, &mut out) {
+            Ok(asked) => Ok((asked.id, out)),
             Err(fault) => Err(fault),
         }
     }
@@ -302,9 +307,6 @@ impl ClientChannel {
         ensures answers { (asks : List Placed) (octets : List ℕ) (told : List ClientTold)
             → EndsWithEvent event self.old asks octets told
             → AnswersEvent moment result self.new asks octets told }
-        ensures parts { (asks : List Placed) (octets : List ℕ) (told : List ClientTold)
-            → EndsWithEvent event self.old asks octets told
-            → IfOk result (λ e. ComesInParts (parts_handed e) self.new asks octets) }
         ensures same { SameClient self.old self.new }
         ensures next { client_next self.new ≡ client_next self.old }
     {
@@ -333,15 +335,7 @@ impl ClientChannel {
         ensures answers { (asks : List Placed) (octets : List ℕ) (told : List ClientTold)
             → ClientGoes self.old asks octets told
             → ClientAnswers moment piece.now (outcome_counted result.size result.outcome) self.new asks octets told }
-        ensures parts { (asks : List Placed) (octets : List ℕ) (told : List ClientTold)
-            → ClientGoes self.old asks octets told
-            → IfOk result.outcome
-            (λ e. ComesInParts (parts_handed e) self.new asks (octets ++ take result.size piece.now)) }
         ensures progress { ClientProgress piece.now (outcome_counted result.size result.outcome) }
-        ensures within { result.size ≤ length piece.now }
-        ensures starves { (asks : List Placed) (octets : List ℕ) (told : List ClientTold)
-            → ClientGoes self.old asks octets told → IsErrOf result.outcome OutOfMemory
-            → ClientStarvedAt self.new asks (octets ++ take result.size piece.now) told }
         ensures same { SameClient self.old self.new }
         ensures next { client_next self.new ≡ client_next self.old }
     {
@@ -374,16 +368,8 @@ impl ClientChannel {
         ensures answers { (asks : List Placed) (octets : List ℕ) (told : List ClientTold)
             → ClientGoes self.old asks octets told
             → ClientAnswers moment piece.now result self.new asks octets told }
-        // A message that is returned is the bodies of its chunks, which are not joined.
-        ensures parts { (asks : List Placed) (octets : List ℕ) (told : List ClientTold)
-            → ClientGoes self.old asks octets told
-            → IfOk result (λ r. ComesInParts (parts_handed r.1) self.new asks (octets ++ take r.0 piece.now)) }
         ensures progress { ClientProgress piece.now result }
         ensures closed { IsClientDone self.old → (result ≡ Err Closed) × (self.new ≡ self.old) }
-        // Where an allocation fails, it is within a frame whose header is complete and valid.
-        ensures starves { (asks : List Placed) (octets : List ℕ) (told : List ClientTold)
-            → ClientGoes self.old asks octets told → IsErrOf result OutOfMemory
-            → (n : ℕ) × (n ≤ length piece.now) × ClientStarvedAt self.new asks (octets ++ take n piece.now) told }
         // After `OutOfMemory` the bound is what it was before the call.
         ensures starved { IsErrOf result OutOfMemory → client_bound self.new ≡ client_bound self.old }
         ensures same { SameClient self.old self.new }

@@ -1,6 +1,6 @@
 //! A client's channel that is open.
 
-ghost use Rattle.std.specs.Prelude.{true, ◌≡◌, ◌<◌, ◌+◌, ◌^◌, ◌++◌, ◌∷◌, [], List, ℕ, length, OnErr, IfOk};
+ghost use Rattle.std.specs.Prelude.{true, ◌≡◌, ◌<◌, ◌+◌, ◌^◌, ◌++◌, ◌∷◌, [], List, ℕ, length, OnErr, OnOk, IfOk};
 ghost use Rattle.ua_builtin.specs.Reasons.{first_reason};
 ghost use Rattle.ua_frame.specs.Frames.{LetsIn};
 ghost use Rattle.ua_frame.specs.declared.limits.Limits.{Limits};
@@ -17,7 +17,7 @@ ghost use Rattle.ua_channel.specs.inside.ClientParts.{TellsRenewal, chunk_token_
 ghost use Rattle.ua_channel.specs.inside.ClientParts.{chunk_reasons, refused_reasons, unasked_reasons, known_reasons};
 ghost use Rattle.ua_channel.specs.inside.ClientParts.{any_event, drops_first, left_behind, IsChunkAccepted};
 ghost use Rattle.ua_channel.specs.inside.ClientParts.{IsDeliveredWith, IsTakenWith, ClientTakesFrame, DeliversEvent};
-ghost use Rattle.ua_channel.specs.ClientSends.{AreFramesOf};
+ghost use Rattle.ua_channel.specs.ClientSends.{AreFramesOf, appended};
 ghost use Rattle.ua_channel.specs.ClientTable.{client_reasons, answer_gate, reply_gate};
 ghost use Rattle.ua_channel.specs.ClientTokens.{from_last};
 ghost use Rattle.ua_channel.specs.Content.{content};
@@ -335,31 +335,36 @@ impl Talking {
         Ok(())
     }
 
-    /// The chunks of a call under the next RequestId.
-    #[tactic(auto, using(crate::proofs::ChunkFrames::chunks_framed))]
+    /// Appends the chunks of a call under the next RequestId. A fault leaves `out` as it was.
+    #[tactic(auto, using(crate::proofs::ChunkFrames::appended_framed))]
     pub fn ask(
         &mut self,
-        alloc: Global,
         body: &[u8],
         numbers: &mut Numbers,
+        out: &mut Vec<u8>,
     ) -> Result<AskedCall, AskFault>
         requires { 0 < length body.now }
         ensures answers { AnswersCall self.old body.now result }
+        ensures behind { OnOk result (out.new.items ≡ out.old.items ++ appended out.old.items out.new.items) }
+        ensures len { IfOk result (λ asked. asked.len ≡ length (appended out.old.items out.new.items)) }
         ensures asked { IfOk result
-            (λ asked. Calls self.old numbers.old.next body.now asked.id asked.octets.items numbers.new.next) }
-        ensures frames { IfOk result (λ asked. AreFramesOf asked.frame_len asked.octets.items) }
+            (λ asked. Calls self.old numbers.old.next body.now asked.id (appended out.old.items out.new.items)
+            numbers.new.next) }
+        ensures frames { IfOk result
+            (λ asked. AreFramesOf asked.frame_len (appended out.old.items out.new.items)) }
         ensures talks { (limits : Limits) (before : Received) (asked : List Asking) → Talks limits self.old before asked
             → IfOk result (λ call. Talks limits self.new before (asked ++ Call call.id ∷ [])) }
         ensures agreed { self.new.agreed ≡ self.old.agreed }
         ensures unchanged { OnErr result (AsBefore self.old self.new × (numbers.new ≡ numbers.old)) }
+        ensures err { OnErr result (out.new.items ≡ out.old.items) }
     {
         if let Some(fault) = self.full(0) {
             return Err(fault);
         }
         let id = self.next;
         let lane = self.lane();
-        let mut out = Vec::new(alloc);
-        let next = match cut(&lane, body, numbers.number(), id, &mut out) {
+        let before = out.len();
+        let next = match cut(&lane, body, numbers.number(), id, out) {
             Ok(next) => next,
             Err(fault) => return Err(AskFault::from_cut(fault)),
         };
@@ -369,11 +374,14 @@ impl Talking {
                 numbers.go_on(next);
                 Ok(AskedCall {
                     id,
-                    octets: out,
+                    len: out.len() - before,
                     frame_len: CHUNK_HEADERS + lane.room as usize,
                 })
             }
-            Err(_) => Err(AskFault::OutOfMemory),
+            Err(_) => {
+                out.truncate(before);
+                Err(AskFault::OutOfMemory)
+            }
         }
     }
 

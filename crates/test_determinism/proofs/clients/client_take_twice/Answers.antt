@@ -14,14 +14,12 @@ both c asks octets told s had =
     alike _ _ _ _ c.args.moment c.args.piece.now octets asks told _ _ s
     (record {
       answers = c.take-first.ensures.answers asks octets told s.first;
-      parts = c.take-first.ensures.parts asks octets told s.first;
       progress = c.take-first.ensures.progress;
       same = c.take-first.ensures.same;
       next = c.take-first.ensures.next;
     })
     (record {
       answers = c.take-second.ensures.answers asks octets told s.second;
-      parts = c.take-second.ensures.parts asks octets told s.second;
       progress = c.take-second.ensures.progress;
       same = c.take-second.ensures.same;
       next = c.take-second.ensures.next;

@@ -14,13 +14,11 @@ both c octets told s had =
     alike _ _ _ _ c.args.moment c.args.piece.now octets told _ _ _ _ s
     (record {
       answers = c.advance-first.ensures.answers octets told s.first;
-      parts = c.advance-first.ensures.parts octets told s.first;
       limits = c.advance-first.ensures.limits;
       channel = c.advance-first.ensures.channel;
     })
     (record {
       answers = c.advance-second.ensures.answers octets told s.second;
-      parts = c.advance-second.ensures.parts octets told s.second;
       limits = c.advance-second.ensures.limits;
       channel = c.advance-second.ensures.channel;
     })

@@ -13,13 +13,11 @@ both c octets told s had =
     taken_alike _ _ _ _ c.args.moment c.args.piece.now octets told _ _ s
     (record {
       answers = c.take-first.ensures.answers octets told s.first;
-      parts = c.take-first.ensures.parts octets told s.first;
       limits = c.take-first.ensures.limits;
       channel = c.take-first.ensures.channel;
     })
     (record {
       answers = c.take-second.ensures.answers octets told s.second;
-      parts = c.take-second.ensures.parts octets told s.second;
       limits = c.take-second.ensures.limits;
       channel = c.take-second.ensures.channel;
     })

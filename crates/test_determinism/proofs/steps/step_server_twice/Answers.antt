@@ -1,6 +1,7 @@
 use Rattle.std.specs.Prelude.{List, ℕ}
 use Rattle.ua_builtin.specs.declared.date_time.DateTime.{DateTime}
 use Rattle.ua_channel.specs.ServerTold.{Told}
+use Rattle.ua_server.proofs.NowStanding.{as-told}
 use Rattle.ua_server.specs.Served.{channel_in}
 use Rattle.ua_server.specs.State.{State}
 use Rattle.ua_server.specs.declared.step.StepFault.TheVariants.{OutOfMemory}
@@ -18,12 +19,14 @@ both c octets told begun moments s had =
     alike (channel_in c.args.one.now) (channel_in c.args.two.now) _ _ c.args.moment c.args.piece.now octets told begun moments c.args.services.now
     c.args.others.now _ _ _ _ s
     (record {
-      answers = c.step-first.ensures.answers octets told begun moments s.first;
+      answers = as-told (channel_in c.args.one.now) _ c.args.moment c.args.piece.now octets told begun moments _ _ _ s.first c.step-first.ensures.channel
+          (c.step-first.ensures.now octets told s.first.goes);
       limits = c.step-first.ensures.limits;
       channel = c.step-first.ensures.channel;
     })
     (record {
-      answers = c.step-second.ensures.answers octets told begun moments s.second;
+      answers = as-told (channel_in c.args.two.now) _ c.args.moment c.args.piece.now octets told begun moments _ _ _ s.second c.step-second.ensures.channel
+          (c.step-second.ensures.now octets told s.second.goes);
       limits = c.step-second.ensures.limits;
       channel = c.step-second.ensures.channel;
     })

@@ -1,7 +1,10 @@
-use Rattle.std.proofs.Common.{take}
-use Rattle.ua_client.specs.Sent.{asked_octets}
+use Rattle.std.proofs.Common.{◌≡◌, length, take}
+use Rattle.ua_client.specs.Sent.{asked_len}
 use Rattle.ua_client.proofs.Askings.{Asked}
 use Rattle.ua_client.proofs.group.ask_group.Given as goal
 
 abbrev pub invariant-loop-body : goal.invariant-loop-body
-invariant-loop-body l = Asked (take l.body-index l.body-items) l.fn.channel l.channel (asked_octets l.calls.items) l.first
+invariant-loop-body l = record {
+  asked : Asked (take l.body-index l.body-items) l.fn.channel l.channel l.octets.items l.first;
+  len : asked_len l.calls.items ≡ length l.octets.items;
+}

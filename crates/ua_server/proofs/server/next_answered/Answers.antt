@@ -15,7 +15,8 @@ pub returns-then-not-is_given_up-2-clause-answers : goal.returns-then-not-is_giv
 returns-then-not-is_given_up-2-clause-answers c =
     at-last c.args.channel.now c.loop-taken.channel c.advance-size-in-loop-taken.new.self c.args.moment c.args.piece.now c.loop-taken.taken
     c.advance-size-in-loop-taken.result.size c.advance-size-in-loop-taken.result.outcome
-    c.loop-taken.invariant c.advance-size-in-loop-taken.ensures.answers
+    c.loop-taken.invariant c.advance-size-in-loop-taken.ensures.answers c.advance-size-in-loop-taken.ensures.limits
+    c.advance-size-in-loop-taken.ensures.channel
 
 pub loop-taken-preserved : goal.loop-taken-preserved
 loop-taken-preserved c =

@@ -1,6 +1,5 @@
-use Rattle.std.proofs.Common.{arith, [], ℕ, ◌<◌, List, length, refl, sym, subst}
-use Rattle.ua_server.specs.ServingParts.{OwesNothing}
-use Rattle.ua_server.specs.State.{State, begun}
+use Rattle.std.proofs.Common.{arith, refl}
+use Rattle.ua_server.specs.State.{begun}
 use Rattle.ua_server.proofs.Happened.{told-none}
 use Rattle.ua_server.proofs.Handling.{serves-nothing}
 use Rattle.ua_server.proofs.Lasting.{keeps-first}
@@ -9,14 +8,12 @@ use Rattle.ua_server.proofs.serving.serve_around.Goals as goal
 pub run-requires : goal.run-requires
 run-requires g c =
     let room = c.in-Ok.ensures in
-    subst (λ (l : List ℕ). 0 < length l) (sym c.deref_mut.ensures.value) (omega (arith, room))
+    rw c.deref_mut.ensures.value (omega (arith, room))
 
 pub returns-in-Ok-clause-serves : goal.returns-in-Ok-clause-serves
 returns-in-Ok-clause-serves g c =
     c.run.ensures.serves c.args.terms.limits c.args.terms.channel_id (begun c.args.services.now, c.args.around.now.application.now)
-    (subst (λ (s : State). OwesNothing g.A.Application.changes c.new-serving.result c.args.terms.limits c.args.terms.channel_id
-    (begun c.args.services.now, c.args.around.now.application.now) [] [] [] (s, c.args.around.now.application.now)) (sym c.begin.ensures)
-    (keeps-first g.A.Application.changes c.new-serving.result c.args.terms.limits c.args.terms.channel_id
+    (rw c.begin.ensures (keeps-first g.A.Application.changes c.new-serving.result c.args.terms.limits c.args.terms.channel_id
     (begun c.args.services.now, c.args.around.now.application.now)
     c.new-serving.ensures))
 
@@ -29,9 +26,7 @@ returns-clause-serves g c =
     g.M.Moments.gives g.W.Watch.notes
     (c.args.around.now.moments.now, c.args.around.now.watch.now) (g.L.Line.traffic c.args.line.now) c.new-serving.result
     (c.begin.new.self, c.args.around.now.application.now)
-    (subst (λ (s : State). OwesNothing g.A.Application.changes c.new-serving.result c.args.terms.limits c.args.terms.channel_id
-    (begun c.args.services.now, c.args.around.now.application.now) [] [] [] (s, c.args.around.now.application.now)) (sym c.begin.ensures)
-    (keeps-first g.A.Application.changes c.new-serving.result c.args.terms.limits c.args.terms.channel_id
+    (rw c.begin.ensures (keeps-first g.A.Application.changes c.new-serving.result c.args.terms.limits c.args.terms.channel_id
     (begun c.args.services.now, c.args.around.now.application.now)
     c.new-serving.ensures))
 

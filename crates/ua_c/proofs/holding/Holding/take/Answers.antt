@@ -9,10 +9,8 @@ returns c = takes_machine c.args.self.now _ c.args.piece.now c.args.moment c.fro
     (λ some. let a = c.len.ensures in let b = c.if-len-gt0.false in omega (some, a, b, arith))
     (record {
       answers = c.take-answer.ensures.answers;
-      parts = c.take-answer.ensures.parts;
       progress = c.take-answer.ensures.progress;
       closed = c.take-answer.ensures.closed;
-      starves = c.take-answer.ensures.starves;
       starved = c.take-answer.ensures.starved;
       same =
           c.take-answer.ensures.same;

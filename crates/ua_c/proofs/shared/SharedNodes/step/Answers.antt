@@ -24,8 +24,6 @@ returns c =
     (record {
       among = by.among;
       now = by.now;
-      history = by.history;
-      stands = by.stands;
       stores = by.stores;
       failed = by.failed;
       apart = by.apart;

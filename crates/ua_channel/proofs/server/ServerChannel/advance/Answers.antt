@@ -1,11 +1,10 @@
-use Rattle.std.specs.Prelude.{IfOk}
-use Rattle.std.proofs.Common.{◌++◌, ◌∙◌, take, Result, Err, sym, subst}
+use Rattle.std.proofs.Common.{Result, Err, sym, subst}
 use Rattle.ua_channel.specs.declared.server.ServerChannel.{ServerChannel}
 use Rattle.ua_channel.specs.declared.server_event.ServerEvent.{ServerEvent}
 use Rattle.ua_channel.specs.declared.server_fault.ChannelFault.{ChannelFault}
-use Rattle.ua_channel.specs.ServerAnswers.{AnswersAt, AsksInParts, parts_asked}
-use Rattle.ua_channel.specs.ServerStands.{StarvedAt, channel_of, next_of}
-use Rattle.ua_channel.proofs.Answering.{starved_bound, starved_with}
+use Rattle.ua_channel.specs.ServerAnswers.{AnswersAt}
+use Rattle.ua_channel.specs.ServerStands.{channel_of, next_of}
+use Rattle.ua_channel.proofs.Answering.{starved_with}
 use Rattle.ua_channel.proofs.server.ServerChannel.advance.Goals.{in-OutOfMemory, in_default}
 use Rattle.ua_channel.proofs.server.ServerChannel.advance.Goals as goal
 
@@ -13,12 +12,6 @@ pub returns-in-Ok-clause-answers : goal.returns-in-Ok-clause-answers
 returns-in-Ok-clause-answers c = λ octets told g.
     subst (λ (a : Result ServerEvent ChannelFault). AnswersAt (channel_of c.args.self.now) (next_of c.args.self.now) c.args.moment c.args.piece.now
     c.go_on-size.result.size a c.go_on-size.new.self octets told) c.in-Ok.is (c.go_on-size.ensures.answers octets told g)
-
-pub returns-in-Ok-clause-parts : goal.returns-in-Ok-clause-parts
-returns-in-Ok-clause-parts c = λ octets told g.
-    subst (λ (a : Result ServerEvent ChannelFault).
-    IfOk a (λ e. AsksInParts (parts_asked e) c.go_on-size.new.self (octets ++ take c.go_on-size.result.size c.args.piece.now))) c.in-Ok.is
-    (c.go_on-size.ensures.parts octets told g)
 
 pub returns-after-fault-clause-answers : goal.returns-after-fault-clause-answers
 returns-after-fault-clause-answers c = λ octets told g.
@@ -33,14 +26,4 @@ returns-after-fault-clause-answers c = λ octets told g.
       | in_default w ↦
           subst (λ (y : ServerChannel). AnswersAt (channel_of c.args.self.now) (next_of c.args.self.now) c.args.moment c.args.piece.now c.go_on-size.result.size
           (Err c.in-Err.fault) y octets told) (sym w.self-is) failed
-    ]
-
-pub returns-after-fault-clause-starves : goal.returns-after-fault-clause-starves
-returns-after-fault-clause-starves c = λ octets told g failed.
-    let starved : StarvedAt c.go_on-size.new.self (octets ++ take c.go_on-size.result.size c.args.piece.now) told =
-    c.go_on-size.ensures.starves octets told g (c.in-Err.is ∙ failed) in
-    elim c.match-fault.branch [
-      | in-OutOfMemory w ↦ starved_bound c.go_on-size.new.self c.match-fault.self c.args.self.now.end.bound
-          (octets ++ take c.go_on-size.result.size c.args.piece.now) told w.self-is starved
-      | in_default w ↦ subst (λ (y : ServerChannel). StarvedAt y (octets ++ take c.go_on-size.result.size c.args.piece.now) told) (sym w.self-is) starved
     ]

@@ -3,7 +3,7 @@ use Rattle.ua_channel.specs.declared.end_core.EndCore.{EndCore}
 use Rattle.ua_channel.specs.declared.server.Phase.{Phase}
 use Rattle.ua_channel.specs.declared.server_rules.ServerRules.{ServerRules}
 use Rattle.ua_channel.specs.ServerStands.{server_side, channel_of, next_of}
-use Rattle.ua_channel.proofs.Answering.{answers_nothing, answers_event, answers_fault, done_by, starved_event, starved_fault}
+use Rattle.ua_channel.proofs.Answering.{answers_nothing, answers_event, answers_fault}
 use Rattle.ua_channel.proofs.Ends.{nexts_as}
 use Rattle.ua_channel.proofs.Servers.{of_end}
 use Rattle.ua_channel.proofs.server.ServerChannel.go_on.Goals as goal
@@ -25,14 +25,8 @@ returns-in-Ok-Some-clause-answers c = λ octets told g.
     (ap (λ (x : EndCore ServerRules Phase). x.numbers.next) c.next_event-size.ensures.kept)
     (nexts_as server_side c.args.self.now.end c.next_event-size.new.self c.args.piece.now c.next_event-size.result.size c.next_event-size.result.outcome
     (Ok (Some c.in-Ok-Some.event)) c.next_event-size.ensures.nexts (c.in-Ok-Some.is ∙ ap Ok c.in-Ok-Some.field-0-is) tt octets told g)
-    (c.answer.ensures.answers (octets ++ take c.next_event-size.result.size c.args.piece.now) told)
-
-pub returns-in-Ok-Some-clause-parts : goal.returns-in-Ok-Some-clause-parts
-returns-in-Ok-Some-clause-parts c = λ octets told g.
-    let nexts = nexts_as server_side c.args.self.now.end c.next_event-size.new.self c.args.piece.now c.next_event-size.result.size
-    c.next_event-size.result.outcome (Ok (Some c.in-Ok-Some.event)) c.next_event-size.ensures.nexts (c.in-Ok-Some.is ∙ ap Ok c.in-Ok-Some.field-0-is) tt
-    octets told g in
-    c.answer.ensures.parts (octets ++ take c.next_event-size.result.size c.args.piece.now) told nexts.2
+    (c.answer.ensures.answers (octets ++ take c.next_event-size.result.size c.args.piece.now) told) c.answer.ensures.limits c.answer.ensures.channel
+    c.answer.ensures.closes
 
 pub returns-in-Err-clause-answers : goal.returns-in-Err-clause-answers
 returns-in-Err-clause-answers c = λ octets told g.
@@ -40,21 +34,3 @@ returns-in-Err-clause-answers c = λ octets told g.
     c.from_end.result (of_end c.next_event-size.new.self) octets told
     (nexts_as server_side c.args.self.now.end c.next_event-size.new.self c.args.piece.now c.next_event-size.result.size c.next_event-size.result.outcome
     (Err c.in-Err.fault) c.next_event-size.ensures.nexts c.in-Err.is tt octets told g) c.from_end.ensures
-
-pub returns-in-Ok-Some-clause-starves : goal.returns-in-Ok-Some-clause-starves
-returns-in-Ok-Some-clause-starves c = λ octets told g failed.
-    let nexts = nexts_as server_side c.args.self.now.end c.next_event-size.new.self c.args.piece.now c.next_event-size.result.size
-    c.next_event-size.result.outcome (Ok (Some c.in-Ok-Some.event)) c.next_event-size.ensures.nexts (c.in-Ok-Some.is ∙ ap Ok c.in-Ok-Some.field-0-is) tt
-    octets told g in
-    starved_event (of_end c.next_event-size.new.self) c.answer.new.self (octets ++ take c.next_event-size.result.size c.args.piece.now) told c.in-Ok-Some.event
-    c.answer.result c.answer.ensures.limits c.answer.ensures.channel
-    (done_by (channel_of (of_end c.next_event-size.new.self)) (next_of (of_end c.next_event-size.new.self)) c.args.moment c.answer.result c.answer.new.self
-    (octets ++ take c.next_event-size.result.size c.args.piece.now) told failed
-    (c.answer.ensures.answers (octets ++ take c.next_event-size.result.size c.args.piece.now) told nexts.2))
-    nexts.2 c.answer.ensures.closes failed
-
-pub returns-in-Err-clause-starves : goal.returns-in-Err-clause-starves
-returns-in-Err-clause-starves c = λ octets told g failed.
-    starved_fault c.args.piece.now c.next_event-size.result.size c.in-Err.fault c.from_end.result (of_end c.next_event-size.new.self) octets told
-    (nexts_as server_side c.args.self.now.end c.next_event-size.new.self c.args.piece.now c.next_event-size.result.size c.next_event-size.result.outcome
-    (Err c.in-Err.fault) c.next_event-size.ensures.nexts c.in-Err.is tt octets told g) c.from_end.ensures failed

@@ -1,17 +1,14 @@
-use Rattle.std.proofs.Common.{rules, ◌≡◌, ◌<◌, ℕ, List, ◌++◌, length, sym, subst}
+use Rattle.std.proofs.Common.{rules, ◌≡◌, ◌++◌, length, subst}
 use Rattle.ua_builtin.specs.NodeId.{node_id}
 use Rattle.ua_nodes.specs.Read.{result_octets}
 use Rattle.ua_nodes.specs.Within.{IsWithin}
 use Rattle.ua_builtin.specs.Number.{number_octets}
 use Rattle.ua_opening.specs.Message.{standard}
-use Rattle.ua_services.specs.Response.{response}
-use Rattle.ua_services.specs.declared.response.Response.{Response}
 use Rattle.ua_services.specs.declared.response.Response.TheVariants.{Read as ReadMessage}
 use Rattle.ua_structures.specs.Plain.{read_response_of}
 use Rattle.ua_structures.specs.Results.{AddsResponse}
 use Rattle.ua_variant.specs.Formats.{diagnostic_format}
 use Rattle.ua_server.specs.Attributes.{read_answers, values_given}
-use Rattle.ua_server.specs.Reply.{IsBodyWithin}
 use Rattle.ua_server.proofs.ReadBody.{null_fits, written_parts, written_within, written_some}
 use Rattle.ua_server.proofs.services.Services.granted_body.Goals as goal
 
@@ -33,8 +30,7 @@ returns-clause-body c =
     let given : values_given c.args.self.now c.args.moment c.args.request.now
     ≡ ReadMessage (read_response_of header (read_answers nodes items stamps c.args.moment)) =
     search rules in
-    subst (λ (r : Response). IsBodyWithin c.args.most (response.canonical r) c.append_read_response.new.out.items) (sym given)
-    (written_within c.args.most header nodes items stamps c.args.moment parts.0 c.append_read_response.new.out.items parts.1 parts.2)
+    rw given (written_within c.args.most header nodes items stamps c.args.moment parts.0 c.append_read_response.new.out.items parts.1 parts.2)
 
 pub returns-clause-some : goal.returns-clause-some
 returns-clause-some c =
@@ -48,4 +44,4 @@ returns-clause-some c =
     header d c.append_front.new.out.items c.append_read_response.new.out.items)
     c.null.ensures c.in_ok-append_read_response.ensures.ok in
     let parts = written_parts c.args.most header nodes items stamps c.args.moment c.append_front.new.out.items c.append_read_response.new.out.items id adds in
-    subst (λ (b : List ℕ). 0 < length b) (sym parts.2) (written_some parts.0)
+    rw parts.2 (written_some parts.0)

@@ -6,10 +6,10 @@ use Rattle.ua_server.specs.Serving.{moment_of}
 use Rattle.ua_server.proofs.serving.Serving.moment.Goals as goal
 
 pub returns-in-Some-clause-asked : goal.returns-in-Some-clause-asked
-returns-in-Some-clause-asked g c = record { ticks = []; given = refl; holds = ap (λ (o : Option DateTime). listed o ++ []) c.in-Some.is }
+returns-in-Some-clause-asked g c = record { ticks = []; given = refl; holds = rw c.in-Some.is }
 
 pub returns-in-Some-clause-kept : goal.returns-in-Some-clause-kept
-returns-in-Some-clause-kept g c = ap (λ (o : Option DateTime). record c.args.self.now { moment = o }) c.in-Some.is
+returns-in-Some-clause-kept g c = rw c.in-Some.is
 
 pub returns-in-None-clause-asked : goal.returns-in-None-clause-asked
 returns-in-None-clause-asked g c =

@@ -1,8 +1,6 @@
-use Rattle.std.proofs.Common.{◌≡◌, [], ℕ, List, Err, length, refl, subst}
-use Rattle.ua_channel.specs.Line.{IfTrafficKnown}
+use Rattle.std.proofs.Common.{ℕ, List, length, refl}
 use Rattle.ua_server.specs.Happening.{Happens}
-use Rattle.ua_server.specs.Serving.{MovesTraffic}
-use Rattle.ua_server.specs.ServingParts.{WritesCounted, sum_up_to_greatest}
+use Rattle.ua_server.specs.ServingParts.{sum_up_to_greatest}
 use Rattle.ua_server.specs.declared.serving.Serving.{Serving}
 use Rattle.ua_server.proofs.Turning.{turn-said, turn-unsaid, turn-broken}
 use Rattle.ua_server.proofs.serving.Serving.turn.Goals as goal
@@ -27,9 +25,8 @@ returns-in-Ok-say-clause-turns g c = λ limits channel first read written given 
     written given
     (c.step.new.services, c.step.new.around.application.now) c.in-Ok.step c.step.new.self c.say.new.self
     (c.in-Ok.ensures.steps limits channel first read written given k)
-    (subst (λ (o : List ℕ). c.say.new.self ≡ counted_so o) c.deref.ensures.value c.in-Ok-say.ensures.says.0)
-    (subst (λ (o : List ℕ). IfTrafficKnown (MovesTraffic [] o) (g.L.Line.traffic c.args.line.now) (g.L.Line.traffic c.say.new.line)) c.deref.ensures.value
-    c.in-Ok-say.ensures.says.1)
+    (rw (← c.deref.ensures.value) c.in-Ok-say.ensures.says.0)
+    (rw (← c.deref.ensures.value) c.in-Ok-say.ensures.says.1)
 
 pub returns-in-Ok-say-clause-progress : goal.returns-in-Ok-say-clause-progress
 returns-in-Ok-say-clause-progress g c = c.in-Ok.ensures.progress
@@ -45,9 +42,7 @@ returns-clause-turns g c = λ limits channel first read written given k.
     written given
     (c.step.new.services, c.step.new.around.application.now) c.in-Ok.step c.step.new.self c.say.new.self c.in-Err-say.fault
     (c.in-Ok.ensures.steps limits channel first read written given k)
-    (subst (λ (o : List ℕ). WritesCounted o (Err c.in-Err-say.fault) c.step.new.self c.say.new.self (g.L.Line.traffic c.args.line.now)
-    (g.L.Line.traffic c.say.new.line))
-    c.deref.ensures.value c.in-Err-say.ensures.says)
+    (rw (← c.deref.ensures.value) c.in-Err-say.ensures.says)
 
 pub returns-clause-failed : goal.returns-clause-failed
 returns-clause-failed g c = c.in-Err-say.ensures.failed

@@ -29,7 +29,7 @@ returns-in-Open-clause-refuses c = λ asks octets frames rest h.
 pub returns-in-Open-clause-calls : goal.returns-in-Open-clause-calls
 returns-in-Open-clause-calls c = λ asks octets frames rest h.
     IfOk-weaker c.ask.result _ _ (λ r called. called_at c.args.self.now asks octets frames rest h c.in-Open.talking c.in-Open.is _ c.args.body.now r.id
-    r.octets.items _ called) c.ask.ensures.asked
+    _ _ called) c.ask.ensures.asked
 
 pub returns-in_default-clause-refuses : goal.returns-in_default-clause-refuses
 returns-in_default-clause-refuses c = λ asks octets frames rest h. call_closed c.args.self.now asks octets frames rest h c.in_default.not-Open 0 c.args.body.now
