@@ -46,7 +46,7 @@ pub none_parts : {A : Type 0} (b : Bool) (x : A) (o : Option A) → (if b then S
 none_parts true x o e = absurd cc
 none_parts false x o e = (refl, e)
 
-or_none : {A : Type 0} (o p : Option A) → or_else o p ≡ None → (o ≡ None) × (p ≡ None)
+pub or_none : {A : Type 0} (o p : Option A) → or_else o p ≡ None → (o ≡ None) × (p ≡ None)
 or_none None p e = (refl, e)
 or_none (Some x) p e = absurd cc
 
@@ -74,7 +74,7 @@ AreSendable a id [] = Unit {0}
 AreSendable a id (o ∷ os) = (id < no_id) × IsSendable a id o × AreSendable a (id + 1) os
 
 -- those that a client does not refuse can be sent
-sendable : (c : AtClient) (id : ℕ) (os : List Outgoing) → AreWritable os → outgoing_refusal c id os ≡ None → AreSendable c.ack id os
+pub sendable : (c : AtClient) (id : ℕ) (os : List Outgoing) → AreWritable os → outgoing_refusal c id os ≡ None → AreSendable c.ack id os
 sendable c id [] w judged = tt
 sendable c id (CallWith body ∷ os) w judged =
     let parts = or_none (first_reason (one_reasons c id (CallWith body))) (outgoing_refusal (with_call c id) (id + 1) os) judged in
@@ -90,7 +90,7 @@ sendable c id (RenewalAt moment ∷ os) w judged =
     (leb-false no_id id three.0, w.0, sendable (with_renewal c id) (id + 1) os w.1 parts.1)
 
 -- tokens are only issued
-no_fewer : (issued : ℕ) (os : List Outgoing) → issued ≤ issued_behind issued os
+pub no_fewer : (issued : ℕ) (os : List Outgoing) → issued ≤ issued_behind issued os
 no_fewer issued [] = omega arith
 no_fewer issued (CallWith body ∷ os) = no_fewer issued os
 no_fewer issued (RenewalAt moment ∷ os) = let more = no_fewer (issued + 1) os in omega (arith, more)
@@ -185,7 +185,7 @@ module _ (limits : Limits) (octets : List ℕ) (told : List ClientTold) where
 -- ---- what a server answers
 
 -- a lane to a client stays one
-lane_replied : (limits : Limits) (c : AtClient) (lane : Lane) (id next : ℕ) → IsLaneBack limits c lane
+pub lane_replied : (limits : Limits) (c : AtClient) (lane : Lane) (id next : ℕ) → IsLaneBack limits c lane
     → IsLaneBack limits (with_reply c lane.token id next) lane
 lane_replied limits c lane id next back = record {
   on = back.on;
@@ -198,7 +198,8 @@ lane_replied limits c lane id next back = record {
   chunks = back.chunks;
 }
 
-lane_answered : (limits : Limits) (c : AtClient) (lane : Lane) (token next : ℕ) → IsLaneBack limits c lane → IsLaneBack limits (with_answer c token next) lane
+pub lane_answered : (limits : Limits) (c : AtClient) (lane : Lane) (token next : ℕ) → IsLaneBack limits c lane
+    → IsLaneBack limits (with_answer c token next) lane
 lane_answered limits c lane token next back = record {
   on = back.on;
   held = in_more lane.token token c.tokens back.held;

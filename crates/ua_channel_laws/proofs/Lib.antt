@@ -29,3 +29,6 @@ mod Connected
 mod ExampleRounds
 mod AskedOn
 mod AskedBefore
+pub mod Lists
+pub mod Further
+pub mod Sized

@@ -29,7 +29,6 @@ use Rattle.ua_services.specs.declared.request.Request.{Request}
 use Rattle.ua_server.specs.State.{State}
 use Rattle.ua_loopback.proofs.Answering.{all_held, latest_in}
 use Rattle.ua_loopback.proofs.Opened.{answer_read}
-use Rattle.ua_loopback.proofs.Reaching.{none_parts}
 use Rattle.ua_loopback.proofs.Renewed.{none_past}
 use Rattle.ua_exchange.specs.Accepted.{IsAccepted, tokens_counted}
 use Rattle.ua_exchange.specs.Programs.{exchange_ack, beginning, channel, program_limits, url}
@@ -41,6 +40,7 @@ use Rattle.ua_exchange.specs.declared.turn.Turn.TheVariants.{Ask, Renew}
 use Rattle.ua_exchange.proofs.Saying.{NumberIs, number-call, number-none, number-renewal, said-call, said-none, said-renewal}
 use Rattle.ua_exchange.proofs.Waiting.{calls-push, calls-renewal, calls_from, first-answered, first-waits, renewals-call, renewals-push, renewals_from}
 use Rattle.ua_exchange.proofs.Words.{ack_fits, id-is, token-call, token-few, token-renewal}
+use Rattle.ua_channel_laws.proofs.Groups.{none_parts}
 
 -- ---- what acceptance says
 

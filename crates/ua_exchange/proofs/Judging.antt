@@ -13,7 +13,6 @@ use Rattle.ua_services.specs.declared.request.Request.{Request as Message}
 use Rattle.ua_client.specs.declared.fault.ClientFault.{ClientFault}
 use Rattle.ua_client.specs.declared.fault.ClientFault.TheVariants as client
 use Rattle.ua_loopback.specs.Accepted as judged
-use Rattle.ua_loopback.proofs.Reaching.{none_parts}
 use Rattle.ua_exchange.specs.Accepted.{AreAccepted, FirstRefused, IsAccepted, fault_at, tokens_counted, turn_refusal}
 use Rattle.ua_exchange.specs.Exchanged.{IsRefusedFor}
 use Rattle.ua_exchange.specs.Programs.{exchange_ack}
@@ -26,6 +25,7 @@ use Rattle.ua_exchange.specs.inside.Counting.{FirstCrowded, HaveRoom, is_crowded
 use Rattle.ua_exchange.proofs.Counting.{held-within}
 use Rattle.ua_exchange.proofs.Lists.{from-front, from-place}
 use Rattle.ua_exchange.proofs.Words.{served-push}
+use Rattle.ua_channel_laws.proofs.Groups.{none_parts}
 
 -- ---- one turn
 

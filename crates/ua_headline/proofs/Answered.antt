@@ -1,17 +1,16 @@
 -- That what a server answers to a turn is what its client waits for.
-use Rattle.std.proofs.Common.{◌≡◌, ℕ, ◌+◌, ◌<◌, ◌≤◌, Bool, true, false, not, ◌||◌, ◌&&◌, eqb, leb, IsTrue, List, [], ◌∷◌}
-use Rattle.std.proofs.Common.{◌++◌, Option, Some, None, length, refl, sym, ◌∙◌, ap, arith, append_assoc, append-nil}
+use Rattle.std.proofs.Common.{◌≡◌, ℕ, ◌+◌, ◌<◌, ◌≤◌, Bool, true, false, not, ◌||◌, eqb, leb, IsTrue, List, [], ◌∷◌}
+use Rattle.std.proofs.Common.{◌++◌, None, length, refl, sym, ◌∙◌, ap, arith, append_assoc, append-nil}
 use Rattle.std.specs.Prelude.{if◌then◌else◌}
 use Rattle.std.specs.List.{AllByRecursion}
 use Rattle.std.proofs.lemmas.Bool.{eq-eqb, leb-false, ne_eqb}
 use Rattle.ua_builtin.specs.DateTime.{date_time}
-use Rattle.ua_builtin.specs.Reasons.{first_reason, or_else}
+use Rattle.ua_builtin.specs.Reasons.{first_reason}
 use Rattle.ua_builtin.specs.declared.date_time.DateTime.{DateTime}
 use Rattle.ua_chunk.specs.declared.lane.Lane.{Lane}
 use Rattle.ua_channel.specs.Asks.{is_in}
 use Rattle.ua_channel.specs.ClientAsks.{most_pending, most_tokens, no_id}
 use Rattle.ua_channel.specs.ClientSends.{token_lifetime}
-use Rattle.ua_channel.specs.ClientTokens.{from_last}
 use Rattle.ua_channel.specs.Received.{has_some}
 use Rattle.ua_channel.proofs.Askings.{all-push, all-weaken}
 use Rattle.ua_channel_laws.specs.Answers.Answer.{ReplyTo, TokenFor}
@@ -19,7 +18,7 @@ use Rattle.ua_channel_laws.specs.Answers.{Answer, AreAnswersTo, BringsToken, cli
 use Rattle.ua_channel_laws.specs.ClientReads.{AtClient, with_call, with_renewal, without_id}
 use Rattle.ua_channel_laws.specs.Outgoing.Outgoing.{CallWith, RenewalAt}
 use Rattle.ua_channel_laws.specs.Outgoing.{Outgoing, client_behind, client_past, issued_behind, one_reasons, outgoing_refusal}
-use Rattle.ua_channel_laws.proofs.Groups.{none_parts}
+use Rattle.ua_channel_laws.proofs.Groups.{none_parts, or_none}
 use Rattle.ua_services.proofs.NoneEmpty.{response_takes_some}
 use Rattle.ua_services.specs.Response.{response}
 use Rattle.ua_services.specs.declared.response.Response.{Response}
@@ -27,6 +26,8 @@ use Rattle.ua_server.specs.Reply.{answered}
 use Rattle.ua_server.specs.Said.{behind_first, first_time}
 use Rattle.ua_server.specs.State.{State}
 use Rattle.ua_headline.specs.Talk.{answers_to, left_by}
+use Rattle.ua_loopback.proofs.Answering.{all_held}
+use Rattle.ua_loopback.proofs.Renewed.{none_past}
 
 -- ---- times
 
@@ -49,10 +50,6 @@ dated_left s times (CallWith body ∷ os) d = dated_left (answered s (first_time
 dated_left s times (RenewalAt time ∷ os) d = dated_left s (behind_first times) os (dated_behind times d)
 
 -- ---- what a client that refuses nothing asks
-
-pub or_none : {A : Type 0} (o p : Option A) → or_else o p ≡ None → (o ≡ None) × (p ≡ None)
-or_none None p e = (refl, e)
-or_none (Some x) p e = absurd cc
 
 -- a request id is left for one
 id_left : (c : AtClient) (id : ℕ) (o : Outgoing) → first_reason (one_reasons c id o) ≡ None → id < no_id
@@ -165,25 +162,6 @@ first_goes : (id : ℕ) (os : List Outgoing) → without_id id (id ∷ call_ids 
 first_goes id os = gone_one (eqb id id) id (without_id id (call_ids (id + 1) os)) (eq-eqb id id refl) ∙ others_stay id (id + 1) os (omega arith)
 
 -- ---- tokens
-
-all_by : (P : ℕ → Type 0) (stays : Bool) (m : ℕ) (ms from : List ℕ) → P m → AllByRecursion P ms → AllByRecursion P from
-    → AllByRecursion P (if stays then m ∷ ms else from)
-all_by P true m ms from one h k = (one, h)
-all_by P false m ms from one h k = k
-
--- what is so of all tokens is so of those from the last one used on
-all_held : (P : ℕ → Type 0) (n : ℕ) (ms : List ℕ) → AllByRecursion P ms → AllByRecursion P (from_last n ms)
-all_held P n [] h = tt
-all_held P n (m ∷ ms) h = all_by P (eqb m n && not (is_in n ms)) m ms (from_last n ms) h.0 h.1 (all_held P n ms h.1)
-
-neither : (a b : Bool) → a ≡ false → b ≡ false → (a || b) ≡ false
-neither a b p q = cc
-
--- a token past all of these is none of them
-none_past : (most : ℕ) (tokens : List ℕ) → AllByRecursion (λ (token : ℕ). token ≤ most) tokens → is_in (most + 1) tokens ≡ false
-none_past most [] h = refl
-none_past most (token ∷ tokens) h = neither (eqb token (most + 1)) (is_in (most + 1) tokens) (ne_eqb token (most + 1) (λ e. omega (arith, e, h.0)))
-    (none_past most tokens h.1)
 
 -- ---- the answers
 

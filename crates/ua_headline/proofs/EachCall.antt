@@ -42,11 +42,12 @@ use Rattle.ua_headline.specs.EachCall.{body_answered, client_events, id_after, o
 use Rattle.ua_headline.specs.Talk.{AreRoundsAccepted, CanOpen, Ends, IsPrefix, answers_to, asks_in, both_opened, heard_in, left_by, rounds_from, rounds_in}
 use Rattle.ua_headline.specs.Talk.{opening_answer_of_ends, sent_in, told_by_turns}
 use Rattle.ua_headline.proofs.Fronts.{prefix_of_prefix}
-use Rattle.ua_headline.proofs.HeardIds.{later_none, other_id, own_id, skip}
-use Rattle.ua_headline.proofs.Lists.{meets, same_next}
+use Rattle.ua_headline.proofs.HeardIds.{later_none, skip}
+use Rattle.ua_channel_laws.proofs.Lists.{meets, same_next}
 use Rattle.ua_headline.proofs.Served.{hello_stays}
 use Rattle.ua_headline.proofs.Talking.{EndsConnect, RoundsReach, connected, said}
 use Rattle.ua_headline.proofs.Turning.{turn}
+use Rattle.ua_loopback.proofs.Replying.{of_itself, of_no_other}
 
 -- ---- of the answers to a turn
 
@@ -58,7 +59,7 @@ earlier_none lane s times issued id (CallWith body ∷ os) k less =
     let reply : List ℕ = body_answered (s, times) body in
     let now : State = (answered s (first_time times) body).0 in
     skip k (told_reply (cut_refusal lane reply) id reply) (answers_told lane (answers_to now (behind_first times) issued (id + 1) os))
-    (other_id (cut_refusal lane reply) id k reply (λ e. omega (arith, less, e)))
+    (of_no_other (cut_refusal lane reply) id k reply (λ e. omega (arith, less, e)))
     ∙ earlier_none lane now (behind_first times) issued (id + 1) os k (omega (arith, less))
 earlier_none lane s times issued id (RenewalAt time ∷ os) k less =
     earlier_none lane s (behind_first times) (issued + 1) (id + 1) os k (omega (arith, less))
@@ -74,7 +75,7 @@ its_own lane s times issued id [] after body k e =
     let reply : List ℕ = body_answered (s, times) body in
     let now : State = (answered s (first_time times) body).0 in
     let rest : List ClientTold = answers_told lane (answers_to now (behind_first times) issued (id + 1) after) in
-    take k (told_reply (cut_refusal lane reply) id reply) rest (own_id (cut_refusal lane reply) id k reply (omega (arith, e)))
+    take k (told_reply (cut_refusal lane reply) id reply) rest (of_itself (cut_refusal lane reply) id k reply (omega (arith, e)))
     ∙ (ap (λ (ts : List ClientTold). told_reply (cut_refusal lane reply) id reply ∷ ts)
     (earlier_none lane now (behind_first times) issued (id + 1) after k (omega (arith, e)))
     ∙ ap (λ (n : ℕ). told_reply (cut_refusal lane reply) n reply ∷ []) (omega (arith, e)))
@@ -83,7 +84,7 @@ its_own lane s times issued id (CallWith first ∷ before) after body k e =
     let now : State = (answered s (first_time times) first).0 in
     skip k (told_reply (cut_refusal lane reply) id reply)
     (answers_told lane (answers_to now (behind_first times) issued (id + 1) (before ++ CallWith body ∷ after)))
-    (other_id (cut_refusal lane reply) id k reply (λ same. omega (arith, e, same)))
+    (of_no_other (cut_refusal lane reply) id k reply (λ same. omega (arith, e, same)))
     ∙ its_own lane now (behind_first times) issued (id + 1) before after body k (omega (arith, e))
 its_own lane s times issued id (RenewalAt time ∷ before) after body k e =
     its_own lane s (behind_first times) (issued + 1) (id + 1) before after body k (omega (arith, e))

@@ -11,8 +11,8 @@ use Rattle.ua_channel_laws.specs.Outgoing.{one_octets, one_reasons, one_told, ou
 use Rattle.ua_channel_laws.specs.Rounds.{BothEnds, round_behind, rounds_up}
 use Rattle.ua_server.specs.State.{State}
 use Rattle.ua_headline.specs.Talk.{AreRoundsAccepted, AreFirstOf, Ends, IsPrefix, left_by, rounds_from}
-use Rattle.ua_headline.proofs.Answered.{or_none}
 use Rattle.ua_headline.proofs.Turning.{turn}
+use Rattle.ua_channel_laws.proofs.Groups.{or_none}
 
 -- ---- lists
 

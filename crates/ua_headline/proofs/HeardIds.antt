@@ -1,11 +1,10 @@
 -- Of which calls the answers to a turn tell.
 use Rattle.std.proofs.Common.{◌≡◌, ◌⊎◌, inl, inr, ℕ, ◌+◌, ◌<◌, ◌≤◌, Bool, true, false, List, [], ◌∷◌}
-use Rattle.std.proofs.Common.{◌++◌, Option, Some, None, length, map, refl, sym, ◌∙◌, ap, subst, arith}
+use Rattle.std.proofs.Common.{◌++◌, length, map, refl, sym, ◌∙◌, ap, subst, arith}
 use Rattle.std.specs.Prelude.{cond}
-use Rattle.std.proofs.lemmas.Bool.{cases_lt, eq-eqb, ne_eqb}
+use Rattle.std.proofs.lemmas.Bool.{cases_lt}
 use Rattle.ua_builtin.specs.declared.date_time.DateTime.{DateTime}
 use Rattle.ua_chunk.specs.Cutting.{cut_refusal}
-use Rattle.ua_chunk.specs.declared.fault.CutFault.{CutFault}
 use Rattle.ua_chunk.specs.declared.lane.Lane.{Lane}
 use Rattle.ua_channel.specs.ClientTold.{ClientTold}
 use Rattle.ua_channel_laws.specs.Answers.{answers_told}
@@ -19,14 +18,7 @@ use Rattle.ua_server.specs.Said.{behind_first, first_time}
 use Rattle.ua_server.specs.State.{State}
 use Rattle.ua_client.specs.Told.{is_told_of, told_of}
 use Rattle.ua_headline.specs.Talk.{answers_to}
-
-pub own_id : (o : Option CutFault) (id k : ℕ) (body : List ℕ) → k ≡ id → is_told_of k (told_reply o id body) ≡ true
-own_id None id k body e = eq-eqb id k (sym e)
-own_id (Some fault) id k body e = eq-eqb id k (sym e)
-
-pub other_id : (o : Option CutFault) (id k : ℕ) (body : List ℕ) → (id ≡ k → ⊥) → is_told_of k (told_reply o id body) ≡ false
-other_id None id k body e = ne_eqb id k e
-other_id (Some fault) id k body e = ne_eqb id k e
+use Rattle.ua_loopback.proofs.Replying.{of_itself, of_no_other}
 
 pub skip : (k : ℕ) (x : ClientTold) (xs : List ClientTold) → is_told_of k x ≡ false → told_of k (x ∷ xs) ≡ told_of k xs
 skip k x xs is = ap (λ (b : Bool). cond b (x ∷ told_of k xs) (told_of k xs)) is
@@ -46,7 +38,7 @@ later_none lane s times issued id (CallWith body ∷ os) k past =
     let given : State × Response = answered s (first_time times) body in
     let reply : List ℕ = response.canonical given.1 in
     skip k (told_reply (cut_refusal lane reply) id reply) (answers_told lane (answers_to given.0 (behind_first times) issued (id + 1) os))
-    (other_id (cut_refusal lane reply) id k reply (λ e. omega (arith, past, e)))
+    (of_no_other (cut_refusal lane reply) id k reply (λ e. omega (arith, past, e)))
     ∙ later_none lane given.0 (behind_first times) issued (id + 1) os k (omega (arith, past))
 later_none lane s times issued id (RenewalAt time ∷ os) k past = later_none lane s (behind_first times) (issued + 1) (id + 1) os k (omega (arith, past))
 
@@ -70,7 +62,7 @@ each_told lane s times issued id (body ∷ bodies) k from to =
     by rest (inr here) =
         some_one k (told_reply (cut_refusal lane (response.canonical given.1)) id (response.canonical given.1))
         (answers_told lane (answers_to given.0 (behind_first times) issued (id + 1) (map CallWith bodies)))
-        (own_id (cut_refusal lane (response.canonical given.1)) id k (response.canonical given.1) (omega (arith, from, here)))
+        (of_itself (cut_refusal lane (response.canonical given.1)) id k (response.canonical given.1) (omega (arith, from, here)))
 
 -- nothing of a call before the last
 pub record LastOwn (k : ℕ) (told : List ClientTold) : Type 0 where
@@ -91,5 +83,5 @@ last_told lane s times issued id body (next ∷ bodies) k e =
       front = x ∷ rest.front;
       last = rest.last;
       parts = ap (λ (ts : List ClientTold). x ∷ ts) rest.parts;
-      none = skip k x rest.front (other_id (cut_refusal lane reply) id k reply (λ same. omega (arith, e, same))) ∙ rest.none;
+      none = skip k x rest.front (of_no_other (cut_refusal lane reply) id k reply (λ same. omega (arith, e, same))) ∙ rest.none;
     }

@@ -36,15 +36,15 @@ use Rattle.ua_channel.specs.Content.Content.{Sends}
 use Rattle.ua_channel.specs.Received.{received}
 use Rattle.ua_channel.specs.ServerSends.{opened_frame, replied, replied_by}
 use Rattle.ua_channel.proofs.ChunkFrames.{chunk_size}
-use Rattle.ua_channel.proofs.HeldTokens.{stays_in}
 use Rattle.ua_channel.proofs.OpeningFrames.{opening_size}
 use Rattle.ua_channel_laws.specs.Answers.Answer.{ReplyTo, TokenFor}
 use Rattle.ua_channel_laws.specs.Answers.{Answer, AreAnswersTo, answers_octets}
 use Rattle.ua_channel_laws.specs.ClientReads.{AtClient, ClientReads, IsAnswered, IsLaneBack, told_reply, with_answer, with_reply}
 use Rattle.ua_channel_laws.proofs.ClientReadsMessages.{reads_ack, reads_opened, reads_renewed, reads_replied}
-use Rattle.ua_channel_laws.proofs.InStep.{in_more}
 use Rattle.ua_channel_laws.proofs.Written.{IsNumbered, IsOf, chunks_are}
-use Rattle.ua_headline.proofs.Tells.{TellsLast, all_last, chunks_tell, frame_tells, given_some, numbered_last, sized_chunks}
+use Rattle.ua_headline.proofs.Tells.{TellsLast, chunks_tell, frame_tells, given_some, numbered_last}
+use Rattle.ua_channel_laws.proofs.Sized.{all_last, sized_chunks}
+use Rattle.ua_channel_laws.proofs.Groups.{lane_replied, lane_answered}
 
 abort_length : (code : StatusCode) → length (abort_body.canonical (code, None)) ≡ 8
 unfolding abort_body status_code text counted
@@ -54,32 +54,6 @@ abort_length code = omega (
   length-number_octets 4 code.code,
   length-number_octets 4 0xFFFF_FFFF,
 )
-
--- a lane to a client stays one
-lane_replied : (limits : Limits) (c : AtClient) (lane : Lane) (id next : ℕ) → IsLaneBack limits c lane
-    → IsLaneBack limits (with_reply c lane.token id next) lane
-lane_replied limits c lane id next back = record {
-  on = back.on;
-  held = stays_in lane.token c.tokens back.held;
-  on_small = back.on_small;
-  token_small = back.token_small;
-  some = back.some;
-  fits = back.fits;
-  octets = back.octets;
-  chunks = back.chunks;
-}
-
-lane_answered : (limits : Limits) (c : AtClient) (lane : Lane) (token next : ℕ) → IsLaneBack limits c lane → IsLaneBack limits (with_answer c token next) lane
-lane_answered limits c lane token next back = record {
-  on = back.on;
-  held = in_more lane.token token c.tokens back.held;
-  on_small = back.on_small;
-  token_small = back.token_small;
-  some = back.some;
-  fits = back.fits;
-  octets = back.octets;
-  chunks = back.chunks;
-}
 
 module _ (limits : Limits) (asks : List Placed) where
   abbrev R : Rules ClientTold Why

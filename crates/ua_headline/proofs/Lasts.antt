@@ -1,10 +1,8 @@
 -- That a server is told something at the last octet of what a client sends, so that it is not told of a request before all its octets came.
-use Rattle.std.proofs.Common.{◌≡◌, ℕ, pos, ◌+◌, ◌<◌, ◌≤◌, ◌^◌, leb, IsTrue, List, [], ◌∷◌, ◌++◌, Option}
-use Rattle.std.proofs.Common.{Some, None, length, refl, sym, subst, arith, append-nil, append_assoc}
+use Rattle.std.proofs.Common.{◌≡◌, ℕ, pos, ◌+◌, ◌<◌, ◌≤◌, ◌^◌, IsTrue, List, [], ◌∷◌, ◌++◌, Option}
+use Rattle.std.proofs.Common.{Some, length, refl, sym, subst, arith, append-nil, append_assoc}
 use Rattle.std.specs.List.{AllByRecursion}
-use Rattle.std.proofs.lemmas.Bool.{leb-false}
 use Rattle.ua_builtin.specs.DateTime.{date_time}
-use Rattle.ua_builtin.specs.Reasons.{first_reason}
 use Rattle.ua_builtin.specs.declared.date_time.DateTime.{DateTime}
 use Rattle.ua_frame.specs.Agreement.{url_length}
 use Rattle.ua_frame.specs.Frames.{IsSized, frame_octets}
@@ -22,25 +20,24 @@ use Rattle.ua_chunk.specs.declared.flag.Flag.TheVariants.{F}
 use Rattle.ua_chunk.specs.declared.lane.Lane.{Lane}
 use Rattle.ua_chunk.proofs.Fresh.{some_pieces}
 use Rattle.ua_channel.specs.Agreement.{agreement_of}
-use Rattle.ua_channel.specs.ClientAsks.{is_too_large, most_pending, most_tokens, no_id}
 use Rattle.ua_channel.specs.ClientSends.{first_open, hello_frame, hello_to, renewal_frame, token_lifetime}
 use Rattle.ua_channel.specs.Content.{Content, content}
 use Rattle.ua_channel.specs.Content.Content.{Sends}
-use Rattle.ua_channel.specs.Received.{has_some, latest, received}
+use Rattle.ua_channel.specs.Received.{latest, received}
 use Rattle.ua_channel.specs.ServerRules.{receive_size, server_rules}
 use Rattle.ua_channel.specs.ServerTold.{Told, Agreed, Asked, Opened, server_tells, told_under}
 use Rattle.ua_channel.proofs.OpeningFrames.{opening_size}
 use Rattle.ua_channel_laws.specs.ClientReads.{AtClient, lane_from, with_call, with_renewal}
 use Rattle.ua_channel_laws.specs.InStep.{AreInStep}
 use Rattle.ua_channel_laws.specs.Outgoing.Outgoing.{CallWith, RenewalAt}
-use Rattle.ua_channel_laws.specs.Outgoing.{AreWritable, Outgoing, issued_behind, one_reasons, outgoing_octets, outgoing_refusal}
+use Rattle.ua_channel_laws.specs.Outgoing.{Outgoing, issued_behind, outgoing_octets}
 use Rattle.ua_channel_laws.specs.ServerReads.{AtServer, IsBodyFor, IsLaneTo, ServerReads, greeted_at, with_message, with_token}
-use Rattle.ua_channel_laws.proofs.Groups.{AreSendable, none_parts}
+use Rattle.ua_channel_laws.proofs.Groups.{AreSendable, no_fewer}
 use Rattle.ua_channel_laws.proofs.InStep.{body_for, in_step_call, in_step_renewal, lane_to}
 use Rattle.ua_channel_laws.proofs.ServerReadsMessages.{reads_first, reads_hello, reads_message, reads_renewal}
 use Rattle.ua_channel_laws.proofs.Written.{IsNumbered, IsOf, chunks_are}
-use Rattle.ua_headline.proofs.Answered.{or_none}
-use Rattle.ua_headline.proofs.Tells.{TellsLast, all_last, chunks_tell, frame_tells, given_some, numbered_last, sized_chunks}
+use Rattle.ua_headline.proofs.Tells.{TellsLast, chunks_tell, frame_tells, given_some, numbered_last}
+use Rattle.ua_channel_laws.proofs.Sized.{all_last, sized_chunks}
 
 -- ---- a call
 
@@ -92,28 +89,6 @@ module _ (limits : Limits) (channel : ℕ) (octets : List ℕ) (told : List Told
       )
 
 -- ---- all that is sent in a turn
-
--- those that a client does not refuse can be sent
-pub sendable : (c : AtClient) (id : ℕ) (os : List Outgoing) → AreWritable os → outgoing_refusal c id os ≡ None → AreSendable c.ack id os
-sendable c id [] w judged = tt
-sendable c id (CallWith body ∷ os) w judged =
-    let parts = or_none (first_reason (one_reasons c id (CallWith body))) (outgoing_refusal (with_call c id) (id + 1) os) judged in
-    let one = none_parts (leb most_pending (length c.pending)) _ _ parts.0 in
-    let two = none_parts (leb no_id id) _ _ one.1 in
-    let three = none_parts (is_too_large c.ack body) _ _ two.1 in
-    (leb-false no_id id two.0, (w.0, three.0), sendable (with_call c id) (id + 1) os w.1 parts.1)
-sendable c id (RenewalAt moment ∷ os) w judged =
-    let parts = or_none (first_reason (one_reasons c id (RenewalAt moment))) (outgoing_refusal (with_renewal c id) (id + 1) os) judged in
-    let one = none_parts (has_some c.renewals) _ _ parts.0 in
-    let two = none_parts (leb most_tokens (length c.tokens)) _ _ one.1 in
-    let three = none_parts (leb no_id id) _ _ two.1 in
-    (leb-false no_id id three.0, w.0, sendable (with_renewal c id) (id + 1) os w.1 parts.1)
-
--- tokens are only issued
-no_fewer : (issued : ℕ) (os : List Outgoing) → issued ≤ issued_behind issued os
-no_fewer issued [] = omega arith
-no_fewer issued (CallWith body ∷ os) = no_fewer issued os
-no_fewer issued (RenewalAt moment ∷ os) = let more = no_fewer (issued + 1) os in omega (arith, more)
 
 module _ (server client : Limits) (url : Option (List ℕ)) (channel : ℕ) (on : channel < 2 ^ 32) where
   abbrev S : Rules Told ℕ

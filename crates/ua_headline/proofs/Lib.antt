@@ -1,8 +1,6 @@
-mod Lists
 mod Served
 mod Answered
 mod Turning
-mod Further
 mod Fronts
 mod Tells
 mod Lasts

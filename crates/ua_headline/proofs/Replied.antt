@@ -39,7 +39,7 @@ use Rattle.ua_headline.proofs.Calling.{calls_done, got_there, limits_then, makes
 use Rattle.ua_headline.proofs.Doing.{linked_got, linked_told, took_of_turns}
 use Rattle.ua_headline.proofs.EachCall.{told_once, told_prefix}
 use Rattle.ua_headline.proofs.Fronts.{prefix_of_prefix}
-use Rattle.ua_headline.proofs.Lists.{same_next}
+use Rattle.ua_channel_laws.proofs.Lists.{same_next}
 use Rattle.ua_headline.proofs.Steps.{next_asks}
 use Rattle.ua_headline.proofs.Talking.{AsksEarlier, EndsConnect, RoundsReach, not_failed, told_first}
 

@@ -45,7 +45,7 @@ use Rattle.ua_headline.specs.Clients.{AreAnswered, Deed, HasRenewed, IsAnsweredA
 use Rattle.ua_headline.specs.Clients.Deed.{Calls, Renews}
 use Rattle.ua_headline.specs.Talk.{Ends, answers_to, left_by}
 use Rattle.ua_headline.proofs.HeardIds.{each_told, last_told}
-use Rattle.ua_headline.proofs.Lists.{split_last}
+use Rattle.ua_channel_laws.proofs.Lists.{split_last}
 use Rattle.ua_headline.proofs.Steps.{AreHere, here_then, tells_then}
 use Rattle.ua_headline.proofs.Tells.{ComesLast, took_just}
 use Rattle.ua_headline.proofs.Turning.{turn}

@@ -32,10 +32,10 @@ use Rattle.ua_server.proofs.SaidInParts.{said-append}
 use Rattle.ua_client.specs.Told.{is_told_of, told_of}
 use Rattle.ua_headline.specs.Talk.{Ends, IsPrefix, answers_to, left_by}
 use Rattle.ua_headline.proofs.Answered.{AreDated, dated_left}
-use Rattle.ua_headline.proofs.Further.{behind, run_further}
+use Rattle.ua_channel_laws.proofs.Further.{behind, run_further}
 use Rattle.ua_headline.proofs.HeardIds.{later_none}
 use Rattle.ua_headline.proofs.Heards.{answers_tell}
-use Rattle.ua_headline.proofs.Lists.{meets}
+use Rattle.ua_channel_laws.proofs.Lists.{meets}
 use Rattle.ua_headline.proofs.Tells.{TellsLast}
 use Rattle.ua_headline.proofs.Turning.{IsBetween, IsSaid, between_then, is_round, said_then, turn}
 

@@ -41,11 +41,13 @@ use Rattle.ua_headline.specs.Talk.{AreRoundsAccepted, AreFirstOf, CanOpen, Ends,
 use Rattle.ua_headline.specs.Talk.{both_opened, heard_in, opening_answer_of_ends, rounds_in, sent_in, state_from, told_by_turns}
 use Rattle.ua_headline.proofs.Answered.{dated_behind, dated_first}
 use Rattle.ua_headline.proofs.Fronts.{accepted_first, behind_both, prefix_of_prefix, sent_first}
-use Rattle.ua_headline.proofs.Further.{behind, run_further}
-use Rattle.ua_headline.proofs.Lasts.{opening_tells, sendable, turn_tells}
-use Rattle.ua_headline.proofs.Lists.{meets, split_last}
-use Rattle.ua_headline.proofs.Tells.{EndTelling, TellsLast, all_sized, front_sized}
+use Rattle.ua_channel_laws.proofs.Further.{behind, run_further}
+use Rattle.ua_headline.proofs.Lasts.{opening_tells, turn_tells}
+use Rattle.ua_channel_laws.proofs.Lists.{meets, split_last}
+use Rattle.ua_headline.proofs.Tells.{EndTelling, TellsLast}
+use Rattle.ua_channel_laws.proofs.Sized.{all_sized, front_sized}
 use Rattle.ua_headline.proofs.Turning.{AreSaid, are_rounds, are_said, between_first, is_said_first}
+use Rattle.ua_channel_laws.proofs.Groups.{sendable}
 
 -- ---- the laws that this stands on
 

@@ -125,7 +125,7 @@ pub tokens_stay : (c : AtClient) (id : ℕ) (bodies : List (List ℕ)) → (with
 tokens_stay c id [] = refl
 tokens_stay c id (body ∷ bodies) = tokens_stay (with_call c id) (id + 1) bodies
 
-all_by : (P : ℕ → Type 0) (stays : Bool) (m : ℕ) (ms from : List ℕ) → P m → AllByRecursion P ms → AllByRecursion P from
+pub all_by : (P : ℕ → Type 0) (stays : Bool) (m : ℕ) (ms from : List ℕ) → P m → AllByRecursion P ms → AllByRecursion P from
     → AllByRecursion P (if stays then m ∷ ms else from)
 all_by P true m ms from one h k = (one, h)
 all_by P false m ms from one h k = k

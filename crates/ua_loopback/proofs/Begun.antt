@@ -49,8 +49,8 @@ use Rattle.ua_loopback.specs.Talking.{AreTalking, IsLineTo, TalksAt, opening}
 use Rattle.ua_loopback.specs.inside.Talking.{CanOpenTo, StaysTalking, HasOpenedTo}
 use Rattle.ua_loopback.specs.Together.{AreServing, opening_answer}
 use Rattle.ua_loopback.specs.Turns.{opening_told}
-use Rattle.ua_loopback.proofs.Ending.{frames_behind}
-use Rattle.ua_loopback.proofs.Lists.{split_last}
+use Rattle.ua_channel_laws.proofs.Sized.{frames_behind}
+use Rattle.ua_channel_laws.proofs.Lists.{split_last}
 use Rattle.ua_loopback.proofs.Opened.{answer_read, begin_together, opening_said, state_first_two}
 use Rattle.ua_loopback.proofs.Refused.{short_url}
 use Rattle.ua_loopback.proofs.Talks.{fronts, line_on, talking_as}

@@ -30,7 +30,8 @@ use Rattle.ua_loopback.specs.Turns.{calls_told, conversation_told, id_behind_tur
 use Rattle.ua_loopback.specs.Turns.{opening_told, token_behind_turn, tokens_behind, turn_told, turns_told}
 use Rattle.ua_loopback.proofs.Answering.{hello_stays, issued_stays}
 use Rattle.ua_loopback.proofs.Pushes.{ids_push}
-use Rattle.ua_loopback.proofs.Reaching.{AreAsked, calls_counted, calls_read, none_parts, not_refused, opening_read}
+use Rattle.ua_loopback.proofs.Reaching.{AreAsked, calls_counted, calls_read, not_refused, opening_read}
+use Rattle.ua_channel_laws.proofs.Groups.{none_parts}
 
 -- no request id is past the last behind calls that are asked
 few_behind : (a : Ack) (id : ℕ) (ms : List Request) → AreAsked a id ms → id ≤ no_id → id + length ms ≤ no_id

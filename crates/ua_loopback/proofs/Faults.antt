@@ -53,7 +53,7 @@ use Rattle.ua_loopback.specs.Talking.{AreTalking, IsLineTo, IsSentOver, StopsOve
 use Rattle.ua_loopback.specs.Together.{opening_answer}
 use Rattle.ua_loopback.specs.Turns.{calls_told, id_behind_turn, ids_behind}
 use Rattle.ua_loopback.specs.inside.Talking.{CanOpenTo, HasMisanswer, HaveMisanswers}
-use Rattle.ua_loopback.proofs.Ending.{all_last}
+use Rattle.ua_channel_laws.proofs.Sized.{all_last}
 use Rattle.ua_loopback.proofs.Opened.{answer_read, opening_said}
 use Rattle.ua_loopback.proofs.Reaching.{opening_read, requests_read, writable}
 use Rattle.ua_loopback.proofs.Renewed.{renewal_heard, server_renewed}

@@ -1,5 +1,3 @@
-mod Further
-mod Lists
 pub mod Saying
 pub mod Stepped
 mod Pieces

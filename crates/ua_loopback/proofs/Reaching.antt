@@ -1,7 +1,6 @@
 -- That what a client over a line sends is what a server reads.
-use Rattle.std.proofs.Common.{◌≡◌, ℕ, ◌+◌, ◌<◌, ◌≤◌, ◌^◌, Bool, true, false, not, leb, IsTrue, List, []}
+use Rattle.std.proofs.Common.{◌≡◌, ℕ, ◌+◌, ◌<◌, ◌≤◌, ◌^◌, not, leb, IsTrue, List, []}
 use Rattle.std.proofs.Common.{◌∷◌, ◌++◌, Option, Some, None, length, map, refl, sym, ◌∙◌, ap, subst, arith}
-use Rattle.std.specs.Prelude.{if◌then◌else◌}
 use Rattle.std.specs.List.{AllByRecursion}
 use Rattle.std.proofs.lemmas.Bool.{leb-false, not-false}
 use Rattle.ua_builtin.specs.DateTime.{date_time}
@@ -28,7 +27,7 @@ use Rattle.ua_channel.specs.Received.{Received, latest, received}
 use Rattle.ua_channel_laws.specs.ServerReads.{AtServer, ServerCloses, ServerReads, greeted_at, with_message, with_token}
 use Rattle.ua_channel.specs.ServerTold.{Told, Agreed, Opened, Closed}
 use Rattle.ua_channel.specs.declared.client.channel.ClientChannel.{ClientChannel}
-use Rattle.ua_channel_laws.proofs.Groups.{AreSendable, none_issued, none_told, reads_sendable}
+use Rattle.ua_channel_laws.proofs.Groups.{AreSendable, none_issued, none_parts, none_told, reads_sendable}
 use Rattle.ua_channel_laws.proofs.ServerReadsMessages.{reads_close, reads_first, reads_hello, reads_renewal}
 use Rattle.ua_services.proofs.RequestLawful.{lawful_request}
 use Rattle.ua_services.specs.Request.{request}
@@ -66,10 +65,6 @@ module _ (x : ClientChannel) (s : ClientPlace) (c : AtClient) (at : StandsAt x s
       ∙ ap (λ (k : Option ℕ). lane_by (Some c.ack) (Some c.channel) k) (ap latest r.tokens_are ∙ r.newest_is)))
 
 -- ---- what is not refused
-
-pub none_parts : {A : Type 0} (b : Bool) (x : A) (o : Option A) → (if b then Some x else o) ≡ None → (b ≡ false) × (o ≡ None)
-none_parts true x o e = absurd cc
-none_parts false x o e = (refl, e)
 
 some_octets : (m : Request) (b : List ℕ) → request.encodes m b → 0 < length b
 some_octets m [] h = absurd (lawful_request.starts m h)

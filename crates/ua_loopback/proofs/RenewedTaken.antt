@@ -9,7 +9,7 @@ use Rattle.ua_frame.specs.Run.{Fits, Going, Rules, Run, events}
 use Rattle.ua_frame.proofs.Unique.{front_frame, front_none, one_frame}
 use Rattle.ua_channel.proofs.AskedLater.{frames_octets-append}
 use Rattle.ua_channel_laws.proofs.ReadOn.{begins_run, events_on, told_behind}
-use Rattle.ua_loopback.proofs.Lists.{split_last}
+use Rattle.ua_channel_laws.proofs.Lists.{split_last}
 
 -- ---- lists
 

@@ -208,11 +208,11 @@ passes : (k : ℕ) (us : List Heard) (t : Heard) → told_of k us ≡ [] → is_
 passes k us t none is =
     filter_append (is_told_of k) us (t ∷ []) ∙ (ap (λ (ts : List Heard). ts ++ told_of k (t ∷ [])) none ∙ ap (λ (b : Bool). cond b (t ∷ []) []) is)
 
-of_itself : (o : Option CutFault) (id k : ℕ) (body : List ℕ) → k ≡ id → is_told_of k (told_reply o id body) ≡ true
+pub of_itself : (o : Option CutFault) (id k : ℕ) (body : List ℕ) → k ≡ id → is_told_of k (told_reply o id body) ≡ true
 of_itself None id k body e = eq-eqb id k (sym e)
 of_itself (Some fault) id k body e = eq-eqb id k (sym e)
 
-of_no_other : (o : Option CutFault) (id k : ℕ) (body : List ℕ) → (id ≡ k → ⊥) → is_told_of k (told_reply o id body) ≡ false
+pub of_no_other : (o : Option CutFault) (id k : ℕ) (body : List ℕ) → (id ≡ k → ⊥) → is_told_of k (told_reply o id body) ≡ false
 of_no_other None id k body e = ne_eqb id k e
 of_no_other (Some fault) id k body e = ne_eqb id k e
 

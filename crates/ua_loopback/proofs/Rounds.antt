@@ -50,7 +50,7 @@ use Rattle.ua_loopback.specs.Together.{AreServing, behind_calls}
 use Rattle.ua_loopback.specs.Turns.{calls_told}
 use Rattle.ua_loopback.specs.Talking.{IsServed}
 use Rattle.ua_loopback.proofs.Answering.{issued_stays}
-use Rattle.ua_loopback.proofs.Ending.{all_last}
+use Rattle.ua_channel_laws.proofs.Sized.{all_last}
 use Rattle.ua_loopback.proofs.Reaching.{acked_here, few_ids, lane_here, not_exhausted, requests_asked, tokens_here, writable}
 use Rattle.ua_loopback.proofs.Renewed.{renewal_taken, renewed_together}
 use Rattle.ua_loopback.proofs.Saying.{later_times, said_further}

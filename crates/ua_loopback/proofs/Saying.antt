@@ -15,7 +15,7 @@ use Rattle.ua_server.specs.Said.{Course, last_words, state_after, course_after a
 use Rattle.ua_server.proofs.SaidInParts.{left-append, left-more, said-append, said-more, used_in-append}
 use Rattle.ua_loopback.specs.Beginning.{Beginning}
 use Rattle.ua_loopback.specs.Says.{end_by, services_after, reading_at_server, server_output, answer_times, events_at_server, times_from}
-use Rattle.ua_loopback.proofs.Further.{behind, run_further}
+use Rattle.ua_channel_laws.proofs.Further.{behind, run_further}
 
 -- ---- by a reading
 

@@ -42,7 +42,7 @@ use Rattle.ua_loopback.specs.Turns.{calls_told}
 use Rattle.ua_loopback.proofs.Answering.{AreHeard, answers_told, calls_asked, calls_in_step, hello_stays, issued_stays}
 use Rattle.ua_loopback.proofs.Answering.{newest_stays, replies_read, told_each, tokens_stay, used_last, waits, with_calls}
 use Rattle.ua_loopback.proofs.Ending.{LastChunk}
-use Rattle.ua_loopback.proofs.Lists.{meets}
+use Rattle.ua_channel_laws.proofs.Lists.{meets}
 use Rattle.ua_loopback.proofs.Reaching.{few_ids, numbers_read, requests_asked, requests_read}
 use Rattle.ua_loopback.proofs.Replying.{AreWritable, misanswered_at, moments_there}
 use Rattle.ua_loopback.proofs.Saying.{later_times, left_on, said_by_run, said_on}

@@ -37,7 +37,7 @@ use Rattle.ua_client.specs.declared.reply.Reply.{Reply}
 use Rattle.ua_client.proofs.Renewals.{none-holds}
 use Rattle.ua_client.proofs.Settled.{NonePending}
 use Rattle.ua_loopback.proofs.Ending.{EndsInChunk}
-use Rattle.ua_loopback.proofs.Lists.{split_last}
+use Rattle.ua_channel_laws.proofs.Lists.{split_last}
 
 -- ---- calls of which none is unanswered
 
