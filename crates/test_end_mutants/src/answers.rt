@@ -1,10 +1,9 @@
 //! Requests that are answered.
 
-ghost use Rattle.std.specs.Prelude.{◌≡◌, IfOk, OnErr};
+ghost use Rattle.std.specs.Prelude.{◌≡◌, IfOk};
 ghost use Rattle.ua_nodes.specs.Set.{after_set};
 ghost use Rattle.ua_services.specs.Response.{response};
 ghost use Rattle.ua_server.specs.Answer.{answer};
-ghost use Rattle.ua_server.specs.Attributes.{takes_now};
 ghost use Rattle.ua_server.specs.Reply.{answered};
 ghost use Rattle.ua_server.specs.State.{with_nodes};
 
@@ -12,7 +11,7 @@ use std::alloc::{AllocError, Global};
 use ua_builtin::{DateTime, NodeId, Source, StatusCode};
 use ua_nodes::Reading;
 use ua_server::Services;
-use ua_services::{Request, Response, TakesTypes, ValueType, response_body};
+use ua_services::{Request, Response, response_body};
 
 /// The body of the reply to a message.
 pub fn reply_to<S: Source>(
@@ -47,19 +46,6 @@ pub fn answer_both(
     (one, two)
 }
 
-/// The response to a request, which leaves the services as they were where there is none.
-pub fn answer_or_keep(
-    services: &mut Services,
-    alloc: Global,
-    request: Request,
-    moment: DateTime,
-) -> Result<Response, AllocError>
-    ensures kept { OnErr result (services.new ≡ services.old) }
-{
-    let given = services.answer(alloc, request, moment);
-    given
-}
-
 /// The response to a request after a reading that the application sets.
 pub fn answer_behind_set(
     services: &mut Services,
@@ -75,11 +61,4 @@ pub fn answer_behind_set(
 {
     let _set = services.set(sensor, reading);
     services.answer(alloc, request, moment)
-}
-
-/// Whether a node could take a value of a type now: none could before a session is activated.
-pub fn could_take_now(services: &Services, id: &NodeId, value_type: ValueType) -> bool
-    ensures taken { result ≡ takes_now services.now id.now value_type }
-{
-    services.could_take(id, value_type)
 }

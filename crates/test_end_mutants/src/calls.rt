@@ -6,12 +6,12 @@ ghost use Rattle.ua_client.specs.Calls.{CallsAll};
 ghost use Rattle.ua_client.specs.Client.{Closes, IsReady, OpensClient, OpensNothing, client_channel, connection_of};
 ghost use Rattle.ua_client.specs.Kept.{CallsInto};
 ghost use Rattle.ua_client.specs.Renewing.{Renews};
-ghost use Rattle.ua_client.specs.Session.{BeginsSessionAs, TriesSession};
+ghost use Rattle.ua_client.specs.Session.{BeginsSessionAs};
 
 use std::alloc::Global;
 use ua_builtin::{DateTime, NodeId, UaString};
 use ua_channel::Line;
-use ua_client::{CallsFault, Client, ClientFault, Reply, SessionFault};
+use ua_client::{CallsFault, Client, ClientFault, Reply};
 use ua_frame::Limits;
 use ua_services::Request;
 
@@ -94,17 +94,4 @@ pub fn begin_by<L: Line>(
         (connection_of client.new) (L.traffic line.old) (L.traffic line.new) result }
 {
     client.begin_session_as(line, policy_id, moment)
-}
-
-/// Begins one, and says the token of one that was created and not activated.
-pub fn try_begin_by<L: Line>(
-    client: &mut Client,
-    line: &mut L,
-    policy_id: UaString,
-    moment: DateTime,
-) -> Result<NodeId, SessionFault>
-    ensures { IsReady client.old → TriesSession policy_id moment (connection_of client.old) (connection_of client.new)
-        (L.traffic line.old) (L.traffic line.new) result }
-{
-    client.try_begin_session(line, policy_id, moment)
 }

@@ -1,14 +1,13 @@
 //! A client and a server in one process.
 
-ghost use Rattle.std.specs.Prelude.{◌≡◌, ◌≤◌, IfErr, IsTrue, OnOk, Some, map};
+ghost use Rattle.std.specs.Prelude.{◌≡◌, ◌≤◌, IfErr, IsTrue, OnOk, map};
 ghost use Rattle.ua_wire.specs.Counted.{text};
-ghost use Rattle.ua_channel.specs.Line.{WriteTakes, IfTrafficKnown};
 ghost use Rattle.ua_frame.specs.Agreement.{url_length};
 ghost use Rattle.ua_loopback.specs.Accepted.{IsTurnFault};
 ghost use Rattle.ua_loopback.specs.Asked.{asked_by};
 ghost use Rattle.ua_loopback.specs.Beginning.{beginning_of};
 ghost use Rattle.ua_loopback.specs.Faults.{BehindRefused, FailsAtStage, FailsBehind};
-ghost use Rattle.ua_loopback.specs.Kept.{LeavesAtStage, traffic_of};
+ghost use Rattle.ua_loopback.specs.Kept.{LeavesAtStage};
 ghost use Rattle.ua_loopback.specs.Says.{services_after};
 ghost use Rattle.ua_loopback.specs.Talking.{IsTalking, SoFar};
 ghost use Rattle.ua_loopback.specs.declared.stage.Stage.TheVariants.{Ended};
@@ -16,21 +15,11 @@ ghost use Rattle.ua_server.specs.declared.step.End.TheVariants.{Closed};
 
 use std::alloc::Global;
 use ua_builtin::{DateTime, UaString};
-use ua_channel::{Line, LineFault};
+use ua_channel::Line;
 use ua_client::{Client, ClientFault};
 use ua_loopback::talking_laws::renewals_go_on;
-use ua_loopback::{
-    Began, ConversationLog, Fragments, Operation, ServedLine, ServerSetup, converse,
-};
+use ua_loopback::{ConversationLog, Fragments, Operation, ServerSetup, converse};
 use ua_server::Services;
-
-/// Writes bytes to a transport to a server.
-pub fn write_up<W: Began>(line: &mut ServedLine<W>, octets: &[u8]) -> Result<usize, LineFault>
-    ensures octets { IfTrafficKnown (WriteTakes result octets.now) (Some (traffic_of W.beginning line.old))
-        (Some (traffic_of W.beginning line.new)) }
-{
-    line.write(octets)
-}
 
 /// The outcome of a client's operations over a transport to a server. Services that are the same as
 /// the server's stand beside it.

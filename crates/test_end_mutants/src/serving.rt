@@ -1,24 +1,14 @@
-//! A transport that is served, and bytes that are.
+//! A transport that is served.
 
-ghost use Rattle.std.specs.Prelude.{ℕ, List};
-ghost use Rattle.ua_builtin.specs.declared.date_time.DateTime.{DateTime};
-ghost use Rattle.ua_channel.specs.ServerStands.{channel_of, limits_of};
-ghost use Rattle.ua_channel.specs.ServerTold.{Told};
-ghost use Rattle.example_callers.specs.Serve.{ServesBytes};
-ghost use Rattle.ua_server.specs.Served.{channel_in};
 ghost use Rattle.ua_server.specs.Serving.{Serves, LineFailed};
 ghost use Rattle.ua_server.specs.ServingOver.{ServesApplication};
-ghost use Rattle.ua_server.specs.ServingParts.{Asked};
-ghost use Rattle.ua_server.specs.State.{State, begun};
-ghost use Rattle.ua_server.specs.Stepping.{ServerStands};
+ghost use Rattle.ua_server.specs.State.{begun};
 
-use example_callers::serve_octets;
 use std::alloc::Global;
 use ua_channel::{Line, Moments};
 use ua_frame::Limits;
 use ua_server::{
-    Application, End, ServeFault, ServeTerms, Server, Services, StepFault, Watch, serve,
-    serve_application,
+    Application, End, ServeFault, ServeTerms, Services, Watch, serve, serve_application,
 };
 
 /// Serves the client at the other end of a transport.
@@ -51,21 +41,4 @@ pub fn serve_beside<L: Line, M: Moments, W: Watch, A: Application>(
         (moments.new, watch.new) (L.traffic line.old) (L.traffic line.new) }
 {
     serve_application(line, services, terms, moments, watch, application)
-}
-
-/// Serves bytes that came after others.
-pub fn serve_more<M: Moments>(
-    server: &mut Server,
-    services: &mut Services,
-    octets: &[u8],
-    moments: &mut M,
-    out: &mut Vec<u8>,
-) -> Result<Option<End>, StepFault>
-    ensures serves { Asked M.gives moments.old moments.new (λ ticks. (first : State) (before : List ℕ)
-        (told : List Told) (times : List DateTime)
-        → ServerStands (channel_in server.old) before told first times services.old
-        → ServesBytes ticks (limits_of (channel_in server.old)) (channel_of (channel_in server.old)) first before told
-        times octets.now out.old.items result (channel_in server.new) out.new.items services.new) }
-{
-    serve_octets(server, services, octets, moments, out)
 }

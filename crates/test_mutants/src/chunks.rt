@@ -4,10 +4,8 @@ mod agreeing;
 mod assembling;
 mod cutting;
 mod framing;
-mod joining;
 
 pub use agreeing::agree_by;
-pub use assembling::{accept_by_reason, accept_next, accept_parts, held_by, step_next};
+pub use assembling::{accept_by_reason, accept_next, held_by, step_next};
 pub use cutting::cut_body;
-pub use framing::{take_frame, take_octets};
-pub use joining::source_of;
+pub use framing::take_frame;

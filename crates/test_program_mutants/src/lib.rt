@@ -6,9 +6,7 @@
 mod asked;
 mod dissected;
 mod judged;
-mod texts;
 
 pub use asked::ask_server;
-pub use dissected::{add_body_fields, end_lines, new_dissector, print_piece, tell_piece};
-pub use judged::{guess_order, judge_a_client, judge_a_server, renumber_stream};
-pub use texts::{add_double, name_status};
+pub use dissected::tell_piece;
+pub use judged::judge_a_server;

@@ -6,14 +6,10 @@ ghost use Rattle.ua_chunk.specs.Delivered.{delivered};
 ghost use Rattle.ua_chunk.specs.Open.{open_octets};
 ghost use Rattle.ua_chunk.specs.Refusal.{chunk_refusal, IsFor};
 ghost use Rattle.ua_chunk.specs.Sequence.{may_follow};
-ghost use Rattle.ua_chunk.specs.Gathered.{bodies, gathered};
-ghost use Rattle.ua_chunk.specs.View.{delivered_items, HasParts};
+ghost use Rattle.ua_chunk.specs.View.{delivered_items};
 ghost use Rattle.ua_chunk.specs.declared.chunk.Chunk.{Chunk};
 
-use bytes::Bytes;
-use std::alloc::Global;
-use ua_chunk::{AssembleFault, Assembler, Chunk, Delivered, Flag};
-use ua_wire::Source;
+use ua_chunk::{AssembleFault, Assembler, Chunk, Delivered};
 
 /// Takes the next chunk: what it delivers, and where the assembler then stands.
 pub fn accept_next(
@@ -57,21 +53,4 @@ pub fn held_by(assembler: &Assembler) -> usize
     ensures held { (cs : List Chunk) → Stands assembler.now cs → result ≡ open_octets cs }
 {
     assembler.held()
-}
-
-/// Takes the next chunk: a message has the bodies of its chunks that are not empty as its parts,
-/// in order.
-pub fn accept_parts(
-    assembler: &mut Assembler,
-    alloc: Global,
-    chunk: Chunk,
-) -> Result<Option<Delivered>, AssembleFault>
-    ensures { (cs : List Chunk) → Stands assembler.old cs → IfOk result (λ d. HasParts d (bodies (gathered cs chunk))) }
-{
-    let _alloc = alloc;
-    match assembler.accept(chunk) {
-        Ok(Some(Delivered::Whole(id, message))) => Ok(Some(Delivered::Whole(id, message))),
-        Ok(given) => Ok(given),
-        Err(fault) => Err(fault),
-    }
 }

@@ -1,11 +1,9 @@
 //! Frames that are read.
 
 ghost use Rattle.std.specs.Prelude.{List, ℕ};
-ghost use Rattle.ua_frame.specs.Reader.{StandsAfter, AnswersFragment, Takes};
+ghost use Rattle.ua_frame.specs.Reader.{StandsAfter, AnswersFragment};
 ghost use Rattle.ua_frame.specs.declared.frame.Frame.{Frame};
 
-use bytes::Bytes;
-use std::alloc::Global;
 use ua_frame::{Frame, FrameFault, FrameReader};
 
 /// Takes bytes up to the end of the first whole frame.
@@ -17,17 +15,4 @@ pub fn take_frame(
         → AnswersFragment reader.old piece.now result reader.new octets frames }
 {
     reader.take(piece)
-}
-
-/// Takes bytes up to the end of the first whole frame, whose bytes they are after those held.
-pub fn take_octets(
-    reader: &mut FrameReader,
-    alloc: Global,
-    piece: &[u8],
-) -> Result<(usize, Option<Frame>), FrameFault>
-    ensures { Takes reader.old piece.now result reader.new }
-{
-    let _alloc = alloc;
-    let taken = reader.take(piece);
-    taken
 }
