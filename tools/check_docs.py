@@ -69,7 +69,7 @@ def report_names(listing: list[str], sources: list[Source], words: set[str]) -> 
             everything |= set(re.findall(r"[\w']+", read(f)))
     everything |= set(re.findall(r"\w+", read("crates.txt")))
     for f in listing:
-        if re.fullmatch(r"crates/test_\w+/stdout", f):
+        if re.fullmatch(r"crates/test_\w+/stdout|rows/\w+\.rows", f):
             everything |= {word for line in read(f).split("\n") if line.startswith("# ") for word in re.findall(r"\w+", line)}
     rows = []
     for f in listing:
@@ -186,9 +186,9 @@ def report_messages(listing: list[str]) -> int:
     return say("Numbers of messages that the table of messages in docs/ENCODINGS.md lacks:", rows)
 
 
-def rows_of(crate: str) -> int:
-    """How many rows the table of a crate has."""
-    return sum(" = " in line and not line.startswith("#") for line in read(f"crates/{crate}/stdout").split("\n"))
+def rows_of(table: str) -> int:
+    """How many rows a table has."""
+    return sum(" = " in line and not line.startswith("#") for line in read(table).split("\n"))
 
 
 def kit_crates() -> set[str]:
@@ -210,7 +210,8 @@ def number_of(word: str) -> int | None:
 def report_numbers(listing: list[str]) -> int:
     bodies = [f for f in listing if f.endswith(".edit")]
     true = {"of its crates": len(kit_crates()), "crates": len(crates()), "wrong bodies": len(bodies), "mutants": len(bodies)}
-    true |= {f"rows of `{it}`": rows_of(it) for it in ("test_values", "test_streams", "test_program")}
+    true |= {f"rows of `{it}`": rows_of(f"crates/{it}/stdout") for it in ("test_values", "test_streams", "test_program")}
+    true |= {"rows of `rows/program.rows`": rows_of("rows/program.rows")}
     rows = []
     for f in listing:
         if f.endswith(".md") and f not in (*WRITTEN, "docs/ARCHITECTURE.md", "CHANGELOG.md") and not f.startswith("drafts/"):

@@ -18,7 +18,7 @@ Libraries are those of crates.txt that a program calls: no rows, promises, calls
    `Type::function`, `Trait::function`, or `Trait for Type` for all functions of one impl.
 2. A call that is handed an allocator, and is none of these, stands in that page's list of calls that cannot say it.
 3. Each call that the page names is one.
-4. Each line names rows or tests, and these exist: behind `values`, `streams` or `program` a comment of that table
+4. Each line names rows or tests, and these exist: behind `values`, `streams`, `program` or `ua` a comment of that table
    with rows below it, or the question of a row; behind `C` an example that makes the call. `none` stands where there are none.
 5. Each kind of message has a row of its own below what its line names: one that names its structure, as `list ReadRequest`,
    or that is answered by its kind, as `request .. = Read ..`.
@@ -50,7 +50,7 @@ OTHERS = {("ua_channel", "Line for MemoryLine")}
 # The kinds of message, with what each row of one begins with: `Read(ReadRequest) = 631,` in the list of kinds.
 KINDS = {"request": "crates/ua_services/src/request.rt", "response": "crates/ua_services/src/response.rt"}
 KIND = re.compile(r"^\s+(\w+)\((\w+)\) = \d+,$", re.M)
-TABLES = {name: f"crates/test_{name}/stdout" for name in ("values", "streams", "program")}
+TABLES = {name: f"crates/test_{name}/stdout" for name in ("values", "streams", "program")} | {"ua": "rows/program.rows"}
 
 
 class Sources:
@@ -213,7 +213,7 @@ class Tables:
 def cited(cell: str) -> list[tuple[str | None, str]]:
     """The rows and tests that a cell names, each with the word in front of it."""
     out, kind = [], None
-    for m in re.finditer(r"`([^`]+)`|\b(values|streams|program|C)(?=:)", cell):
+    for m in re.finditer(r"`([^`]+)`|\b(values|streams|program|ua|C)(?=:)", cell):
         if m.group(2):
             kind = m.group(2)
         else:

@@ -1,13 +1,12 @@
 //! What the words of a command line ask for.
 
 use crate::fault::Fault;
-use crate::run::words_of;
-use std::net::Net;
+use crate::texts::words_of;
 use ua_program::{Loop, Serve, Task, parse};
 
 /// `asked WORDS`: what these words ask for, with the values of those that are not given, too.
-pub fn asked<R: Net + AllocGlobal>(rt: &R, taken: u16, words: &str) -> Result<String, Fault> {
-    let words = words_of(rt, taken, words)?;
+pub fn asked<R: AllocGlobal>(rt: &R, words: &str) -> Result<String, Fault> {
+    let words = words_of(rt.alloc(), words)?;
     let Ok(parsed) = parse(rt.alloc(), &words) else {
         return Err(Fault::NoRow);
     };

@@ -1,15 +1,11 @@
 //! Why a row has no answer.
 
 use std::alloc::{AllocError, AllocFailed};
-use std::io;
-use ua_channel::LineFault;
 
 #[derive(Clone, Copy)]
 pub enum Fault {
     /// The line is no row.
     NoRow,
-    /// A file or a connection fails.
-    Failed,
     Memory,
 }
 
@@ -18,7 +14,6 @@ impl Fault {
     pub fn text(self) -> &'static str {
         match self {
             Fault::NoRow => "no row",
-            Fault::Failed => "a file or a connection fails",
             Fault::Memory => "out of memory",
         }
     }
@@ -41,17 +36,5 @@ impl From<AllocError> for Fault {
 impl<T: Drop> From<AllocFailed<T>> for Fault {
     fn from(_: AllocFailed<T>) -> Fault {
         Fault::Memory
-    }
-}
-
-impl From<io::Error> for Fault {
-    fn from(_: io::Error) -> Fault {
-        Fault::Failed
-    }
-}
-
-impl From<LineFault> for Fault {
-    fn from(_: LineFault) -> Fault {
-        Fault::Failed
     }
 }

@@ -3,32 +3,13 @@
 ghost use Rattle.std.specs.Prelude.{◌≤◌, IfOk};
 
 use crate::fault::Fault;
-use crate::octets::{digits, number_of, octets_of};
-use crate::tcp::pair;
-use crate::texts::first_word;
+use crate::texts::{first_word, number_of};
 use std::alloc::{AllocError, Global};
 use std::io;
 use std::io::{Read, Write};
-use std::net::Net;
-use std::rt::Files;
 use std::time::{Clock, Duration};
 use ua_channel::{Line, LineFault, MemoryLine, Moments};
 use ua_tcp::{ClockMoments, GatheringLine, TcpLine};
-
-/// `carried OCTETS`: bytes that are written at one end of a connection within this process, and
-/// read at the other one; after them how many a read gives once the first end has gone.
-pub fn carried<R: Files + Net + AllocGlobal>(rt: &R, words: &str) -> Result<String, Fault> {
-    let octets = octets_of(rt, words)?;
-    let (near, mut far) = pair(rt)?;
-    let mut near = TcpLine::new(near);
-    let wrote = near.write(&octets)?;
-    let mut buffer = [0; 64];
-    let read = far.read(&mut buffer)?;
-    drop(near);
-    let text = digits(rt.alloc(), buffer.get(..read).unwrap_or(&[]))?;
-    let behind = far.read(&mut buffer)?;
-    Ok(format!(in rt.alloc(); "wrote {wrote} read {text} then {behind}")?)
-}
 
 /// A stream that answers each call so: with this many bytes, or by a fault.
 #[derive(Drop)]

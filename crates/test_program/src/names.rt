@@ -1,11 +1,11 @@
 //! The texts of faults and of ends, also of those that no bytes and no words lead to.
 
-use crate::fault::Fault as RowFault;
-use crate::texts::first_word;
+use crate::fault::{Fault as RowFault, or_no_row};
+use crate::texts::{first_word, marked, number_of};
 use std::alloc::Global;
 use ua_builtin::StatusCode;
 use ua_client::ClientFault;
-use ua_program::{Fault, LoopFault, push_end, push_outcome};
+use ua_program::{Fault, LoopFault, push_end, push_outcome, say_no_memory};
 use ua_server::{End, ServeFault};
 use ua_session::QuestionFault;
 
@@ -48,7 +48,7 @@ fn client_fault_of(words: &str) -> Result<ClientFault, RowFault> {
 pub fn loop_fault(alloc: Global, words: &str) -> Result<String, RowFault> {
     let (name, word) = first_word(words);
     let fault = match name {
-        "ScriptLine" => LoopFault::ScriptLine(crate::octets::number_of(word)?),
+        "ScriptLine" => LoopFault::ScriptLine(number_of(word)?),
         "Exhausted" => LoopFault::Exhausted,
         "Service" => LoopFault::Service(code_of(word)?),
         "UnknownResponse" => LoopFault::UnknownResponse,
@@ -94,4 +94,14 @@ pub fn outcome(alloc: Global, words: &str) -> Result<String, RowFault> {
     let mut out = String::new(alloc);
     push_outcome(&mut out, outcome)?;
     Ok(out)
+}
+
+/// `no-memory NUMBER`: the line of a connection of this number at which an allocation failed.
+pub fn memory_refused(alloc: Global, number: &str) -> Result<String, RowFault> {
+    let Ok(number) = number.parse::<u32>() else {
+        return Err(RowFault::NoRow);
+    };
+    let mut out = Vec::new(alloc);
+    or_no_row(say_no_memory(number, &mut out))?;
+    marked(alloc, &out)
 }

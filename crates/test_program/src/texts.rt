@@ -1,19 +1,7 @@
 //! Texts as rows have them.
 
-use crate::fault::Fault;
-use std::alloc::{AllocError, Global};
-
-/// What stands for the signs that a row cannot have as they are.
-const MARKS: [(&str, &str); 4] = [("\\s", " "), ("\\t", "\t"), ("\\r", "\r"), ("\\n", "\n")];
-
-/// The text that a word stands for.
-pub fn unmarked(alloc: Global, word: &str) -> Result<String, AllocError> {
-    let mut text = String::from_str(alloc, word)?;
-    for (mark, sign) in MARKS {
-        text = text.replace(alloc, mark, sign)?;
-    }
-    Ok(text)
-}
+use crate::fault::{Fault, or_no_row};
+use std::alloc::Global;
 
 /// Bytes of a text, as a row has them.
 pub fn marked(alloc: Global, octets: &[u8]) -> Result<String, Fault> {
@@ -27,4 +15,18 @@ pub fn marked(alloc: Global, octets: &[u8]) -> Result<String, Fault> {
 /// The next word, and what is after it.
 pub fn first_word(words: &str) -> (&str, &str) {
     words.split_once(' ').unwrap_or((words, ""))
+}
+
+/// The number that a word is.
+pub fn number_of(word: &str) -> Result<usize, Fault> {
+    or_no_row(word.parse::<usize>())
+}
+
+/// The words of a run.
+pub fn words_of(alloc: Global, words: &str) -> Result<Vec<String>, Fault> {
+    let mut list = Vec::new(alloc);
+    for word in words.split_whitespace() {
+        list.push(String::from_str(alloc, word)?)?;
+    }
+    Ok(list)
 }

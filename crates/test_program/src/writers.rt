@@ -1,9 +1,7 @@
 //! Runs of the program `ua` of which a writer fails.
 
 use crate::fault::Fault;
-use crate::octets::number_of;
-use crate::run::{presence, words_of};
-use crate::texts::{first_word, marked};
+use crate::texts::{first_word, marked, number_of, words_of};
 use std::io;
 use std::io::Write;
 use std::net::Net;
@@ -13,14 +11,14 @@ use ua_program::{refuse_words, run};
 
 /// A writer that has room for this many bytes, and then fails. It may fail where it is flushed.
 #[derive(Drop)]
-pub struct Failing {
+struct Failing {
     room: usize,
     flushes: bool,
 }
 
 impl Failing {
     /// `N` has room for this many bytes; `unflushed` takes each byte, and can't be flushed.
-    pub fn of(word: &str) -> Result<Failing, Fault> {
+    fn of(word: &str) -> Result<Failing, Fault> {
         if word == "unflushed" {
             return Ok(Failing {
                 room: usize::MAX,
@@ -53,48 +51,37 @@ impl Write for Failing {
     }
 }
 
-/// `out WRITER WORDS`: a run that prints to such a writer: the status, and whether something is
-/// told.
-pub fn out_row<R: Files + Net + Clock + AllocGlobal>(
-    rt: &R,
-    taken: u16,
-    words: &str,
-) -> Result<String, Fault> {
-    let (writer, words) = first_word(words);
-    let mut err = Vec::new(rt.alloc());
-    let mut out = Failing::of(writer)?;
-    let status = status_of(rt, &words_of(rt, taken, words)?, &mut out, &mut err);
-    let err = presence(&err);
-    Ok(format!(in rt.alloc(); "{status} err {err}")?)
-}
-
 /// `out-told WRITER WORDS`: a run that prints to such a writer: the status, and what is told.
 pub fn out_told_row<R: Files + Net + Clock + AllocGlobal>(
     rt: &R,
-    taken: u16,
     words: &str,
 ) -> Result<String, Fault> {
     let (writer, words) = first_word(words);
     let mut err = Vec::new(rt.alloc());
     let mut out = Failing::of(writer)?;
-    let status = status_of(rt, &words_of(rt, taken, words)?, &mut out, &mut err);
+    let status = status_of(rt, &words_of(rt.alloc(), words)?, &mut out, &mut err);
     let err = marked(rt.alloc(), &err)?;
     Ok(format!(in rt.alloc(); "{status} err \"{err}\"")?)
 }
 
 /// `err WRITER WORDS`: a run that tells its faults to such a writer: the status, and whether
 /// something is printed.
-pub fn err_row<R: Files + Net + Clock + AllocGlobal>(
-    rt: &R,
-    taken: u16,
-    words: &str,
-) -> Result<String, Fault> {
+pub fn err_row<R: Files + Net + Clock + AllocGlobal>(rt: &R, words: &str) -> Result<String, Fault> {
     let (writer, words) = first_word(words);
     let mut out = Vec::new(rt.alloc());
     let mut err = Failing::of(writer)?;
-    let status = status_of(rt, &words_of(rt, taken, words)?, &mut out, &mut err);
+    let status = status_of(rt, &words_of(rt.alloc(), words)?, &mut out, &mut err);
     let out = presence(&out);
     Ok(format!(in rt.alloc(); "{status} out {out}")?)
+}
+
+/// Whether there are bytes, in words.
+fn presence(octets: &[u8]) -> &'static str {
+    if octets.is_empty() {
+        "nothing"
+    } else {
+        "a text"
+    }
 }
 
 /// Nothing is promised of it: what `run` promises of each call costs its callers.
@@ -108,12 +95,11 @@ fn status_of<R: Files + Net + Clock + AllocGlobal, O: Write, E: Write>(
     run(rt, words, &mut input, out, err)
 }
 
-/// `no-words REASON`: what is told where the words cannot be collected, since an allocation fails
-/// or one is not UTF-8, the status, and that if nothing can be told.
+/// `no-words memory`: what is told where the words cannot be collected, since an allocation fails,
+/// the status, and that if nothing can be told.
 pub fn no_words_row<R: AllocGlobal>(rt: &R, reason: &str) -> Result<String, Fault> {
     let kind = match reason {
         "memory" => io::ErrorKind::OutOfMemory,
-        "text" => io::ErrorKind::InvalidData,
         _ => return Err(Fault::NoRow),
     };
     let error = io::Error::from(kind);
