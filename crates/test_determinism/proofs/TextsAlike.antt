@@ -12,17 +12,17 @@ use Rattle.ua_structures.specs.declared.discovery.EndpointDescription.{EndpointD
 use Rattle.ua_variant.specs.Data.{VariantData}
 use Rattle.ua_variant.specs.View.{variant_of}
 use Rattle.ua_variant.specs.declared.values.DataValue.{DataValue}
-use Rattle.ua_texts.specs.Replies.{AreAnswers, AreEndpoints, Leaves, NoAnswers, NoEndpoints, endpoint_lines, endpoints_in, fault_in, statuses_in, values_in}
-use Rattle.ua_texts.specs.Script.{AsksForStep, AsksFor, AsksNothing, AsksRead, AsksWrite, IsFirstBadScriptLine}
-use Rattle.ua_texts.specs.Script.{IsLineOf, RefusesScriptLines, range_denoted, typed_denoted}
-use Rattle.ua_texts.specs.declared.fault.AnswerFault.{AnswerFault}
-use Rattle.ua_texts.specs.declared.fault.AnswerFault.TheVariants.{Service, Unknown, OutOfMemory}
-use Rattle.ua_texts.specs.declared.fault.ScriptFault.{ScriptFault}
-use Rattle.ua_texts.specs.declared.fault.ScriptFault.TheVariants as script_fault
-use Rattle.ua_texts.specs.declared.script.ScriptLine.{ScriptLine}
-use Rattle.ua_texts.specs.declared.script.Step.{Step}
-use Rattle.ua_texts.specs.declared.script.Step.TheVariants.{Read, Write, Renew}
-use Rattle.ua_texts.specs.declared.style.EndpointStyle.{EndpointStyle}
+use Rattle.ua_answers.specs.Replies.{AreAnswers, AreEndpoints, Leaves, NoAnswers, NoEndpoints, endpoint_lines, endpoints_in, fault_in, statuses_in, values_in}
+use Rattle.ua_answers.specs.Script.{AsksForStep, AsksFor, AsksNothing, AsksRead, AsksWrite, IsFirstBadScriptLine}
+use Rattle.ua_answers.specs.Script.{IsLineOf, RefusesScriptLines, range_denoted, typed_denoted}
+use Rattle.ua_answers.specs.declared.fault.AnswerFault.{AnswerFault}
+use Rattle.ua_answers.specs.declared.fault.AnswerFault.TheVariants.{Service, Unknown, OutOfMemory}
+use Rattle.ua_answers.specs.declared.fault.ScriptFault.{ScriptFault}
+use Rattle.ua_answers.specs.declared.fault.ScriptFault.TheVariants as script_fault
+use Rattle.ua_answers.specs.declared.script.ScriptLine.{ScriptLine}
+use Rattle.ua_answers.specs.declared.script.Step.{Step}
+use Rattle.ua_answers.specs.declared.script.Step.TheVariants.{Read, Write, Renew}
+use Rattle.ua_answers.specs.declared.style.EndpointStyle.{EndpointStyle}
 use Rattle.test_determinism.specs.Pinned.{HadMemory}
 use Rattle.test_determinism.specs.Texts.{SameScriptStep, SameLine, SameScript}
 

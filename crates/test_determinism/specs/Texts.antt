@@ -2,10 +2,10 @@
 use Rattle.std.specs.Prelude.{◌≡◌, List, Result, Ok, Err}
 use Rattle.std.specs.List.{AllZip}
 use Rattle.ua_variant.specs.View.{variant_of}
-use Rattle.ua_texts.specs.declared.fault.ScriptFault.{ScriptFault}
-use Rattle.ua_texts.specs.declared.script.ScriptLine.{ScriptLine}
-use Rattle.ua_texts.specs.declared.script.Step.{Step}
-use Rattle.ua_texts.specs.declared.script.Step.TheVariants.{Read, Write, Renew}
+use Rattle.ua_answers.specs.declared.fault.ScriptFault.{ScriptFault}
+use Rattle.ua_answers.specs.declared.script.ScriptLine.{ScriptLine}
+use Rattle.ua_answers.specs.declared.script.Step.{Step}
+use Rattle.ua_answers.specs.declared.script.Step.TheVariants.{Read, Write, Renew}
 
 -- ---- scripts
 

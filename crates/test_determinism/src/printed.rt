@@ -2,16 +2,16 @@
 
 ghost use Rattle.std.specs.Prelude.{◌≡◌, string_bytes, OnOk};
 ghost use Rattle.test_determinism.specs.Pinned.{AnswerAlike, HadMemory};
-ghost use Rattle.ua_texts.specs.declared.fault.AnswerFault.TheVariants.{OutOfMemory};
+ghost use Rattle.ua_answers.specs.declared.fault.AnswerFault.TheVariants.{OutOfMemory};
 
 use std::alloc::{AllocError, Global};
-use ua_builtin::{NodeId, StatusCode};
-use ua_services::Response;
-use ua_structures::EndpointDescription;
-use ua_texts::{
+use ua_answers::{
     AnswerFault, EndpointStyle, LineStyle, has_bad_code, push_endpoint_line, push_endpoints,
     push_read_answers, push_read_line, push_write_answers, push_write_line,
 };
+use ua_builtin::{NodeId, StatusCode};
+use ua_services::Response;
+use ua_structures::EndpointDescription;
 use ua_variant::DataValue;
 
 /// Adds the line of the same answer to a Read after the same text twice: where both add it, the

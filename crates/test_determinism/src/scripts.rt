@@ -3,11 +3,11 @@
 ghost use Rattle.std.specs.Prelude.{◌≡◌};
 ghost use Rattle.test_determinism.specs.Pinned.{HadMemory};
 ghost use Rattle.test_determinism.specs.Texts.{SameScript};
-ghost use Rattle.ua_texts.specs.declared.fault.ScriptFault.TheVariants.{OutOfMemory};
+ghost use Rattle.ua_answers.specs.declared.fault.ScriptFault.TheVariants.{OutOfMemory};
 
 use std::alloc::Global;
+use ua_answers::{ScriptFault, ScriptLine, parse_script};
 use ua_builtin::laws::texts_name_one_node_id;
-use ua_texts::{ScriptFault, ScriptLine, parse_script};
 
 /// Reads the same text as a script twice: the steps are one, each by its line, or the first line
 /// that asks for nothing.

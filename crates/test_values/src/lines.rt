@@ -5,13 +5,14 @@ use crate::octets::{octets_of, value_in};
 use crate::shown::{named, page, quoted};
 use crate::words::{code_of, cut, nodes_of};
 use std::alloc::Global;
+use ua_answers::{
+    AnswerFault, EndpointStyle, LineStyle, has_bad_code, push_endpoint_line, push_endpoints,
+    push_read_answers, push_read_line, push_write_answers, push_write_line,
+};
 use ua_builtin::{NodeId, Octets, StatusCode};
 use ua_services::{Response, ResponseFault, read_response};
 use ua_structures::EndpointDescription;
-use ua_texts::{
-    AnswerFault, EndpointStyle, LineStyle, has_bad_code, push_code_as, push_endpoint_line,
-    push_endpoints, push_read_answers, push_read_line, push_write_answers, push_write_line,
-};
+use ua_texts::push_code_as;
 use ua_variant::DataValue;
 
 /// The style that a word names.

@@ -4,7 +4,7 @@ use crate::fault::Fault;
 use crate::shown::{encoded, named};
 use crate::words::text_of;
 use std::alloc::Global;
-use ua_texts::{ScriptFault, ScriptLine, Step, parse_script};
+use ua_answers::{ScriptFault, ScriptLine, Step, parse_script};
 
 /// What the lines of a script ask for, each after its number; or the first bad line.
 pub fn script(alloc: Global, words: &str) -> Result<String, Fault> {

@@ -5,8 +5,9 @@ use crate::octets::value_in;
 use crate::shown::{encoded, page, quoted};
 use crate::words::{cut, text_of, type_of};
 use std::alloc::Global;
+use ua_answers::parse_plain_value;
 use ua_nodes::{parse_type, parse_value};
-use ua_texts::{parse_plain_value, push_plain_variant, push_variant};
+use ua_texts::{push_plain_variant, push_variant};
 use ua_variant::{Elements, Variant};
 
 /// The type that a text names: its id, with `[]` after it where it is that of arrays.

@@ -5,7 +5,7 @@ use Rattle.std.proofs.Common.{◌≡◌, ℕ, Global, List, Option, Some, Result
 use Rattle.ua_services.specs.Policy.{array_items}
 use Rattle.ua_services.specs.declared.response.Response.{Response}
 use Rattle.ua_structures.specs.declared.discovery.EndpointDescription.{EndpointDescription}
-use Rattle.ua_texts.specs.Replies.{endpoints_in}
+use Rattle.ua_answers.specs.Replies.{endpoints_in}
 use Rattle.ua_c.specs.Choosing.{IsChosenAmong, IsPolicy}
 
 -- what is chosen among its endpoints is chosen in it

@@ -3,7 +3,7 @@ use Rattle.std.specs.Prelude.{◌≡◌, ◌⊎◌, ℕ, List, Option, Some, Non
 use Rattle.ua_services.specs.Policy.{chosen_id, array_items}
 use Rattle.ua_services.specs.declared.response.Response.{Response}
 use Rattle.ua_structures.specs.declared.discovery.EndpointDescription.{EndpointDescription}
-use Rattle.ua_texts.specs.Replies.{endpoints_in}
+use Rattle.ua_answers.specs.Replies.{endpoints_in}
 use Rattle.ua_c.specs.Responses.{IsNoResponse, OfResponse, TellsNone}
 use Rattle.ua_c.specs.Status.{no_memory, no_policy}
 

@@ -10,7 +10,7 @@ use Rattle.ua_services.specs.Request.{request}
 use Rattle.ua_services.specs.declared.request.Request.{Request}
 use Rattle.ua_structures.specs.Plain.{value_for_node}
 use Rattle.ua_structures.specs.declared.attribute.ReadValueId.{ReadValueId}
-use Rattle.ua_texts.specs.Script.{range_of}
+use Rattle.ua_answers.specs.Script.{range_of}
 use Rattle.ua_variant.specs.View.{variant_of}
 use Rattle.ua_variant.specs.declared.values.Variant.{Variant}
 use Rattle.ua_c.specs.BadText.{IsBad}

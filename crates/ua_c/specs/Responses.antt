@@ -8,11 +8,11 @@ use Rattle.ua_opening.specs.Message.{IsBody, IsNoBody}
 use Rattle.ua_services.specs.Response.{header_of_response, kind_of_response, response, responses}
 use Rattle.ua_services.specs.declared.response.Response.{Response}
 use Rattle.ua_services.specs.declared.response.Response.TheVariants.{CreateSession}
-use Rattle.ua_texts.specs.Answers.{read_lines, write_lines}
-use Rattle.ua_texts.specs.Replies.{AreAnswers, AreEndpoints, endpoints_in, fault_in, statuses_in, values_in}
-use Rattle.ua_texts.specs.Styles.{plain, plain_endpoints}
-use Rattle.ua_texts.specs.declared.fault.AnswerFault.{AnswerFault}
-use Rattle.ua_texts.specs.declared.fault.AnswerFault.TheVariants.{Service, Unknown, OutOfMemory}
+use Rattle.ua_answers.specs.Answers.{read_lines, write_lines}
+use Rattle.ua_answers.specs.Replies.{AreAnswers, AreEndpoints, endpoints_in, fault_in, statuses_in, values_in}
+use Rattle.ua_answers.specs.Styles.{plain, plain_endpoints}
+use Rattle.ua_answers.specs.declared.fault.AnswerFault.{AnswerFault}
+use Rattle.ua_answers.specs.declared.fault.AnswerFault.TheVariants.{Service, Unknown, OutOfMemory}
 use Rattle.ua_c.specs.Requests.{AreNoNodes, AreNodeTexts}
 use Rattle.ua_c.specs.Status.{ok, no_memory, bad_octets, service, unknown}
 use Rattle.ua_c.specs.declared.bad_text.BadText.{BadText}

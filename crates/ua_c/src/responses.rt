@@ -9,11 +9,11 @@ use crate::requests::nodes_of;
 use crate::status::{BAD_OCTETS, NO_MEMORY, OK, SERVICE, UNKNOWN};
 use crate::texts::put;
 use std::alloc::Global;
-use ua_builtin::{NodeId, Octets};
-use ua_services::{Response, ResponseFault, by_kind, read_response, responses};
-use ua_texts::{
+use ua_answers::{
     AnswerFault, EndpointStyle, LineStyle, push_endpoints, push_read_answers, push_write_answers,
 };
+use ua_builtin::{NodeId, Octets};
+use ua_services::{Response, ResponseFault, by_kind, read_response, responses};
 
 /// The response that bytes encode, or a status.
 pub(crate) fn response_of(alloc: Global, body: &[u8]) -> Result<Response, u32>

@@ -16,10 +16,11 @@ use crate::status::{
 use crate::waiting::move_front;
 use std::alloc::{AllocError, Global};
 use std::str;
+use ua_answers::parse_plain_value;
 use ua_builtin::{UaString, Wire, WriteFault};
 use ua_nodes::{ValueFault, parse_type, parse_value};
 use ua_pair::{Side, dissect};
-use ua_texts::{parse_plain_value, push_variant};
+use ua_texts::push_variant;
 use ua_variant::Variant;
 
 /// Copies bytes to the start of a buffer where they fit, and returns how many they are.

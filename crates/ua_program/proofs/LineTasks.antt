@@ -4,8 +4,8 @@ use Rattle.std.specs.Prelude.{IfErr, IfOk, MatchOption, unwrap_or}
 use Rattle.std.specs.Str.Lines.{strip_carriage_return}
 use denote.Ref.{Bor}
 use Rattle.ua_program.specs.declared.script.loop_fault.LoopFault.{LoopFault}
-use Rattle.ua_texts.specs.Script.{AsksFor}
-use Rattle.ua_texts.specs.declared.script.ScriptLine.{ScriptLine}
+use Rattle.ua_answers.specs.Script.{AsksFor}
+use Rattle.ua_answers.specs.declared.script.ScriptLine.{ScriptLine}
 use Rattle.ua_program.specs.LineTask.{GivesOwn, IsBare, IsPause, IsSleep, IsTaskOf, RefusesTaskLine, Requests}
 use Rattle.ua_program.specs.declared.line_task.LineTask.{LineTask}
 use Rattle.ua_program.specs.declared.line_task.LineTask.TheVariants as task

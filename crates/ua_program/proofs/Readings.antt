@@ -14,8 +14,8 @@ use Rattle.ua_program.specs.Talked.{HasTalked}
 use Rattle.ua_program.specs.AtOnce.{ServesSomeAsked}
 use Rattle.ua_program.specs.declared.arguments.Serve.{Serve}
 use Rattle.ua_program.specs.Printed.{HasBegun, HasDissected, HasListed, HasToldSome}
-use Rattle.ua_texts.specs.declared.style.AnswerStyle.{AnswerStyle}
-use Rattle.ua_texts.specs.declared.style.EndpointStyle.{EndpointStyle}
+use Rattle.ua_answers.specs.declared.style.AnswerStyle.{AnswerStyle}
+use Rattle.ua_answers.specs.declared.style.EndpointStyle.{EndpointStyle}
 use Rattle.ua_program.specs.Digits.{digits_in, HexSoFar, HoldsSoFar, HoldsOctets, HoldsNever, HoldsNone}
 use Rattle.ua_program.specs.declared.fault.Fault.{Fault}
 use Rattle.ua_program.specs.declared.fault.Fault.TheVariants.{NoMemory, NotHexadecimal}

@@ -14,17 +14,17 @@ use Rattle.ua_program.specs.declared.script.loop_fault.LoopFault.{LoopFault}
 use Rattle.ua_program.specs.declared.script.loop_fault.LoopFault.TheVariants.{UnknownResponse}
 use Rattle.ua_services.specs.declared.response.Response.{Response}
 use Rattle.ua_services.specs.declared.response.Response.TheVariants as response
-use Rattle.ua_texts.specs.Answers.{read_line, write_line, write_lines}
-use Rattle.ua_texts.specs.PlainAnswers.{AreReads, IsPlainRead}
-use Rattle.ua_texts.specs.PlainReplies.{HaveLines}
-use Rattle.ua_texts.specs.Replies.{AreAnswers, Leaves, NoAnswers, fault_in, statuses_in, values_in}
-use Rattle.ua_texts.specs.Styles.{plain}
-use Rattle.ua_texts.specs.declared.style.LineStyle.{LineStyle}
-use Rattle.ua_texts.specs.declared.fault.AnswerFault.{AnswerFault}
-use Rattle.ua_texts.specs.declared.fault.AnswerFault.TheVariants as answered
-use Rattle.ua_texts.specs.declared.script.ScriptLine.{ScriptLine}
-use Rattle.ua_texts.specs.declared.script.Step.{Step}
-use Rattle.ua_texts.specs.declared.script.Step.TheVariants.{Read, Write, Renew}
+use Rattle.ua_answers.specs.Answers.{read_line, write_line, write_lines}
+use Rattle.ua_answers.specs.PlainAnswers.{AreReads, IsPlainRead}
+use Rattle.ua_answers.specs.PlainReplies.{HaveLines}
+use Rattle.ua_answers.specs.Replies.{AreAnswers, Leaves, NoAnswers, fault_in, statuses_in, values_in}
+use Rattle.ua_answers.specs.Styles.{plain}
+use Rattle.ua_answers.specs.declared.style.LineStyle.{LineStyle}
+use Rattle.ua_answers.specs.declared.fault.AnswerFault.{AnswerFault}
+use Rattle.ua_answers.specs.declared.fault.AnswerFault.TheVariants as answered
+use Rattle.ua_answers.specs.declared.script.ScriptLine.{ScriptLine}
+use Rattle.ua_answers.specs.declared.script.Step.{Step}
+use Rattle.ua_answers.specs.declared.script.Step.TheVariants.{Read, Write, Renew}
 use Rattle.ua_variant.specs.declared.values.DataValue.{DataValue}
 
 -- ---- a response without answers

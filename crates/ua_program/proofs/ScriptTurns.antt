@@ -6,7 +6,7 @@ use Rattle.ua_exchange.specs.declared.turn.Turn.{Turn}
 use Rattle.ua_frame.specs.After.{each_after}
 use Rattle.ua_frame.proofs.Afters.{each_after-push}
 use Rattle.ua_program.specs.Script.{line_turn, session_opening_turns, step_turn, turns_to}
-use Rattle.ua_texts.specs.declared.script.ScriptLine.{ScriptLine}
+use Rattle.ua_answers.specs.declared.script.ScriptLine.{ScriptLine}
 
 -- the turns of a line behind those before
 abbrev pub own_turns : List ScriptLine → ScriptLine → List Turn

@@ -15,7 +15,7 @@ use Rattle.ua_program.specs.ScriptFaults.{StopsAtLine, StopsBehind, place_in}
 use Rattle.ua_program.specs.Script.{closing, line_turn, session_opening_turns, script_turns, turns_to}
 use Rattle.ua_program.proofs.Opening.{activating-accepted, creating-accepted}
 use Rattle.ua_program.proofs.ScriptTurns.{own_turns}
-use Rattle.ua_texts.specs.declared.script.ScriptLine.{ScriptLine}
+use Rattle.ua_answers.specs.declared.script.ScriptLine.{ScriptLine}
 
 -- ---- the place that a fault names
 

@@ -2,7 +2,7 @@
 use Rattle.std.proofs.Common.{◌≡◌, ◌⊎◌, inl, inr, ℕ, List, Option, Result, Ok, Err, IfErr, sym, subst}
 use Rattle.ua_session.specs.Printed.{HasAdded, IsOutput}
 use Rattle.ua_session.specs.declared.fault.QuestionFault.{QuestionFault}
-use Rattle.ua_texts.specs.declared.style.AnswerStyle.{AnswerStyle}
+use Rattle.ua_answers.specs.declared.style.AnswerStyle.{AnswerStyle}
 use Rattle.ua_program.proofs.Stops.{left_asking}
 use Rattle.ua_program.specs.Reasons.{StopsAsking, StopsWriting}
 use Rattle.ua_program.specs.Talked.{Another, AreTalkLines, HasTalked, Nothing}

@@ -11,7 +11,7 @@ use Rattle.ua_program.specs.Script.{script_moment, script_turns}
 use Rattle.ua_program.specs.declared.script.loop_fault.LoopFault.{LoopFault}
 use Rattle.ua_nodes.specs.Table.{Nodes}
 use Rattle.ua_server.specs.declared.step.End.TheVariants.{Closed}
-use Rattle.ua_texts.specs.declared.script.ScriptLine.{ScriptLine}
+use Rattle.ua_answers.specs.declared.script.ScriptLine.{ScriptLine}
 
 -- the transcript is that of the client operations of a script
 pub record IsOfScript (nodes : Nodes) (lines : List ScriptLine) (t : Transcript) : Type 0 where

@@ -7,10 +7,10 @@ use Rattle.ua_program.specs.declared.script.loop_fault.LoopFault.TheVariants as 
 use Rattle.ua_session.specs.declared.question.Question.{Question}
 use Rattle.ua_session.specs.declared.question.Question.TheVariants as question
 use Rattle.ua_program.specs.ScriptFaults.{Unread}
-use Rattle.ua_texts.specs.Script.{AsksFor}
-use Rattle.ua_texts.specs.declared.script.ScriptLine.{ScriptLine}
-use Rattle.ua_texts.specs.declared.script.Step.{Step}
-use Rattle.ua_texts.specs.declared.script.Step.TheVariants.{Read, Write, Renew}
+use Rattle.ua_answers.specs.Script.{AsksFor}
+use Rattle.ua_answers.specs.declared.script.ScriptLine.{ScriptLine}
+use Rattle.ua_answers.specs.declared.script.Step.{Step}
+use Rattle.ua_answers.specs.declared.script.Step.TheVariants.{Read, Write, Renew}
 use Rattle.ua_program.specs.Words.{WritesNumber}
 use Rattle.ua_program.specs.declared.line_task.LineTask.{LineTask}
 use Rattle.ua_program.specs.declared.line_task.LineTask.TheVariants as task

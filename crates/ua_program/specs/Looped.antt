@@ -11,8 +11,8 @@ use Rattle.ua_program.specs.declared.script.loop_fault.LoopFault.{LoopFault}
 use Rattle.ua_program.specs.declared.script.looped.Looped.{Looped}
 use Rattle.ua_nodes.specs.NodeFile.{WriteNodes, node_lines}
 use Rattle.ua_nodes.specs.Table.{Nodes}
-use Rattle.ua_texts.specs.Script.{AsksFor}
-use Rattle.ua_texts.specs.declared.script.ScriptLine.{ScriptLine}
+use Rattle.ua_answers.specs.Script.{AsksFor}
+use Rattle.ua_answers.specs.declared.script.ScriptLine.{ScriptLine}
 use Rattle.ua_program.specs.declared.fault.Fault.TheVariants.{Looping}
 use Rattle.ua_program.specs.declared.output.Stop.{Stop}
 use Rattle.ua_program.specs.declared.output.Stop.TheVariants.{Fault as Stopped}

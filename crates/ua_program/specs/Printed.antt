@@ -4,8 +4,8 @@ use Rattle.std.specs.Io.KnownBytes.{Appends}
 use Rattle.ua_pair.specs.declared.options.DissectOptions.{DissectOptions}
 use Rattle.ua_pair.specs.Dissected.{AreLines}
 use Rattle.ua_session.specs.Printed.{AreAnswerLines, AreEndpointLines, HasAdded}
-use Rattle.ua_texts.specs.declared.style.AnswerStyle.{AnswerStyle}
-use Rattle.ua_texts.specs.declared.style.EndpointStyle.{EndpointStyle}
+use Rattle.ua_answers.specs.declared.style.AnswerStyle.{AnswerStyle}
+use Rattle.ua_answers.specs.declared.style.EndpointStyle.{EndpointStyle}
 use Rattle.ua_program.specs.Dissects.{HasBegunDissecting}
 use Rattle.ua_program.specs.Judges.{HasJudged}
 use Rattle.ua_program.specs.Looped.{HasLoopedSome}

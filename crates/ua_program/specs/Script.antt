@@ -16,9 +16,9 @@ use Rattle.ua_services.specs.declared.request.Request.{Request}
 use Rattle.ua_services.specs.declared.response.Response.{Response}
 use Rattle.ua_services.specs.declared.response.Response.TheVariants.{CreateSession}
 use Rattle.ua_structures.specs.Plain.{value_for_node}
-use Rattle.ua_texts.specs.declared.script.ScriptLine.{ScriptLine}
-use Rattle.ua_texts.specs.declared.script.Step.{Step}
-use Rattle.ua_texts.specs.declared.script.Step.TheVariants.{Read, Write, Renew}
+use Rattle.ua_answers.specs.declared.script.ScriptLine.{ScriptLine}
+use Rattle.ua_answers.specs.declared.script.Step.{Step}
+use Rattle.ua_answers.specs.declared.script.Step.TheVariants.{Read, Write, Renew}
 use Rattle.ua_variant.specs.View.{variant_of}
 use Rattle.ua_variant.specs.declared.values.Variant.{Variant}
 

@@ -7,12 +7,12 @@ use Rattle.ua_program.specs.Script.{closing, line_turn, turns_to}
 use Rattle.ua_program.specs.declared.script.loop_fault.LoopFault.{LoopFault}
 use Rattle.ua_program.specs.declared.script.loop_fault.LoopFault.TheVariants.{ScriptLine as OfLine, Exhausted, Service, UnknownResponse, NoMemory}
 use Rattle.ua_nodes.specs.NodeFile.{node_lines}
-use Rattle.ua_texts.specs.Script.{IsFirstBadScriptLine}
-use Rattle.ua_texts.specs.declared.fault.AnswerFault.{AnswerFault}
-use Rattle.ua_texts.specs.declared.fault.AnswerFault.TheVariants as answer
-use Rattle.ua_texts.specs.declared.fault.ScriptFault.{ScriptFault}
-use Rattle.ua_texts.specs.declared.fault.ScriptFault.TheVariants as script
-use Rattle.ua_texts.specs.declared.script.ScriptLine.{ScriptLine}
+use Rattle.ua_answers.specs.Script.{IsFirstBadScriptLine}
+use Rattle.ua_answers.specs.declared.fault.AnswerFault.{AnswerFault}
+use Rattle.ua_answers.specs.declared.fault.AnswerFault.TheVariants as answer
+use Rattle.ua_answers.specs.declared.fault.ScriptFault.{ScriptFault}
+use Rattle.ua_answers.specs.declared.fault.ScriptFault.TheVariants as script
+use Rattle.ua_answers.specs.declared.script.ScriptLine.{ScriptLine}
 
 -- ---- a text
 

@@ -17,16 +17,16 @@ use Rattle.ua_nodes.specs.Table.{Nodes}
 use Rattle.ua_server.specs.declared.step.End.{End}
 use Rattle.ua_server.specs.declared.step.End.TheVariants.{Closed, NoClose, Cut, Refused}
 use Rattle.ua_services.specs.declared.response.Response.{Response}
-use Rattle.ua_texts.specs.Answers.{read_line, write_line}
+use Rattle.ua_answers.specs.Answers.{read_line, write_line}
 use Rattle.ua_texts.specs.Names.{named_code}
-use Rattle.ua_texts.specs.PlainAnswers.{IsPlainRead}
+use Rattle.ua_answers.specs.PlainAnswers.{IsPlainRead}
 use Rattle.ua_texts.specs.PlainLeaf.{Either}
-use Rattle.ua_texts.specs.Replies.{fault_in, statuses_in, values_in}
+use Rattle.ua_answers.specs.Replies.{fault_in, statuses_in, values_in}
 use Rattle.ua_session.specs.Replies.{is_bad_response}
-use Rattle.ua_texts.specs.Styles.{plain}
-use Rattle.ua_texts.specs.declared.script.ScriptLine.{ScriptLine}
-use Rattle.ua_texts.specs.declared.script.Step.{Step}
-use Rattle.ua_texts.specs.declared.script.Step.TheVariants.{Read, Write, Renew}
+use Rattle.ua_answers.specs.Styles.{plain}
+use Rattle.ua_answers.specs.declared.script.ScriptLine.{ScriptLine}
+use Rattle.ua_answers.specs.declared.script.Step.{Step}
+use Rattle.ua_answers.specs.declared.script.Step.TheVariants.{Read, Write, Renew}
 use Rattle.ua_variant.specs.declared.values.DataValue.{DataValue}
 
 -- ---- what is told: a text, or the answer to a Read

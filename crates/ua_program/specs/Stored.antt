@@ -2,8 +2,8 @@
 use Rattle.std.specs.Prelude.{◌≡◌, ℕ, Bool, true, false, List, [], ◌∷◌, ◌++◌, Option, codes}
 use Rattle.ua_builtin.specs.NodeText.{node_text}
 use Rattle.ua_structures.specs.declared.attribute.WriteValue.{WriteValue}
-use Rattle.ua_texts.specs.Answers.{value_part}
-use Rattle.ua_texts.specs.PlainAnswers.{IsPlainValuePart}
+use Rattle.ua_answers.specs.Answers.{value_part}
+use Rattle.ua_answers.specs.PlainAnswers.{IsPlainValuePart}
 use Rattle.ua_variant.specs.Data.{VariantData}
 
 -- a value after a space, if there is one, as `ua read` prints it: by its bits, or in the

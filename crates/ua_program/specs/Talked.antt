@@ -8,8 +8,8 @@ use Rattle.ua_session.specs.declared.fault.QuestionFault.{QuestionFault}
 use Rattle.ua_session.specs.declared.question.Question.{Question}
 use Rattle.ua_session.specs.declared.verdict.Verdict.{Verdict}
 use Rattle.ua_session.specs.declared.verdict.Verdict.TheVariants.{AllGood, SomeBad}
-use Rattle.ua_texts.specs.declared.style.AnswerStyle.{AnswerStyle}
-use Rattle.ua_texts.specs.declared.style.EndpointStyle.{EndpointStyle}
+use Rattle.ua_answers.specs.declared.style.AnswerStyle.{AnswerStyle}
+use Rattle.ua_answers.specs.declared.style.EndpointStyle.{EndpointStyle}
 use Rattle.ua_program.specs.Lifetime.{is_due}
 use Rattle.ua_program.specs.declared.asking.TalkFault.{TalkFault}
 use Rattle.ua_program.specs.declared.asking.TalkFault.TheVariants as fault

@@ -5,7 +5,7 @@ use Rattle.std.specs.Str.Parse.{IsNumeral, digits_value}
 use Rattle.ua_services.specs.SessionRequests.{local_url}
 use Rattle.ua_session.specs.declared.policy.TokenPolicy.{TokenPolicy}
 use Rattle.ua_session.specs.declared.policy.TokenPolicy.TheVariants.{Named, Auto}
-use Rattle.ua_texts.specs.PlainLines.{exact_lines, exact_typed}
+use Rattle.ua_answers.specs.PlainLines.{exact_lines, exact_typed}
 use Rattle.ua_program.specs.declared.arguments.Task.{Task}
 use Rattle.ua_program.specs.declared.arguments.Task.TheVariants.{Dissect, Judge, Serve, Endpoints, Read, Write, Ask, Loop, Version}
 

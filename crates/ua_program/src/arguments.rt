@@ -9,8 +9,8 @@ use crate::number::{parse_attribute, parse_number, parse_places, parse_size};
 use clap::{ArgMatches, Error};
 use std::alloc::{AllocError, Global};
 use std::convert::AsStr;
+use ua_answers::{AnswerStyle, EndpointStyle, LineStyle};
 use ua_pair::{DissectOptions, Side};
-use ua_texts::{AnswerStyle, EndpointStyle, LineStyle};
 
 /// The task that the words ask for.
 #[derive(Debug, Drop)]

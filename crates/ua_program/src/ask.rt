@@ -21,6 +21,7 @@ use std::io::{Read, Write};
 use std::net::{Ipv4Addr, Net, TcpStream};
 use std::rt::Files;
 use std::time::Clock;
+use ua_answers::AnswerStyle;
 use ua_builtin::{UaString, Wire};
 use ua_channel::Line;
 use ua_exchange::limits;
@@ -30,7 +31,6 @@ use ua_session::{
     endpoints_over,
 };
 use ua_tcp::{ClockMoments, RecordedLine, TcpLine, without_delay};
-use ua_texts::AnswerStyle;
 
 /// A connection to the server on a port of this machine. `why` says whether the Reason of an ERR
 /// frame is kept.

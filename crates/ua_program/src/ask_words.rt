@@ -5,7 +5,7 @@ ghost use Rattle.std.specs.Prelude.{◌≡◌, ◌≤◌, IfOk};
 use crate::arguments::{Address, BadWord, ReadNodes, number_of, server_of, style_of, text_of};
 use crate::number::parse_size;
 use clap::ArgMatches;
-use ua_texts::AnswerStyle;
+use ua_answers::AnswerStyle;
 
 /// The number of the attribute Value (OPC 10000-6, A.1).
 const VALUE: u32 = 13;

@@ -14,8 +14,8 @@ use std::alloc::{AllocError, Global};
 use std::fs;
 use std::io::Read;
 use std::rt::Files;
+use ua_answers::exact_lines;
 use ua_nodes::{LoadFault, NodeTable};
-use ua_texts::exact_lines;
 
 /// The bytes of a file.
 pub fn read_file<'a, R: Files + AllocGlobal>(rt: &R, file: &'a str) -> Result<Vec<u8>, Stop<'a>>

@@ -3,15 +3,15 @@
 ghost use Rattle.std.specs.Prelude.{◌≡◌, IfOk, IfErr, IfSome};
 ghost use Rattle.ua_program.specs.LineTask.{GivesOwn, IsBare, IsPause, IsQuestionOf};
 ghost use Rattle.ua_program.specs.LineTask.{IsTaskOf, RefusesTaskLine, Requests};
-ghost use Rattle.ua_texts.specs.declared.script.Step.TheVariants.{Read};
+ghost use Rattle.ua_answers.specs.declared.script.Step.TheVariants.{Read};
 
 use crate::number::parse_size;
 use crate::script::{LoopFault, parse_lines};
 use std::alloc::{AllocError, Global};
+use ua_answers::Step;
 use ua_builtin::{NodeId, UaString};
 use ua_nodes::without_return;
 use ua_session::Question;
-use ua_texts::Step;
 
 /// The number of the attribute Value (OPC 10000-6, A.1).
 const VALUE: u32 = 13;

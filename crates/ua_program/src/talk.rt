@@ -8,10 +8,10 @@ ghost use Rattle.ua_program.specs.Talked.{RenewsIfDue, RenewsTalk, beside, ticks
 use crate::lifetime::is_due;
 use crate::line_task::LineTask;
 use std::io::Write;
+use ua_answers::{AnswerStyle, EndpointStyle};
 use ua_builtin::DateTime;
 use ua_channel::Line;
 use ua_session::{ClientSession, Question, QuestionFault, Verdict};
-use ua_texts::{AnswerStyle, EndpointStyle};
 
 /// The ticks of a time as a count, 0 before 1601.
 pub fn ticks_of(moment: DateTime) -> u64

@@ -12,8 +12,8 @@ use Rattle.ua_client.specs.declared.fault.ClientFault.TheVariants as client
 use Rattle.ua_client.specs.declared.reply.Reply.{Reply}
 use Rattle.ua_frame.specs.declared.limits.Limits.{Limits}
 use Rattle.ua_services.specs.declared.request.Request.{Request}
-use Rattle.ua_texts.specs.declared.style.EndpointStyle.{EndpointStyle}
-use Rattle.ua_texts.specs.declared.style.AnswerStyle.{AnswerStyle}
+use Rattle.ua_answers.specs.declared.style.EndpointStyle.{EndpointStyle}
+use Rattle.ua_answers.specs.declared.style.AnswerStyle.{AnswerStyle}
 use Rattle.ua_session.specs.Endpoints.{AsksEndpoints}
 use Rattle.ua_session.specs.Line.{LineFailedConversing, LineState}
 use Rattle.ua_session.specs.Policy.{ChoosesBy}

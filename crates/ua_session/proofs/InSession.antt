@@ -4,8 +4,8 @@ use Rattle.std.specs.Prelude.{IfErr, OnOk}
 use Rattle.ua_builtin.specs.declared.node_id.NodeId.{NodeId}
 use Rattle.ua_client.specs.declared.client.Client.{Client}
 use Rattle.ua_client.specs.declared.reply.Reply.{Reply}
-use Rattle.ua_texts.specs.declared.style.EndpointStyle.{EndpointStyle}
-use Rattle.ua_texts.specs.declared.style.AnswerStyle.{AnswerStyle}
+use Rattle.ua_answers.specs.declared.style.EndpointStyle.{EndpointStyle}
+use Rattle.ua_answers.specs.declared.style.AnswerStyle.{AnswerStyle}
 use Rattle.ua_session.specs.InSession.{BeginsNamed}
 use Rattle.ua_session.specs.Line.{LineState}
 use Rattle.ua_session.specs.Printed.{AreAnswerLines, AreEndpointLines, HasAdded, LeavesLines}

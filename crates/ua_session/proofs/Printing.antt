@@ -5,9 +5,9 @@ use Rattle.std.specs.Io.KnownBytes.{Appends}
 use Rattle.ua_client.specs.declared.reply.Reply.{Reply}
 use Rattle.ua_client.specs.declared.reply.Reply.TheVariants.{Response as Responds, Aborted}
 use Rattle.ua_services.specs.declared.response.Response.{Response}
-use Rattle.ua_texts.specs.Replies.{AreEndpoints, endpoints_in}
-use Rattle.ua_texts.specs.declared.style.EndpointStyle.{EndpointStyle}
-use Rattle.ua_texts.specs.declared.style.AnswerStyle.{AnswerStyle}
+use Rattle.ua_answers.specs.Replies.{AreEndpoints, endpoints_in}
+use Rattle.ua_answers.specs.declared.style.EndpointStyle.{EndpointStyle}
+use Rattle.ua_answers.specs.declared.style.AnswerStyle.{AnswerStyle}
 use Rattle.ua_session.specs.Printed.{IsOutput}
 use Rattle.ua_session.specs.Question.{AnswersQuestion, PrintsAnswers, verdict_of}
 use Rattle.ua_session.specs.Replies.{GivesResponse, PrintsEndpoints}

@@ -5,10 +5,10 @@ use Rattle.ua_builtin.specs.declared.date_time.DateTime.{DateTime}
 use Rattle.ua_builtin.specs.declared.node_id.NodeId.{NodeId}
 use Rattle.ua_client.specs.declared.client.Client.{Client}
 use Rattle.ua_client.specs.declared.reply.Reply.{Reply}
-use Rattle.ua_texts.specs.Answers.{write_lines}
-use Rattle.ua_texts.specs.Replies.{endpoint_lines}
-use Rattle.ua_texts.specs.declared.style.EndpointStyle.{EndpointStyle}
-use Rattle.ua_texts.specs.declared.style.AnswerStyle.{AnswerStyle}
+use Rattle.ua_answers.specs.Answers.{write_lines}
+use Rattle.ua_answers.specs.Replies.{endpoint_lines}
+use Rattle.ua_answers.specs.declared.style.EndpointStyle.{EndpointStyle}
+use Rattle.ua_answers.specs.declared.style.AnswerStyle.{AnswerStyle}
 use Rattle.ua_session.specs.Line.{LineState}
 use Rattle.ua_session.specs.Printed.{AreAnswerLines, AreEndpointLines, HasAdded, IsOutput, LeavesLines, OfEndpoints, OfRead, OfWrite}
 use Rattle.ua_session.specs.Question.{AnswersQuestion, PrintsAnswers}

@@ -10,8 +10,8 @@ use Rattle.ua_client.specs.declared.client.Client.{Client}
 use Rattle.ua_client.specs.declared.reply.Reply.{Reply}
 use Rattle.ua_frame.specs.declared.limits.Limits.{Limits}
 use Rattle.ua_services.specs.SessionRequests.{get_endpoints}
-use Rattle.ua_texts.specs.declared.style.AnswerStyle.{AnswerStyle}
-use Rattle.ua_texts.specs.declared.style.EndpointStyle.{EndpointStyle}
+use Rattle.ua_answers.specs.declared.style.AnswerStyle.{AnswerStyle}
+use Rattle.ua_answers.specs.declared.style.EndpointStyle.{EndpointStyle}
 use Rattle.ua_session.specs.Line.{LineState}
 use Rattle.ua_session.specs.Question.{PrintsAnswers, request_of_question}
 use Rattle.ua_session.specs.Replies.{PrintsEndpoints}

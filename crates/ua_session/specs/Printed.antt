@@ -4,11 +4,11 @@ use Rattle.std.specs.Io.KnownBytes.{Appends}
 use Rattle.ua_builtin.specs.declared.node_id.NodeId.{NodeId}
 use Rattle.ua_builtin.specs.declared.status_code.StatusCode.{StatusCode}
 use Rattle.ua_structures.specs.declared.discovery.EndpointDescription.{EndpointDescription}
-use Rattle.ua_texts.specs.Answers.{write_lines}
-use Rattle.ua_texts.specs.PlainAnswers.{AreReads}
-use Rattle.ua_texts.specs.Replies.{endpoint_lines}
-use Rattle.ua_texts.specs.declared.style.EndpointStyle.{EndpointStyle}
-use Rattle.ua_texts.specs.declared.style.AnswerStyle.{AnswerStyle}
+use Rattle.ua_answers.specs.Answers.{write_lines}
+use Rattle.ua_answers.specs.PlainAnswers.{AreReads}
+use Rattle.ua_answers.specs.Replies.{endpoint_lines}
+use Rattle.ua_answers.specs.declared.style.EndpointStyle.{EndpointStyle}
+use Rattle.ua_answers.specs.declared.style.AnswerStyle.{AnswerStyle}
 use Rattle.ua_session.specs.declared.fault.QuestionFault.{QuestionFault}
 use Rattle.ua_session.specs.declared.fault.QuestionFault.TheVariants.{Output}
 use Rattle.ua_variant.specs.declared.values.DataValue.{DataValue}

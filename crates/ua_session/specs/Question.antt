@@ -10,11 +10,11 @@ use Rattle.ua_services.specs.declared.request.Request.{Request}
 use Rattle.ua_structures.specs.Plain.{value_for_node}
 use Rattle.ua_structures.specs.declared.attribute.ReadValueId.{ReadValueId}
 use Rattle.ua_structures.specs.declared.attribute.WriteValue.{WriteValue}
-use Rattle.ua_texts.specs.Answers.{write_lines}
-use Rattle.ua_texts.specs.PlainAnswers.{AreReads}
-use Rattle.ua_texts.specs.PlainReplies.{HaveLines}
-use Rattle.ua_texts.specs.Replies.{AreAnswers, statuses_in, values_in}
-use Rattle.ua_texts.specs.declared.style.AnswerStyle.{AnswerStyle}
+use Rattle.ua_answers.specs.Answers.{write_lines}
+use Rattle.ua_answers.specs.PlainAnswers.{AreReads}
+use Rattle.ua_answers.specs.PlainReplies.{HaveLines}
+use Rattle.ua_answers.specs.Replies.{AreAnswers, statuses_in, values_in}
+use Rattle.ua_answers.specs.declared.style.AnswerStyle.{AnswerStyle}
 use Rattle.ua_variant.specs.View.{variant_of}
 use Rattle.ua_variant.specs.declared.values.DataValue.{DataValue}
 use Rattle.ua_variant.specs.declared.values.Variant.{Variant}

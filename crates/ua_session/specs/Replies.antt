@@ -8,8 +8,8 @@ use Rattle.ua_client.specs.declared.reply.Reply.TheVariants.{Response as Respond
 use Rattle.ua_services.specs.declared.response.Response.{Response}
 use Rattle.ua_services.specs.declared.response.Response.TheVariants.{Read, Write}
 use Rattle.ua_structures.specs.declared.discovery.EndpointDescription.{EndpointDescription}
-use Rattle.ua_texts.specs.Replies.{AreEndpoints, endpoints_in, fault_in, has_bad}
-use Rattle.ua_texts.specs.declared.style.EndpointStyle.{EndpointStyle}
+use Rattle.ua_answers.specs.Replies.{AreEndpoints, endpoints_in, fault_in, has_bad}
+use Rattle.ua_answers.specs.declared.style.EndpointStyle.{EndpointStyle}
 use Rattle.ua_session.specs.declared.fault.QuestionFault.{QuestionFault}
 use Rattle.ua_session.specs.declared.fault.QuestionFault.TheVariants.{Service, Connection, NoMemory, NoPolicy, Output}
 use Rattle.ua_session.specs.Printed.{HasAdded, IsOutput}

@@ -7,7 +7,7 @@ use Rattle.ua_client.specs.declared.client.Client.{Client}
 use Rattle.ua_client.specs.declared.reply.Reply.{Reply}
 use Rattle.ua_frame.specs.declared.limits.Limits.{Limits}
 use Rattle.ua_services.specs.SessionRequests.{close_session}
-use Rattle.ua_texts.specs.declared.style.AnswerStyle.{AnswerStyle}
+use Rattle.ua_answers.specs.declared.style.AnswerStyle.{AnswerStyle}
 use Rattle.ua_session.specs.Endpoints.{CallsEndpoints}
 use Rattle.ua_session.specs.Line.{LineState}
 use Rattle.ua_session.specs.Policy.{ChoosesBy}

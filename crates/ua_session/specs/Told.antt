@@ -5,8 +5,8 @@ use Rattle.ua_client.specs.declared.fault.ClientFault.{ClientFault}
 use Rattle.ua_client.specs.declared.fault.ClientFault.TheVariants as client
 use Rattle.ua_nodes.specs.declared.fault.ValueFault.{ValueFault}
 use Rattle.ua_nodes.specs.declared.fault.ValueFault.TheVariants as value
-use Rattle.ua_texts.specs.declared.fault.AnswerFault.{AnswerFault}
-use Rattle.ua_texts.specs.declared.fault.AnswerFault.TheVariants as answer
+use Rattle.ua_answers.specs.declared.fault.AnswerFault.{AnswerFault}
+use Rattle.ua_answers.specs.declared.fault.AnswerFault.TheVariants as answer
 use Rattle.ua_session.specs.declared.fault.QuestionFault.{QuestionFault}
 use Rattle.ua_session.specs.declared.fault.QuestionFault.TheVariants.{Service, Connection, NoMemory}
 use Rattle.ua_session.specs.declared.fault.WordFault.{WordFault}

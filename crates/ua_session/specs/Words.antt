@@ -4,7 +4,7 @@ use Rattle.std.specs.List.{AllZip, Any}
 use Rattle.ua_builtin.specs.NodeText.{NamesNode}
 use Rattle.ua_builtin.specs.declared.node_id.NodeId.{NodeId}
 use Rattle.ua_nodes.specs.Range.{range}
-use Rattle.ua_texts.specs.Script.{typed_denoted}
+use Rattle.ua_answers.specs.Script.{typed_denoted}
 use Rattle.ua_variant.specs.View.{variant_of}
 use Rattle.ua_variant.specs.declared.values.Variant.{Variant}
 use Rattle.ua_session.specs.declared.fault.WordFault.{WordFault}

@@ -9,9 +9,9 @@ use crate::fault::QuestionFault;
 use std::alloc::Global;
 use std::io;
 use std::io::Write;
+use ua_answers::{EndpointStyle, has_bad_code, push_endpoints};
 use ua_client::Reply;
 use ua_services::Response;
-use ua_texts::{EndpointStyle, has_bad_code, push_endpoints};
 
 /// The response that a reply is. A reply that the server aborted is a fault.
 pub fn response_of(called: Result<Reply, QuestionFault>) -> Result<Response, QuestionFault>

@@ -17,12 +17,12 @@ use crate::step::{begin, call, close, first_of, next_moment, open, told};
 use crate::verdict::Verdict;
 use std::alloc::Global;
 use std::io::Write;
+use ua_answers::{AnswerStyle, EndpointStyle};
 use ua_builtin::{DateTime, NodeId, UaString};
 use ua_channel::{Line, Moments};
 use ua_client::{Client, Reply};
 use ua_frame::Limits;
 use ua_services::session_requests::get_endpoints_request;
-use ua_texts::{AnswerStyle, EndpointStyle};
 
 /// Begins a session by the token policy with an id. One that stays at the server where it was not
 /// begun is ended; the first call after those that begin a session would have had this RequestId.

@@ -11,11 +11,11 @@ use crate::fault::QuestionFault;
 use crate::inquiry::Opening;
 use crate::step::{call, close, first_of, next_moment, open};
 use std::io::Write;
+use ua_answers::EndpointStyle;
 use ua_builtin::{DateTime, UaString};
 use ua_channel::{Line, Moments};
 use ua_client::{Client, Reply};
 use ua_services::session_requests::get_endpoints_request;
-use ua_texts::EndpointStyle;
 
 /// The RequestId of the first call of a client: its OPN has 1.
 const FIRST_CALL: u32 = 2;

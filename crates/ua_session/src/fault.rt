@@ -4,10 +4,10 @@ use crate::fault_name::FaultName;
 use std::alloc::AllocError;
 use std::io;
 use thiserror::Error;
+use ua_answers::AnswerFault;
 use ua_builtin::{NodeId, StatusCode, TextFault};
 use ua_client::ClientFault;
 use ua_nodes::ValueFault;
-use ua_texts::AnswerFault;
 
 /// Why a server gave no answers, why they were not written, or why the client was not closed after
 /// them.

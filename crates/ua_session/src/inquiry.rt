@@ -3,9 +3,9 @@
 use crate::policy::TokenPolicy;
 use crate::question::Question;
 use std::alloc::Global;
+use ua_answers::AnswerStyle;
 use ua_builtin::UaString;
 use ua_frame::Limits;
-use ua_texts::AnswerStyle;
 
 /// What a client to a server is opened with.
 #[derive(Clone, Copy, Debug)]

@@ -13,11 +13,11 @@ use crate::verdict::Verdict;
 use std::alloc::{AllocError, Global};
 use std::io::Write;
 use std::slice;
+use ua_answers::{AnswerFault, AnswerStyle, push_read_answers_as, push_write_answers};
 use ua_builtin::{DateTime, NodeId, UaString};
 use ua_client::Reply;
 use ua_services::session_requests::{read_attribute_item, read_request, write_item, write_request};
 use ua_services::{ReadValueId, Request, Response, WriteValue};
-use ua_texts::{AnswerFault, AnswerStyle, push_read_answers_as, push_write_answers};
 use ua_variant::Variant;
 
 /// The question that is asked in a session.

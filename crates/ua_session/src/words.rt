@@ -1,16 +1,16 @@
 //! Questions in the words of a command line.
 
 ghost use Rattle.std.specs.Prelude.{IfOk, IfErr, option_map};
-ghost use Rattle.ua_texts.specs.PlainLines.{exact_typed as exact_typed_of};
+ghost use Rattle.ua_answers.specs.PlainLines.{exact_typed as exact_typed_of};
 ghost use Rattle.ua_session.specs.Words.{AreNodes, GivesIdOfWord, GivesRange, GivesRead};
 ghost use Rattle.ua_session.specs.Words.{GivesTyped, GivesWrite, NamesNoNodes};
 
 use crate::fault::WordFault;
 use crate::question::Question;
 use std::alloc::Global;
+use ua_answers::exact_typed;
 use ua_builtin::{NodeId, UaString};
 use ua_nodes::{is_range, parse_type, parse_value};
-use ua_texts::exact_typed;
 use ua_variant::Variant;
 
 /// The NodeId that a word denotes; `BadNode` where it denotes none.

@@ -4,9 +4,9 @@ use Rattle.json.specs.Json as json
 use Rattle.json.specs.Json.{Json}
 use Rattle.ua_builtin.specs.declared.date_time.DateTime.{DateTime}
 use Rattle.ua_variant.specs.Data.{DataFields}
-use Rattle.ua_texts.specs.Json.{Field}
-use Rattle.ua_texts.specs.ObjectParts.{code_member, count_json, count_member}
-use Rattle.ua_texts.specs.PlainJson.{AreDataMembers, IsMomentMember, IsTextJson}
+use Rattle.ua_answers.specs.Json.{Field}
+use Rattle.ua_answers.specs.ObjectParts.{code_member, count_json, count_member}
+use Rattle.ua_answers.specs.PlainJson.{AreDataMembers, IsMomentMember, IsTextJson}
 use Rattle.ua_texts.specs.PlainLeaf.{IsPlainMoment}
 use Rattle.ua_text_laws.specs.Keeps.{CodeKeeps, IsUInt64}
 use Rattle.ua_text_laws.specs.ValuesKeep.{DataFieldsKeep, MomentKeeps}

@@ -16,9 +16,9 @@ use Rattle.ua_variant.specs.Data.{LeafData, boolean, sbyte, byte, int16, uint16,
 use Rattle.ua_variant.specs.Data.{date_time, guid, byte_string, xml_element, node_id, expanded_node_id, status_code, qualified_name, localized_text}
 use Rattle.ua_variant.specs.Data.{extension_object, reserved}
 use Rattle.ua_variant.specs.Leaf.{leaf_encodable, leaf_kind}
-use Rattle.ua_texts.specs.Json.{int64_json, most_exact, uint64_json}
+use Rattle.ua_answers.specs.Json.{int64_json, most_exact, uint64_json}
 use Rattle.ua_texts.specs.Plain.{IsPlainLeaf}
-use Rattle.ua_texts.specs.PlainJson.{IsFloatJson, IsLeafJson, IsTextJson}
+use Rattle.ua_answers.specs.PlainJson.{IsFloatJson, IsLeafJson, IsTextJson}
 use Rattle.ua_texts.specs.PlainLeaf.{Either, IsPlainDouble, IsPlainFloat}
 use Rattle.ua_text_laws.specs.AlikeValues.{AlikeLeaves}
 use Rattle.ua_text_laws.specs.Keeps.{IsInt64, IsUInt64}

@@ -14,8 +14,8 @@ use Rattle.json.proofs.Printed.Tokens.{tokens-print}
 use Rattle.json.proofs.Printed.Trees.{value-json_tokens}
 use Rattle.ua_variant.specs.Data.{VariantData}
 use Rattle.ua_variant.specs.Encodable.{variant_encodable}
-use Rattle.ua_texts.specs.Json.{Field, json_line, unwritable_fields}
-use Rattle.ua_texts.specs.PlainJson.{AreVariantFields}
+use Rattle.ua_answers.specs.Json.{Field, json_line, unwritable_fields}
+use Rattle.ua_answers.specs.PlainJson.{AreVariantFields}
 use Rattle.ua_texts.specs.PlainLeaf.{Either}
 use Rattle.ua_text_laws.specs.Texts.{DataValuesJsonApart, EqualWritten, JsonLinesApart, ScalarsJsonApart, VariantsJsonApart}
 use Rattle.ua_text_laws.specs.ValuesKeep.{VariantKeeps}

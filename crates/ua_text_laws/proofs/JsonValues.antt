@@ -11,8 +11,8 @@ use Rattle.json.specs.Json.{Json}
 use Rattle.ua_variant.specs.Data.{ScalarData, leaf, data_value, variant, diagnostic, ScalarsData, no_scalars, scalar}
 use Rattle.ua_variant.specs.Data.{VariantData, null, one, absent, many, DataValueData, bare, valued}
 use Rattle.ua_variant.specs.Encodable.{data_value_fits, is_kind, kind_of_scalar, scalar_fits, scalars_fit, variant_fits}
-use Rattle.ua_texts.specs.Json.{Field, dimension_fields, json_array, json_items, signed_json}
-use Rattle.ua_texts.specs.PlainJson.{AreJson, AreVariantFields, IsDataValueJson, IsLeafJson, IsScalarJson}
+use Rattle.ua_answers.specs.Json.{Field, dimension_fields, json_array, json_items, signed_json}
+use Rattle.ua_answers.specs.PlainJson.{AreJson, AreVariantFields, IsDataValueJson, IsLeafJson, IsScalarJson}
 use Rattle.ua_texts.specs.Values.{type_name}
 use Rattle.ua_text_laws.specs.ValuesKeep.{DataValueKeeps, DimensionsKeep, ScalarKeeps, ScalarsKeep, VariantKeeps}
 use Rattle.ua_text_laws.proofs.Cut.{Only-test, Stops, cut}

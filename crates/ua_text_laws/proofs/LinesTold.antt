@@ -13,12 +13,12 @@ use Rattle.ua_builtin.specs.declared.status_code.StatusCode.{StatusCode}
 use Rattle.ua_variant.specs.Data.{VariantData}
 use Rattle.ua_variant.specs.Encodable.{variant_encodable}
 use Rattle.ua_variant.specs.declared.values.DataValue.{DataValue}
-use Rattle.ua_texts.specs.Json.{Field, name_fields, object, status_fields, unwritable_fields}
+use Rattle.ua_answers.specs.Json.{Field, name_fields, object, status_fields, unwritable_fields}
 use Rattle.ua_texts.specs.Names.{name_of_code, number_of}
-use Rattle.ua_texts.specs.PlainJson.{AreBothFields, AreTimeFields, AreValueFields, AreVariantFields, IsPlainJson, IsTimeJson}
+use Rattle.ua_answers.specs.PlainJson.{AreBothFields, AreTimeFields, AreValueFields, AreVariantFields, IsPlainJson, IsTimeJson}
 use Rattle.ua_texts.specs.PlainLeaf.{Either, IsPlainMoment}
 use Rattle.ua_texts.specs.Shown.{code_text}
-use Rattle.ua_texts.specs.declared.style.LineStyle.{LineStyle}
+use Rattle.ua_answers.specs.declared.style.LineStyle.{LineStyle}
 use Rattle.ua_text_laws.specs.Keeps.{CodeKeeps, OptionKeeps}
 use Rattle.ua_text_laws.specs.Lines.{AnswerKeeps, AnswersJsonApart, HaveEqualValues}
 use Rattle.ua_text_laws.specs.Texts.{EqualWritten}

@@ -8,8 +8,8 @@ use Rattle.json.specs.Json as json
 use Rattle.json.specs.Json.{Json}
 use Rattle.ua_builtin.specs.declared.status_code.StatusCode.{StatusCode}
 use Rattle.ua_diagnostic.specs.Diagnostic.{DiagnosticData, DiagnosticFields, around, innermost}
-use Rattle.ua_texts.specs.Json.{Field, json_items, members_of, object, signed_json}
-use Rattle.ua_texts.specs.ObjectParts.{code_member, code_object, diagnostic_members, diagnostic_object, number_member, text_member}
+use Rattle.ua_answers.specs.Json.{Field, json_items, members_of, object, signed_json}
+use Rattle.ua_answers.specs.ObjectParts.{code_member, code_object, diagnostic_members, diagnostic_object, number_member, text_member}
 use Rattle.ua_text_laws.specs.Alike.{Same, TellsApart}
 use Rattle.ua_text_laws.specs.Keeps.{CodeKeeps, DiagnosticFieldsKeep, DiagnosticKeeps, IsInt64, OptionKeeps}
 use Rattle.ua_text_laws.proofs.Diagnostics.{same_fields}

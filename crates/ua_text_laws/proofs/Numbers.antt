@@ -23,11 +23,11 @@ use Rattle.ua_variant.specs.Data.{DataFields, LeafData, boolean, sbyte, byte, in
 use Rattle.ua_variant.specs.Data.{date_time, guid, byte_string, xml_element, node_id, expanded_node_id, status_code, qualified_name, localized_text}
 use Rattle.ua_variant.specs.Data.{extension_object, reserved, ScalarData, leaf, data_value, variant, diagnostic, ScalarsData, no_scalars, scalar}
 use Rattle.ua_variant.specs.Data.{VariantData, null, one, absent, many, DataValueData, bare, valued}
-use Rattle.ua_texts.specs.Json.{Field, dimension_fields, json_array, json_items, members_of, most_exact, name_fields, object, signed_json, text_or_null}
+use Rattle.ua_answers.specs.Json.{Field, dimension_fields, json_array, json_items, members_of, most_exact, name_fields, object, signed_json, text_or_null}
 use Rattle.ua_texts.specs.Names.{name_of_code}
-use Rattle.ua_texts.specs.ObjectParts.{code_member, code_object, count_member, diagnostic_members, diagnostic_object, identifier_json}
-use Rattle.ua_texts.specs.ObjectParts.{node_members, number_member, text_member}
-use Rattle.ua_texts.specs.PlainJson.{AreDataMembers, AreJson, AreVariantFields, IsDataValueJson, IsLeafJson, IsMomentMember, IsScalarJson, IsTextJson}
+use Rattle.ua_answers.specs.ObjectParts.{code_member, code_object, count_member, diagnostic_members, diagnostic_object, identifier_json}
+use Rattle.ua_answers.specs.ObjectParts.{node_members, number_member, text_member}
+use Rattle.ua_answers.specs.PlainJson.{AreDataMembers, AreJson, AreVariantFields, IsDataValueJson, IsLeafJson, IsMomentMember, IsScalarJson, IsTextJson}
 use Rattle.ua_texts.specs.PlainLeaf.{Either}
 use Rattle.ua_text_laws.specs.Keeps.{DiagnosticFieldsKeep, DiagnosticKeeps, IdentifierKeeps, IsInt64, IsUInt64, NodeIdKeeps, OptionKeeps}
 use Rattle.ua_text_laws.specs.ValuesKeep.{DataFieldsKeep, DataValueKeeps, DimensionsKeep, LeafKeeps, ScalarKeeps, ScalarsKeep, VariantKeeps}

@@ -21,8 +21,8 @@ use Rattle.ua_builtin.specs.declared.node_id.Identifier.{Identifier}
 use Rattle.ua_builtin.specs.declared.node_id.Identifier.TheVariants.{Numeric, Text, Guid as Global, Opaque}
 use Rattle.ua_builtin.specs.declared.node_id.NodeId.{NodeId}
 use Rattle.ua_builtin.specs.declared.qualified_name.QualifiedName.{QualifiedName}
-use Rattle.ua_texts.specs.Json.{text_or_null}
-use Rattle.ua_texts.specs.ObjectParts.{code_object, expanded_object, identifier_json, identifier_letter, localized_object, name_object, node_object}
+use Rattle.ua_answers.specs.Json.{text_or_null}
+use Rattle.ua_answers.specs.ObjectParts.{code_object, expanded_object, identifier_json, identifier_letter, localized_object, name_object, node_object}
 use Rattle.ua_texts.specs.Shown.{code_text}
 use Rattle.ua_text_laws.specs.Alike.{Same, TellsApart}
 use Rattle.ua_text_laws.specs.Keeps.{BytesKeep, ExpandedKeeps, IdentifierKeeps, LocalizedKeeps, NameKeeps, NodeIdKeeps}

@@ -12,9 +12,9 @@ use Rattle.ua_builtin.specs.declared.node_id.NodeId.{NodeId}
 use Rattle.ua_plain.specs.Word.{is_word_octet}
 use Rattle.ua_variant.specs.Data.{VariantData}
 use Rattle.ua_variant.specs.declared.values.DataValue.{DataValue}
-use Rattle.ua_texts.specs.Answers.{status_text}
+use Rattle.ua_answers.specs.Answers.{status_text}
 use Rattle.ua_texts.specs.Names.{name_of_code, name_part, named_code, number_of}
-use Rattle.ua_texts.specs.PlainAnswers.{IsPlainTime, IsPlainTimesPart, IsPlainValuePart}
+use Rattle.ua_answers.specs.PlainAnswers.{IsPlainTime, IsPlainTimesPart, IsPlainValuePart}
 use Rattle.ua_texts.specs.Plain.{IsPlainVariant}
 use Rattle.ua_texts.specs.PlainLeaf.{IsPlainMoment}
 use Rattle.ua_texts.specs.Shown.{code_text}

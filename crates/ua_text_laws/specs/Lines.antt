@@ -4,9 +4,9 @@ use Rattle.ua_builtin.specs.declared.node_id.NodeId.{NodeId}
 use Rattle.ua_variant.specs.Data.{VariantData}
 use Rattle.ua_variant.specs.declared.values.DataValue.{DataValue}
 use Rattle.ua_texts.specs.Names.{number_of}
-use Rattle.ua_texts.specs.PlainAnswers.{IsPlainLine}
-use Rattle.ua_texts.specs.PlainJson.{IsPlainJson}
-use Rattle.ua_texts.specs.declared.style.LineStyle.{LineStyle}
+use Rattle.ua_answers.specs.PlainAnswers.{IsPlainLine}
+use Rattle.ua_answers.specs.PlainJson.{IsPlainJson}
+use Rattle.ua_answers.specs.declared.style.LineStyle.{LineStyle}
 use Rattle.ua_text_laws.specs.Alike.{AlikeNodes}
 use Rattle.ua_text_laws.specs.AlikeValues.{AlikeWritten}
 use Rattle.ua_text_laws.specs.Keeps.{CodeKeeps, NodeIdKeeps, OptionKeeps}

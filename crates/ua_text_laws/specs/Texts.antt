@@ -6,9 +6,9 @@ use Rattle.json.specs.Tree.{HasNumbers}
 use Rattle.ua_variant.specs.Data.{LeafData, VariantData, DataValueData}
 use Rattle.ua_variant.specs.Encodable.{data_value_fits, is_kind, variant_encodable}
 use Rattle.ua_variant.specs.Leaf.{leaf_encodable, leaf_kind}
-use Rattle.ua_texts.specs.Json.{Field, json_line}
+use Rattle.ua_answers.specs.Json.{Field, json_line}
 use Rattle.ua_texts.specs.Plain.{IsPlainDataValue, IsPlainLeaf, IsPlainVariant, array_type_text}
-use Rattle.ua_texts.specs.PlainJson.{AreWrittenFields, IsDataValueJson, IsLeafJson}
+use Rattle.ua_answers.specs.PlainJson.{AreWrittenFields, IsDataValueJson, IsLeafJson}
 use Rattle.ua_text_laws.specs.AlikeValues.{AlikeDataValues, AlikeLeaves, AlikeWritten}
 use Rattle.ua_text_laws.specs.ValuesKeep.{DataValueKeeps, DimensionsKeep, LeafKeeps, VariantKeeps}
 

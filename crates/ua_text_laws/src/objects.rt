@@ -3,9 +3,9 @@
 //! Each function has no effect; its contract is the law.
 
 ghost use Rattle.std.specs.Prelude.{◌<◌, ◌^◌, ℕ, Bool};
-ghost use Rattle.ua_texts.specs.ObjectParts.{code_object, diagnostic_object};
-ghost use Rattle.ua_texts.specs.ObjectParts.{expanded_object, localized_object, name_object};
-ghost use Rattle.ua_texts.specs.ObjectParts.{node_object};
+ghost use Rattle.ua_answers.specs.ObjectParts.{code_object, diagnostic_object};
+ghost use Rattle.ua_answers.specs.ObjectParts.{expanded_object, localized_object, name_object};
+ghost use Rattle.ua_answers.specs.ObjectParts.{node_object};
 ghost use Rattle.ua_text_laws.specs.Alike.{Same, TellsApart};
 ghost use Rattle.ua_text_laws.specs.Lines.{AnswersJsonApart};
 ghost use Rattle.ua_text_laws.specs.Texts.{DataValuesJsonApart, JsonLinesApart, ScalarsJsonApart, VariantsJsonApart};

@@ -8,16 +8,3 @@ pub mod PlainLeaf
 pub mod PlainParts
 pub mod PlainDiagnostic
 pub mod Plain
-pub mod PlainRead
-pub mod PlainLines
-pub mod Styles
-pub mod Json
-pub mod Tokens
-pub mod ObjectParts
-pub mod Answers
-pub mod PlainJson
-pub mod PlainAnswers
-pub mod Replies
-pub mod PlainReplies
-pub mod ScriptLineFault
-pub mod Script

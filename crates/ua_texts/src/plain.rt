@@ -178,7 +178,7 @@ fn push_comma(out: &mut String, index: usize) -> Result<(), AllocError>
 
 /// Appends a value of a built-in type, alone or within an array or brackets.
 #[cycle(plain)]
-pub(crate) fn push_plain_scalar(
+pub fn push_plain_scalar(
     alloc: Global,
     out: &mut String,
     scalar: &Scalar,

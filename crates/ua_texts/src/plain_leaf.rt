@@ -17,7 +17,7 @@ use ua_builtin::{
 use ua_plain::{double_text, float_text, moment_text};
 
 /// Appends a Float: its decimal, or its bit pattern if it has none.
-pub(crate) fn push_float(out: &mut String, value: FloatBits) -> Result<(), AllocError>
+pub fn push_float(out: &mut String, value: FloatBits) -> Result<(), AllocError>
     ensures { Adds result (string_bytes out.old) (string_bytes out.new) (IsPlainFloat value.bits) }
 {
     match float_text(value) {

@@ -102,7 +102,7 @@ pub fn push_code(out: &mut String, status: StatusCode) -> Result<(), AllocError>
 }
 
 /// Appends a pattern of 32 bits: `0x` and eight hexadecimal digits.
-pub(crate) fn push_pattern(out: &mut String, bits: u32) -> Result<(), AllocError>
+pub fn push_pattern(out: &mut String, bits: u32) -> Result<(), AllocError>
     ensures { OnOk result (string_bytes out.new ≡ string_bytes out.old ++ pattern_text 8 bits) }
 {
     write!(out, "0x{bits:08x}")
@@ -116,7 +116,7 @@ pub fn push_wide_pattern(out: &mut String, bits: u64) -> Result<(), AllocError>
 }
 
 /// Appends a Guid with its hyphens, in lower case.
-pub(crate) fn push_guid(out: &mut String, guid: &Guid) -> Result<(), AllocError>
+pub fn push_guid(out: &mut String, guid: &Guid) -> Result<(), AllocError>
     ensures { OnOk result (string_bytes out.new ≡ string_bytes out.old ++ hyphenated_text lower guid.now.uuid) }
 {
     let mut buffer = Uuid::encode_buffer();

@@ -149,11 +149,7 @@ fn push_item(
 }
 
 /// Appends a value of a built-in type.
-pub(crate) fn push_scalar(
-    alloc: Global,
-    out: &mut String,
-    scalar: &Scalar,
-) -> Result<(), AllocError>
+pub fn push_scalar(alloc: Global, out: &mut String, scalar: &Scalar) -> Result<(), AllocError>
     ensures { OnOk result (string_bytes out.new ≡ string_bytes out.old ++ scalar_text (scalar_of scalar.now)) }
 {
     match scalar {

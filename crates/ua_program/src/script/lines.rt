@@ -6,10 +6,11 @@ ghost use Rattle.ua_exchange.specs.declared.turn.Turn.TheVariants.{Ask};
 ghost use Rattle.ua_program.specs.ScriptFaults.{Unread};
 ghost use Rattle.ua_program.specs.Script.{session_opening_turns, read_of_node, script_turns as turns_of_script};
 ghost use Rattle.ua_program.specs.Script.{step_turn as turn_of_step, token as own_token, write_to_node};
-ghost use Rattle.ua_texts.specs.Script.{AsksFor};
+ghost use Rattle.ua_answers.specs.Script.{AsksFor};
 
 use crate::script::loop_fault::LoopFault;
 use std::alloc::{AllocError, Global};
+use ua_answers::{ScriptLine, Step, parse_script};
 use ua_builtin::{DateTime, Identifier, NodeId, UaString};
 use ua_exchange::Turn;
 use ua_services::Request;
@@ -17,7 +18,6 @@ use ua_services::session_requests::{
     activate_session_request, close_session_request, create_session_request, local_url, read_item,
     read_request, write_item, write_request,
 };
-use ua_texts::{ScriptLine, Step, parse_script};
 use ua_variant::Variant;
 
 /// The timestamp of everything that is sent: 1970-01-01 00:00 UTC.
@@ -32,7 +32,7 @@ const PORT: u16 = 4840;
 const FIRST_ID: u32 = 4;
 
 /// Parses a script: returns the lines that ask for something, each with its number. The form is
-/// that of `ua_texts::parse_script`.
+/// that of `ua_answers::parse_script`.
 pub fn parse_lines(alloc: Global, text: &str) -> Result<Vec<ScriptLine>, LoopFault>
     ensures lines { IfOk result (λ lines. AsksFor text.now lines.items) }
     ensures fault { IfErr result (λ fault. Unread text.now fault) }

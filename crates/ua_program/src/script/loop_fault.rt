@@ -2,8 +2,8 @@
 
 use std::alloc::AllocError;
 use thiserror::Error;
+use ua_answers::{AnswerFault, ScriptFault};
 use ua_builtin::StatusCode;
-use ua_texts::{AnswerFault, ScriptFault};
 
 /// Why a script is not run, or its output is incomplete; the text stands after `ua: ` on standard
 /// error.

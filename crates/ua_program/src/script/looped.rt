@@ -16,10 +16,10 @@ use crate::script::lines::{MOMENT, script_turns};
 use crate::script::loop_fault::LoopFault;
 use crate::script::printed::push_transcript;
 use std::alloc::Global;
+use ua_answers::ScriptLine;
 use ua_exchange::{PairFault, Reply, Transcript, exchange};
 use ua_nodes::NodeTable;
 use ua_session::is_bad_response;
-use ua_texts::ScriptLine;
 
 /// The number of client operations that begin the session, before those of the lines.
 const OPENING_TURNS: usize = 2;

@@ -7,19 +7,19 @@ ghost use Rattle.ua_client.specs.declared.reply.Reply.TheVariants as reply;
 ghost use Rattle.ua_program.specs.ScriptFaults.{of_line_answer};
 ghost use Rattle.ua_program.specs.ScriptPrinted.{AddsAll, AddsTold, asked_behind, asked_for, end_text};
 ghost use Rattle.ua_program.specs.ScriptPrinted.{replies_told, reply_told, response_told, said, totals_line};
-ghost use Rattle.ua_texts.specs.declared.script.Step.{Step};
+ghost use Rattle.ua_answers.specs.declared.script.Step.{Step};
 
 use crate::script::loop_fault::LoopFault;
 use std::alloc::{AllocError, Global};
 use std::fmt::Write;
 use std::slice;
+use ua_answers::{
+    AnswerFault, AnswerStyle, LineStyle, ScriptLine, Step, push_read_answers_as, push_write_answers,
+};
 use ua_exchange::{Reply, Transcript};
 use ua_server::End;
 use ua_services::Response;
-use ua_texts::{
-    AnswerFault, AnswerStyle, LineStyle, ScriptLine, Step, push_code_as, push_read_answers_as,
-    push_write_answers,
-};
+use ua_texts::push_code_as;
 
 /// The index of the first reply to a line: the replies to the requests that begin the session come
 /// before it.

@@ -1,5 +1,5 @@
 use Rattle.std.specs.Prelude.{string_bytes}
-use Rattle.ua_texts.specs.declared.fault.AnswerFault.TheVariants.{OutOfMemory}
+use Rattle.ua_answers.specs.declared.fault.AnswerFault.TheVariants.{OutOfMemory}
 use Rattle.test_determinism.specs.Pinned.{HadMemory}
 use Rattle.test_determinism.proofs.TextsAlike.{PrintsOnce, endpoints_printed}
 use Rattle.test_determinism.proofs.printed.push_endpoints_twice.Goals as goal

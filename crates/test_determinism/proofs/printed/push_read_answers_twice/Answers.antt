@@ -1,6 +1,6 @@
 use Rattle.std.specs.Prelude.{length, string_bytes}
-use Rattle.ua_texts.specs.Answers.{read_lines}
-use Rattle.ua_texts.specs.declared.fault.AnswerFault.TheVariants.{OutOfMemory}
+use Rattle.ua_answers.specs.Answers.{read_lines}
+use Rattle.ua_answers.specs.declared.fault.AnswerFault.TheVariants.{OutOfMemory}
 use Rattle.test_determinism.specs.Pinned.{HadMemory}
 use Rattle.test_determinism.proofs.TextsAlike.{PrintsOnce, values_printed}
 use Rattle.test_determinism.proofs.printed.push_read_answers_twice.Goals as goal

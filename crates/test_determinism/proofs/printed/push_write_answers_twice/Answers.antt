@@ -1,6 +1,6 @@
 use Rattle.std.specs.Prelude.{length, string_bytes}
-use Rattle.ua_texts.specs.Answers.{write_lines}
-use Rattle.ua_texts.specs.declared.fault.AnswerFault.TheVariants.{OutOfMemory}
+use Rattle.ua_answers.specs.Answers.{write_lines}
+use Rattle.ua_answers.specs.declared.fault.AnswerFault.TheVariants.{OutOfMemory}
 use Rattle.test_determinism.specs.Pinned.{HadMemory}
 use Rattle.test_determinism.proofs.TextsAlike.{PrintsOnce, statuses_printed}
 use Rattle.test_determinism.proofs.printed.push_write_answers_twice.Goals as goal

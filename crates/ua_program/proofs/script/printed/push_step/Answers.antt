@@ -1,6 +1,6 @@
 use Rattle.std.proofs.Common.{ℕ, subst}
 use Rattle.std.proofs.lemmas.Result.{err_from_is_err_and}
-use Rattle.ua_texts.specs.Replies.{NoAnswers, statuses_in, values_in}
+use Rattle.ua_answers.specs.Replies.{NoAnswers, statuses_in, values_in}
 use Rattle.ua_program.proofs.ScriptTold.{read_answered, read_failed, write_answered, write_failed}
 use Rattle.ua_program.proofs.script.printed.push_step.Goals as goal
 

@@ -1,0 +1,9 @@
+mod Ends
+mod Pairs
+mod Steps
+mod Scripts
+mod Tokens
+mod ExactRows
+mod ExactLines
+mod PlainPairs
+mod PlainTokens

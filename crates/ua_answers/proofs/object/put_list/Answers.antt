@@ -1,0 +1,10 @@
+use Rattle.ua_variant.specs.View.{elements_of}
+use Rattle.ua_answers.specs.Json.{scalar_json}
+use Rattle.ua_answers.proofs.Tokens.{array_put, one_last, put_one}
+use Rattle.ua_answers.proofs.object.put_list.Goals as goal
+
+pub returns : goal.returns
+returns c =
+    array_put c.end_array.result c.args.line.now c.begin_array.new.self c.put_elements.new.line c.end_array.new.self scalar_json
+    (elements_of c.args.elements.now) (put_one c.in_ok-begin_array.ensures) c.in_ok-put_elements.ensures
+    (one_last c.end_array.ensures)

@@ -1,0 +1,13 @@
+pub mod PlainRead
+pub mod PlainLines
+pub mod Styles
+pub mod Json
+pub mod Tokens
+pub mod ObjectParts
+pub mod Answers
+pub mod PlainJson
+pub mod PlainAnswers
+pub mod Replies
+pub mod PlainReplies
+pub mod ScriptLineFault
+pub mod Script

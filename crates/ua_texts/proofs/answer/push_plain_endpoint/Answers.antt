@@ -1,7 +1,0 @@
-use Rattle.ua_texts.proofs.Ends.{then_text}
-use Rattle.ua_texts.specs.Answers.{plain_endpoint}
-use Rattle.ua_texts.proofs.answer.push_plain_endpoint.Goals as goal
-
-pub returns : goal.returns
-unfolding plain_endpoint
-returns c = then_text _ _ _ _ _ _ c.in_ok-push_address.ensures c.push_policies_part.ensures
