@@ -1,17 +1,9 @@
-mod Ends
-mod HexParts
 mod Recordings
 mod PrintedSides
 mod LineTasks
-mod Lives
 mod Loops
-mod Places
 mod Readings
-mod Serves
-mod Standards
-mod Stops
 mod Talks
-mod Storing
 mod ScriptTurns
 mod ScriptTold
 mod Opening

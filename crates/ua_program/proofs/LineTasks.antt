@@ -3,7 +3,7 @@ use Rattle.std.proofs.Common.{◌≡◌, ◌≢◌, ◌⊎◌, inl, inr, ◌++�
 use Rattle.std.specs.Prelude.{IfErr, IfOk, MatchOption, unwrap_or}
 use Rattle.std.specs.Str.Lines.{strip_carriage_return}
 use denote.Ref.{Bor}
-use Rattle.ua_program.specs.declared.script.loop_fault.LoopFault.{LoopFault}
+use Rattle.ua_report.specs.declared.loop_fault.LoopFault.{LoopFault}
 use Rattle.ua_answers.specs.Script.{AsksFor}
 use Rattle.ua_answers.specs.declared.script.ScriptLine.{ScriptLine}
 use Rattle.ua_program.specs.LineTask.{GivesOwn, IsBare, IsPause, IsSleep, IsTaskOf, RefusesTaskLine, Requests}

@@ -1,7 +1,7 @@
 -- What is printed of a script.
 use Rattle.std.proofs.Common.{◌≡◌, ℕ, Bool, List, Option, subst, string_bytes}
 use Rattle.std.specs.Io.KnownBytes.{Appends}
-use Rattle.ua_program.specs.declared.script.loop_fault.LoopFault.{LoopFault}
+use Rattle.ua_report.specs.declared.loop_fault.LoopFault.{LoopFault}
 use Rattle.ua_program.specs.declared.script.looped.Looped.{Looped}
 use Rattle.ua_nodes.specs.NodeFile.{WriteNodes, node_lines}
 use Rattle.ua_nodes.specs.Table.{Nodes}

@@ -13,7 +13,7 @@ use Rattle.ua_pair.specs.declared.side.Side.TheVariants.{Client, Server}
 use Rattle.ua_program.specs.Judges.{AreLinesBetween, PrintsTurn, PrintsTurns, lines_behind, printed_options, printed_to}
 use Rattle.ua_program.specs.Recorded.{IsRecord}
 use Rattle.ua_program.specs.Printing.{AddsLastLines, AddsTurns, ArePrinted, EndsSideBehind, PrinterStands, PrintersStand, PrintsMark, PrintsSide}
-use Rattle.ua_program.specs.declared.arguments.JudgeRecord.{JudgeRecord}
+use Rattle.ua_words.specs.declared.arguments.JudgeRecord.{JudgeRecord}
 use Rattle.ua_program.specs.declared.judge.Printer.{Printer}
 use Rattle.ua_program.specs.declared.judge.Printers.{Printers}
 

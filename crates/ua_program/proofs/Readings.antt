@@ -11,20 +11,20 @@ use Rattle.hex.specs.Hex.{decode_of}
 use Rattle.hex.proofs.HexLemmas.{decode_of-ok}
 use Rattle.ua_program.specs.Looped.{HasLoopedUntil}
 use Rattle.ua_program.specs.Talked.{HasTalked}
-use Rattle.ua_program.specs.AtOnce.{ServesSomeAsked}
-use Rattle.ua_program.specs.declared.arguments.Serve.{Serve}
+use Rattle.ua_serving.specs.AtOnce.{ServesSomeAsked}
+use Rattle.ua_words.specs.declared.arguments.Serve.{Serve}
 use Rattle.ua_program.specs.Printed.{HasBegun, HasDissected, HasListed, HasToldSome}
 use Rattle.ua_answers.specs.declared.style.AnswerStyle.{AnswerStyle}
 use Rattle.ua_answers.specs.declared.style.EndpointStyle.{EndpointStyle}
-use Rattle.ua_program.specs.Digits.{digits_in, HexSoFar, HoldsSoFar, HoldsOctets, HoldsNever, HoldsNone}
-use Rattle.ua_program.specs.declared.fault.Fault.{Fault}
-use Rattle.ua_program.specs.declared.fault.Fault.TheVariants.{NoMemory, NotHexadecimal}
+use Rattle.ua_report.specs.Digits.{digits_in, HexSoFar, HoldsSoFar, HoldsOctets, HoldsNever, HoldsNone}
+use Rattle.ua_report.specs.declared.fault.Fault.{Fault}
+use Rattle.ua_report.specs.declared.fault.Fault.TheVariants.{NoMemory, NotHexadecimal}
 use Rattle.ua_session.specs.declared.verdict.Verdict.{Verdict}
-use Rattle.ua_program.specs.declared.output.Stop.{Stop}
-use Rattle.ua_program.specs.declared.output.Stop.TheVariants as stop
+use Rattle.ua_report.specs.declared.output.Stop.{Stop}
+use Rattle.ua_report.specs.declared.output.Stop.TheVariants as stop
 use Rattle.ua_program.specs.Dissects.{AreLinesOf, DissectsAll, EndsFile, GivesNone, HasBegunDissecting, IsJudged, LeavesNone, PrintsLast}
 use Rattle.ua_program.specs.Dissects.{PrintsNext, PrintsPiece, ReadsIntoFragment, StopsLast, StopsNext, StopsReading, TellsPiece, ToldSoFar}
-use Rattle.ua_program.proofs.HexParts.{hex_first}
+use Rattle.ua_report.proofs.HexParts.{hex_first}
 
 -- nothing yet
 first_holds : (hex : Bool) (half : Option ℕ) → half ≡ None → HoldsSoFar hex half [] []

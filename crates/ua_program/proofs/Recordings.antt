@@ -14,13 +14,13 @@ use Rattle.hex.specs.declared.error.FromHexError.{FromHexError}
 use Rattle.ua_frame.specs.After.{each_after}
 use Rattle.ua_frame.proofs.Afters.{each_after-push}
 use Rattle.ua_judge.specs.declared.mark.Mark.{Mark}
-use Rattle.ua_program.specs.Digits.{HexSoFar, IsNeverHex, digits_in}
+use Rattle.ua_report.specs.Digits.{HexSoFar, IsNeverHex, digits_in}
 use Rattle.ua_program.specs.Recorded.{AddsLine, AreRecorded, RecordLine, WritesNoRecord, WritesRecord}
 use Rattle.ua_program.specs.Recorded.{both_read, hex_octets, line_mark, line_read, lines_read, octets_down, octets_up, one_line}
 use Rattle.ua_program.specs.Recorded.RecordLine.{Up, Down}
-use Rattle.ua_program.specs.declared.fault.Fault.{Fault}
-use Rattle.ua_program.specs.declared.fault.Fault.TheVariants.{NoMemory, NotHexadecimal}
-use Rattle.ua_program.proofs.HexParts.{hex_first}
+use Rattle.ua_report.specs.declared.fault.Fault.{Fault}
+use Rattle.ua_report.specs.declared.fault.Fault.TheVariants.{NoMemory, NotHexadecimal}
+use Rattle.ua_report.proofs.HexParts.{hex_first}
 
 -- ---- the digits of a line
 

@@ -6,12 +6,12 @@ use Rattle.std.proofs.lemmas.List.{drop_all}
 use Rattle.ua_builtin.specs.declared.node_id.NodeId.{NodeId}
 use Rattle.ua_builtin.specs.declared.status_code.StatusCode.{StatusCode}
 use Rattle.ua_client.specs.declared.reply.Reply.{Reply}
-use Rattle.ua_program.specs.ScriptFaults.{of_line_answer}
+use Rattle.ua_report.specs.LoopFaults.{of_line_answer}
 use Rattle.ua_program.specs.ScriptPrinted.{AddsAll, AddsTexts, AddsTold, IsPlainTextOf, IsTextOf, IsToldText, ToldOfScript, answer, said}
 use Rattle.ua_program.specs.ScriptPrinted.{asked_behind, asking_step, asked_for, told_fault, told_text, is_bad_reply}
 use Rattle.ua_program.specs.ScriptPrinted.{is_bad_told, read_told, replies_told, reply_told, text_of, unless_failed, write_told}
-use Rattle.ua_program.specs.declared.script.loop_fault.LoopFault.{LoopFault}
-use Rattle.ua_program.specs.declared.script.loop_fault.LoopFault.TheVariants.{UnknownResponse}
+use Rattle.ua_report.specs.declared.loop_fault.LoopFault.{LoopFault}
+use Rattle.ua_report.specs.declared.loop_fault.LoopFault.TheVariants.{UnknownResponse}
 use Rattle.ua_services.specs.declared.response.Response.{Response}
 use Rattle.ua_services.specs.declared.response.Response.TheVariants as response
 use Rattle.ua_answers.specs.Answers.{read_line, write_line, write_lines}

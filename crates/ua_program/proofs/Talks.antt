@@ -3,10 +3,10 @@ use Rattle.std.proofs.Common.{◌≡◌, ◌⊎◌, inl, inr, ℕ, List, Option,
 use Rattle.ua_session.specs.Printed.{HasAdded, IsOutput}
 use Rattle.ua_session.specs.declared.fault.QuestionFault.{QuestionFault}
 use Rattle.ua_answers.specs.declared.style.AnswerStyle.{AnswerStyle}
-use Rattle.ua_program.proofs.Stops.{left_asking}
-use Rattle.ua_program.specs.Reasons.{StopsAsking, StopsWriting}
+use Rattle.ua_report.proofs.Stops.{left_asking}
+use Rattle.ua_report.specs.Reasons.{StopsAsking, StopsWriting}
 use Rattle.ua_program.specs.Talked.{Another, AreTalkLines, HasTalked, Nothing}
-use Rattle.ua_program.specs.declared.output.Stop.{Stop}
+use Rattle.ua_report.specs.declared.output.Stop.{Stop}
 
 -- before the first answer nothing is printed, whatever went wrong
 pub none_stops : {A E : Type 0} (Is : E → Type 0) (style : AnswerStyle) (old : Option (List ℕ)) (result : Result A E)

@@ -8,7 +8,7 @@ use Rattle.ua_exchange.specs.Turns.{up_octets}
 use Rattle.ua_exchange.specs.declared.transcript.Transcript.{Transcript}
 use Rattle.ua_program.specs.ScriptFaults.{StopsScriptLines}
 use Rattle.ua_program.specs.Script.{script_moment, script_turns}
-use Rattle.ua_program.specs.declared.script.loop_fault.LoopFault.{LoopFault}
+use Rattle.ua_report.specs.declared.loop_fault.LoopFault.{LoopFault}
 use Rattle.ua_nodes.specs.Table.{Nodes}
 use Rattle.ua_server.specs.declared.step.End.TheVariants.{Closed}
 use Rattle.ua_answers.specs.declared.script.ScriptLine.{ScriptLine}

@@ -9,11 +9,11 @@ use Rattle.ua_pair.specs.Dissecting.{StandsBehind, is_stopped}
 use Rattle.ua_frame.specs.Run.{End}
 use Rattle.ua_session.specs.declared.verdict.Verdict.{Verdict}
 use Rattle.ua_session.specs.declared.verdict.Verdict.TheVariants.{AllGood, SomeBad}
-use Rattle.ua_program.specs.Digits.{HoldsNever, HoldsNone, HoldsOctets, HoldsSoFar}
-use Rattle.ua_program.specs.declared.fault.Fault.TheVariants.{CannotRead, NoMemory, NotHexadecimal}
-use Rattle.ua_program.specs.declared.output.Stop.{Stop}
-use Rattle.ua_program.specs.Reasons.{StopsWriting}
-use Rattle.ua_program.specs.declared.output.Stop.TheVariants as stop
+use Rattle.ua_report.specs.Digits.{HoldsNever, HoldsNone, HoldsOctets, HoldsSoFar}
+use Rattle.ua_report.specs.declared.fault.Fault.TheVariants.{CannotRead, NoMemory, NotHexadecimal}
+use Rattle.ua_report.specs.declared.output.Stop.{Stop}
+use Rattle.ua_report.specs.Reasons.{StopsWriting}
+use Rattle.ua_report.specs.declared.output.Stop.TheVariants as stop
 
 -- the text is the lines of the bytes of this side that a file with this content contains, with
 -- `--hex` or without

@@ -19,7 +19,7 @@ use Rattle.ua_session.specs.declared.verdict.Verdict.{Verdict as Status}
 use Rattle.ua_session.specs.declared.verdict.Verdict.TheVariants.{AllGood, SomeBad}
 use Rattle.ua_texts.specs.Names.{named_code}
 use Rattle.ua_program.specs.Recorded.{IsRecord}
-use Rattle.ua_program.specs.declared.arguments.JudgeRecord.{JudgeRecord}
+use Rattle.ua_words.specs.declared.arguments.JudgeRecord.{JudgeRecord}
 
 -- the side broke the protocol
 abbrev pub is_break : Verdict → Bool

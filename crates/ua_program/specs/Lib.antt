@@ -1,24 +1,15 @@
-pub mod AtOnce
-pub mod Digits
 pub mod Dissects
 pub mod Recorded
 pub mod Judges
 pub mod Printing
 pub mod Lines
-pub mod Refused
-pub mod Served
 pub mod Words
 pub mod Looped
 pub mod Lifetime
 pub mod LineTask
 pub mod Talked
 pub mod Printed
-pub mod Reasons
-pub mod Standard
-pub mod Known
 pub mod Blamed
-pub mod Live
-pub mod Stored
 -- A script that is run over nodes: what its lines request, why it is not run, what is printed of
 -- it, and what both ends sent.
 pub mod Script

@@ -2,8 +2,8 @@
 use Rattle.std.specs.Prelude.{◌≡◌, ◌≢◌, ◌≤◌, ◌⊎◌, ℕ, List, [], ◌∷◌, ◌++◌, Result, Ok, Err, codes}
 use Rattle.std.specs.Str.Lines.{strip_carriage_return}
 use Rattle.ua_nodes.specs.NodeFile.{fields}
-use Rattle.ua_program.specs.declared.script.loop_fault.LoopFault.{LoopFault}
-use Rattle.ua_program.specs.declared.script.loop_fault.LoopFault.TheVariants as loop_fault
+use Rattle.ua_report.specs.declared.loop_fault.LoopFault.{LoopFault}
+use Rattle.ua_report.specs.declared.loop_fault.LoopFault.TheVariants as loop_fault
 use Rattle.ua_session.specs.declared.question.Question.{Question}
 use Rattle.ua_session.specs.declared.question.Question.TheVariants as question
 use Rattle.ua_program.specs.ScriptFaults.{Unread}
@@ -11,7 +11,7 @@ use Rattle.ua_answers.specs.Script.{AsksFor}
 use Rattle.ua_answers.specs.declared.script.ScriptLine.{ScriptLine}
 use Rattle.ua_answers.specs.declared.script.Step.{Step}
 use Rattle.ua_answers.specs.declared.script.Step.TheVariants.{Read, Write, Renew}
-use Rattle.ua_program.specs.Words.{WritesNumber}
+use Rattle.ua_words.specs.Words.{WritesNumber}
 use Rattle.ua_program.specs.declared.line_task.LineTask.{LineTask}
 use Rattle.ua_program.specs.declared.line_task.LineTask.TheVariants as task
 

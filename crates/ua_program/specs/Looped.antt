@@ -7,15 +7,15 @@ use Rattle.ua_exchange.specs.Turns.{up_octets}
 use Rattle.ua_program.specs.ScriptFaults.{StopsScriptLines, Unread}
 use Rattle.ua_program.specs.ScriptPrinted.{IsTextOf, told_fault, script_told}
 use Rattle.ua_program.specs.Script.{script_moment, script_turns}
-use Rattle.ua_program.specs.declared.script.loop_fault.LoopFault.{LoopFault}
+use Rattle.ua_report.specs.declared.loop_fault.LoopFault.{LoopFault}
 use Rattle.ua_program.specs.declared.script.looped.Looped.{Looped}
 use Rattle.ua_nodes.specs.NodeFile.{WriteNodes, node_lines}
 use Rattle.ua_nodes.specs.Table.{Nodes}
 use Rattle.ua_answers.specs.Script.{AsksFor}
 use Rattle.ua_answers.specs.declared.script.ScriptLine.{ScriptLine}
-use Rattle.ua_program.specs.declared.fault.Fault.TheVariants.{Looping}
-use Rattle.ua_program.specs.declared.output.Stop.{Stop}
-use Rattle.ua_program.specs.declared.output.Stop.TheVariants.{Fault as Stopped}
+use Rattle.ua_report.specs.declared.fault.Fault.TheVariants.{Looping}
+use Rattle.ua_report.specs.declared.output.Stop.{Stop}
+use Rattle.ua_report.specs.declared.output.Stop.TheVariants.{Fault as Stopped}
 
 -- what was sent each way over these nodes, what is printed and which fault is met are those of the
 -- steps that this text requests, all of which a client accepts; what is printed has the names of

@@ -9,9 +9,9 @@ use Rattle.ua_answers.specs.declared.style.EndpointStyle.{EndpointStyle}
 use Rattle.ua_program.specs.Dissects.{HasBegunDissecting}
 use Rattle.ua_program.specs.Judges.{HasJudged}
 use Rattle.ua_program.specs.Looped.{HasLoopedSome}
-use Rattle.ua_program.specs.AtOnce.{ServesAsked, ServesSomeAsked}
+use Rattle.ua_serving.specs.AtOnce.{ServesAsked, ServesSomeAsked}
 use Rattle.ua_program.specs.Talked.{HasTalkedSome}
-use Rattle.ua_program.specs.declared.arguments.Serve.{Serve}
+use Rattle.ua_words.specs.declared.arguments.Serve.{Serve}
 
 -- the text is the lines of some bytes of one side
 pub record AreSomeLines (text : List ℕ) : Type 0 where

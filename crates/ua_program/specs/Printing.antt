@@ -6,7 +6,7 @@ use Rattle.ua_pair.specs.declared.options.DissectOptions.{DissectOptions}
 use Rattle.ua_pair.specs.declared.side.Side.TheVariants.{Client, Server}
 use Rattle.ua_program.specs.Judges.{AreLinesBetween, EndsSide, PrintsLastLines, PrintsTurn, PrintsTurns, lines_behind}
 use Rattle.ua_program.specs.Judges.{printed_options, printed_to}
-use Rattle.ua_program.specs.declared.arguments.JudgeRecord.{JudgeRecord}
+use Rattle.ua_words.specs.declared.arguments.JudgeRecord.{JudgeRecord}
 use Rattle.ua_program.specs.declared.judge.Printer.{Printer}
 use Rattle.ua_program.specs.declared.judge.Printers.{Printers}
 

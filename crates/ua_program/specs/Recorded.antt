@@ -8,11 +8,11 @@ use Rattle.hex.specs.Hex.{decode_of}
 use Rattle.ua_frame.specs.After.{each_after}
 use Rattle.ua_judge.specs.Guessed.{AreGuessed}
 use Rattle.ua_judge.specs.declared.mark.Mark.{Mark}
-use Rattle.ua_program.specs.Digits.{digits_in}
-use Rattle.ua_program.specs.Reasons.{StopsAtFile}
-use Rattle.ua_program.specs.declared.fault.Fault.TheVariants.{NotHexadecimal}
-use Rattle.ua_program.specs.declared.output.Stop.{Stop}
-use Rattle.ua_program.specs.declared.output.Stop.TheVariants as stop
+use Rattle.ua_report.specs.Digits.{digits_in}
+use Rattle.ua_report.specs.Reasons.{StopsAtFile}
+use Rattle.ua_report.specs.declared.fault.Fault.TheVariants.{NotHexadecimal}
+use Rattle.ua_report.specs.declared.output.Stop.{Stop}
+use Rattle.ua_report.specs.declared.output.Stop.TheVariants as stop
 
 -- ---- lines
 

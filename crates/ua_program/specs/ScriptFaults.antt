@@ -4,22 +4,13 @@ use Rattle.ua_exchange.specs.Accepted.{AreAccepted, turn_refusal}
 use Rattle.ua_exchange.specs.declared.fault.PairFault.{PairFault}
 use Rattle.ua_exchange.specs.declared.fault.PairFault.TheVariants.{NotWritable, OutOfMemory, Request}
 use Rattle.ua_program.specs.Script.{closing, line_turn, turns_to}
-use Rattle.ua_program.specs.declared.script.loop_fault.LoopFault.{LoopFault}
-use Rattle.ua_program.specs.declared.script.loop_fault.LoopFault.TheVariants.{ScriptLine as OfLine, Exhausted, Service, UnknownResponse, NoMemory}
+use Rattle.ua_report.specs.declared.loop_fault.LoopFault.{LoopFault}
+use Rattle.ua_report.specs.declared.loop_fault.LoopFault.TheVariants.{ScriptLine as OfLine, Exhausted, Service, UnknownResponse, NoMemory}
 use Rattle.ua_nodes.specs.NodeFile.{node_lines}
 use Rattle.ua_answers.specs.Script.{IsFirstBadScriptLine}
-use Rattle.ua_answers.specs.declared.fault.AnswerFault.{AnswerFault}
-use Rattle.ua_answers.specs.declared.fault.AnswerFault.TheVariants as answer
-use Rattle.ua_answers.specs.declared.fault.ScriptFault.{ScriptFault}
-use Rattle.ua_answers.specs.declared.fault.ScriptFault.TheVariants as script
 use Rattle.ua_answers.specs.declared.script.ScriptLine.{ScriptLine}
 
 -- ---- a text
-
--- a script that was not parsed: a line of it requests nothing, or an allocation failed
-abbrev pub of_script : ScriptFault → LoopFault
-of_script (script.Line number) = OfLine number
-of_script script.OutOfMemory = NoMemory
 
 -- why no lines are parsed from a text: its first line that requests nothing has this number; or an
 -- allocation failed
@@ -62,12 +53,3 @@ StopsScriptLines lines Exhausted = StopsBehind lines
 StopsScriptLines lines (Service code) = ⊥
 StopsScriptLines lines UnknownResponse = ⊥
 StopsScriptLines lines NoMemory = Unit {0}
-
--- ---- a response
-
--- answers that were not printed: the service failed, their number is not that of the items
--- requested, or an allocation failed
-abbrev pub of_line_answer : AnswerFault → LoopFault
-of_line_answer (answer.Service code) = Service code
-of_line_answer answer.Unknown = UnknownResponse
-of_line_answer answer.OutOfMemory = NoMemory

@@ -11,8 +11,8 @@ use Rattle.ua_exchange.specs.Turns.{up_octets}
 use Rattle.ua_client.specs.declared.reply.Reply.{Reply}
 use Rattle.ua_client.specs.declared.reply.Reply.TheVariants.{Response as Responds, Aborted}
 use Rattle.ua_program.specs.Script.{script_moment, script_turns}
-use Rattle.ua_program.specs.declared.script.loop_fault.LoopFault.{LoopFault}
-use Rattle.ua_program.specs.declared.script.loop_fault.LoopFault.TheVariants.{Service, UnknownResponse, NoMemory}
+use Rattle.ua_report.specs.declared.loop_fault.LoopFault.{LoopFault}
+use Rattle.ua_report.specs.declared.loop_fault.LoopFault.TheVariants.{Service, UnknownResponse, NoMemory}
 use Rattle.ua_nodes.specs.Table.{Nodes}
 use Rattle.ua_server.specs.declared.step.End.{End}
 use Rattle.ua_server.specs.declared.step.End.TheVariants.{Closed, NoClose, Cut, Refused}

@@ -7,15 +7,9 @@ ghost use Rattle.ua_session.specs.Words.{GivesRead, GivesWrite};
 ghost use Rattle.ua_session.specs.declared.verdict.Verdict.TheVariants.{AllGood, SomeBad};
 ghost use Rattle.ua_program.specs.Printed.{HasAnswered, HasListed};
 ghost use Rattle.ua_program.specs.Words.{base_url, policy_named, value_given, with_path};
-ghost use Rattle.ua_program.specs.Reasons.{StopsWriting, is_starved};
+ghost use Rattle.ua_report.specs.Reasons.{StopsWriting, is_starved};
 
-use crate::arguments::{Address, ListEndpoints, ReadNodes, WriteNode};
 use crate::blame::{blame_read, blame_write};
-use crate::fault::Fault;
-use crate::heard::Heard;
-use crate::output::Stop;
-use crate::reason::cannot_connect;
-use crate::record::write_record;
 use std::alloc::{AllocError, Global};
 use std::io::{Read, Write};
 use std::net::{Ipv4Addr, Net, TcpStream};
@@ -25,12 +19,14 @@ use ua_answers::AnswerStyle;
 use ua_builtin::{UaString, Wire};
 use ua_channel::Line;
 use ua_exchange::limits;
+use ua_report::{Fault, Heard, Stop, cannot_connect, write_record};
 use ua_services::session_requests::local_url;
 use ua_session::{
     Inquiry, Opening, Question, QuestionFault, TokenPolicy, Verdict, WordFault, ask_over,
     endpoints_over,
 };
 use ua_tcp::{ClockMoments, RecordedLine, TcpLine, without_delay};
+use ua_words::{Address, ListEndpoints, ReadNodes, WriteNode};
 
 /// A connection to the server on a port of this machine. `why` says whether the Reason of an ERR
 /// frame is kept.

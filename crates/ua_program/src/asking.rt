@@ -2,20 +2,12 @@
 
 ghost use Rattle.std.specs.Prelude.{◌≡◌, ◌⊎◌, true, IfErr, IfOk, OnOk};
 ghost use Rattle.ua_session.specs.declared.verdict.Verdict.TheVariants.{SomeBad};
-ghost use Rattle.ua_program.specs.Reasons.{StopsWriting};
+ghost use Rattle.ua_report.specs.Reasons.{StopsWriting};
 ghost use Rattle.ua_program.specs.Talked.{HasTalked, IsWriters};
 
 use crate::ask::{connect, counted, policy_of, url_of};
-use crate::ask_words::{AskServer, Asked};
-use crate::fault::Fault;
-use crate::heard::Heard;
-use crate::input::open_file;
 use crate::lifetime::LifetimeLine;
 use crate::line_task::{LineTask, bare};
-use crate::output::Stop;
-use crate::reason::{blame_text, cannot_read};
-use crate::record::write_record;
-use crate::script::LoopFault;
 use crate::talk::{Talk, ticks_of};
 use crate::tasks::{Lines, Repeated, TaskFault, Tasks};
 use std::alloc::Global;
@@ -27,8 +19,10 @@ use std::time::{Clock, Duration};
 use ua_builtin::DateTime;
 use ua_channel::{Line, Moments};
 use ua_exchange::limits;
+use ua_report::{Fault, Heard, LoopFault, Stop, blame_text, cannot_read, open_file, write_record};
 use ua_session::{ClientSession, QuestionFault, Verdict};
 use ua_tcp::{ClockMoments, RecordedLine, TcpLine};
+use ua_words::{AskServer, Asked};
 
 /// Why a session ends before its tasks do.
 #[derive(Debug, Drop)]

@@ -4,16 +4,14 @@ ghost use Rattle.std.specs.Prelude.{◌≡◌, true, [], cond, codes, string_byt
 ghost use Rattle.ua_nodes.specs.TypeName.{type_denoted};
 ghost use Rattle.ua_session.specs.Words.{NamesNoNode};
 ghost use Rattle.ua_program.specs.Blamed.{form_text_of, plain_form, value_told};
-ghost use Rattle.ua_program.specs.Reasons.{StopsForFault};
-ghost use Rattle.ua_program.specs.declared.fault.Fault.TheVariants.{Words};
+ghost use Rattle.ua_report.specs.Reasons.{StopsForFault};
+ghost use Rattle.ua_report.specs.declared.fault.Fault.TheVariants.{Words};
 
-use crate::arguments::{ReadNodes, WriteNode};
-use crate::fault::Fault;
-use crate::output::Stop;
-use crate::reason::{Reason, blame, names_node};
 use std::alloc::{AllocError, Global};
 use ua_nodes::parse_type;
+use ua_report::{Fault, Reason, Stop, blame, names_node};
 use ua_session::WordFault;
+use ua_words::{ReadNodes, WriteNode};
 
 /// Whether a word names no NodeId.
 fn is_no_node(alloc: Global, word: &str) -> Result<bool, AllocError>

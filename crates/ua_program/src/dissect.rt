@@ -6,22 +6,20 @@ ghost use Rattle.std.specs.Io.KnownBytes.{Appends};
 ghost use Rattle.ua_pair.specs.Dissecting.{StandsBehind};
 ghost use Rattle.ua_pair.specs.declared.options.DissectOptions.{DissectOptions};
 ghost use Rattle.ua_session.specs.declared.verdict.Verdict.TheVariants.{AllGood, SomeBad};
-ghost use Rattle.ua_program.specs.Digits.{HoldsNone, HoldsNever, HoldsOctets, HoldsSoFar};
+ghost use Rattle.ua_report.specs.Digits.{HoldsNone, HoldsNever, HoldsOctets, HoldsSoFar};
 ghost use Rattle.ua_program.specs.Dissects.{DissectsAll, EndsFile, HasBegunDissecting, IsJudged, PrintsNext};
 ghost use Rattle.ua_program.specs.Dissects.{ReadsIntoFragment, StopsLast, StopsNext};
 ghost use Rattle.ua_program.specs.Dissects.{StopsReading, TellsPiece, ToldSoFar};
-ghost use Rattle.ua_program.specs.declared.fault.Fault.TheVariants.{CannotRead, NoMemory, NotHexadecimal};
-ghost use Rattle.ua_program.specs.Reasons.{StopsWriting};
-ghost use Rattle.ua_program.specs.declared.output.Stop.TheVariants as stop;
+ghost use Rattle.ua_report.specs.declared.fault.Fault.TheVariants.{CannotRead, NoMemory, NotHexadecimal};
+ghost use Rattle.ua_report.specs.Reasons.{StopsWriting};
+ghost use Rattle.ua_report.specs.declared.output.Stop.TheVariants as stop;
 
-use crate::arguments::Dissect;
-use crate::fault::Fault;
-use crate::hex_pieces::HexPieces;
-use crate::output::{Stop, say, say_lines};
 use std::alloc::Global;
 use std::io::{ErrorKind, Read, Write};
 use ua_pair::Dissector;
+use ua_report::{Fault, HexPieces, Stop, say, say_lines};
 use ua_session::Verdict;
+use ua_words::Dissect;
 
 /// The maximum number of bytes of one read.
 const PIECE: usize = 65536;

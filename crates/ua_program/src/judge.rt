@@ -10,11 +10,9 @@ ghost use Rattle.ua_program.specs.Judges.{code_of_verdict, colon_code_text, is_b
 ghost use Rattle.ua_program.specs.Judges.{printed_options, verdict_line, verdict_words};
 ghost use Rattle.ua_program.specs.Printing.{PrinterStands, PrintersStand, PrintsMark, PrintsSide};
 ghost use Rattle.ua_program.specs.Printing.{AddsLastLines, AddsTurns, ArePrinted, EndsSideBehind};
-ghost use Rattle.ua_program.specs.Reasons.{StopsWriting};
+ghost use Rattle.ua_report.specs.Reasons.{StopsWriting};
 ghost use Rattle.ua_program.specs.Recorded.{StopsReadingRecord};
 
-use crate::arguments::JudgeRecord;
-use crate::output::{Stop, say};
 use crate::turns::{Turns, read_turns};
 use std::alloc::{AllocError, Global};
 use std::fmt::Write as _;
@@ -23,8 +21,10 @@ use std::rt::Files;
 use ua_builtin::StatusCode;
 use ua_judge::{Mark, Verdict as Judged, frame_start, judge_down, judge_up};
 use ua_pair::{DissectOptions, Dissector, Side};
+use ua_report::{Stop, say};
 use ua_session::Verdict;
 use ua_texts::push_code_as;
+use ua_words::JudgeRecord;
 
 /// One side of a record, printed as far as `at`.
 #[derive(Drop)]

@@ -5,13 +5,14 @@ ghost use Rattle.ua_program.specs.LineTask.{GivesOwn, IsBare, IsPause, IsQuestio
 ghost use Rattle.ua_program.specs.LineTask.{IsTaskOf, RefusesTaskLine, Requests};
 ghost use Rattle.ua_answers.specs.declared.script.Step.TheVariants.{Read};
 
-use crate::number::parse_size;
-use crate::script::{LoopFault, parse_lines};
+use crate::script::parse_lines;
 use std::alloc::{AllocError, Global};
 use ua_answers::Step;
 use ua_builtin::{NodeId, UaString};
 use ua_nodes::without_return;
+use ua_report::LoopFault;
 use ua_session::Question;
+use ua_words::parse_size;
 
 /// The number of the attribute Value (OPC 10000-6, A.1).
 const VALUE: u32 = 13;

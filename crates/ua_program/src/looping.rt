@@ -2,19 +2,13 @@
 
 ghost use Rattle.std.specs.Prelude.{◌≡◌, ◌⊎◌, [], true, false, None, Ok, IfOk, OnOk, IfErr};
 ghost use Rattle.ua_program.specs.Looped.{HasLooped, HasLoopedUntil, RefusesScript, RunsScript};
-ghost use Rattle.ua_program.specs.Reasons.{StopsWriting};
+ghost use Rattle.ua_report.specs.Reasons.{StopsWriting};
 ghost use Rattle.ua_session.specs.declared.verdict.Verdict.TheVariants.{SomeBad};
 ghost use Rattle.ua_nodes.specs.Sound.{AreNodesSound};
 ghost use Rattle.ua_server.specs.declared.step.End.TheVariants.{Closed};
 
-use crate::arguments::Loop;
-use crate::fault::Fault;
-use crate::input::{load_nodes, read_lines, read_nodes};
 use crate::loop_line::LoopLine;
-use crate::output::{Stop, say_lines};
-use crate::reason::{blame_step, cannot_connect, cannot_listen};
-use crate::script::{LoopFault, Looped, parse_lines, run_lines};
-use crate::serve::services;
+use crate::script::{Looped, parse_lines, run_lines};
 use std::alloc::{AllocError, Global};
 use std::io::{Read, Write};
 use std::net::{Ipv4Addr, Net, OpenListener, TcpListener, TcpStream};
@@ -23,9 +17,15 @@ use ua_channel::ListMoments;
 use ua_client::ClientFault;
 use ua_exchange::limits;
 use ua_nodes::NodeTable;
+use ua_report::{
+    Fault, LoopFault, Stop, blame_step, cannot_connect, cannot_listen, load_nodes, read_lines,
+    read_nodes, say_lines,
+};
 use ua_server::{End, ServeFault, serve};
+use ua_serving::services;
 use ua_session::{QuestionFault, Verdict};
 use ua_tcp::without_delay;
+use ua_words::Loop;
 
 /// The port in the server's address.
 const PORT: u16 = 4840;

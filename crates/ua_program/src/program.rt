@@ -6,22 +6,14 @@ ghost use Rattle.std.specs.declared.io.ErrorKind.TheVariants.{OutOfMemory};
 ghost use Rattle.ua_session.specs.declared.verdict.Verdict.TheVariants.{AllGood, SomeBad};
 ghost use Rattle.ua_program.specs.Words.{IsStrict, MayTell, SaysWhy};
 ghost use Rattle.ua_program.specs.Printed.{HasBegun, HasDissected, HasPrinted, HasToldSome};
-ghost use Rattle.ua_program.specs.Reasons.{StopsWriting};
+ghost use Rattle.ua_report.specs.Reasons.{StopsWriting};
 
-use crate::arguments::{self, BadWord, Dissect, Parsed, Task};
 use crate::ask::{counted, endpoints, read, write};
 use crate::asking::ask_server;
 use crate::dissect::dissect_source;
-use crate::fault::Fault;
-use crate::input::open_file;
 use crate::judge::judge_record;
 use crate::looping::run_files;
-use crate::output::{Stop, say};
-use crate::reason::{Reason, push_word};
-use crate::serve::serve_connections;
-use crate::tell::{Telling, print};
 use crate::version::version_line;
-use crate::watched::Watched;
 use clap::error::ErrorKind;
 use std::alloc::{AllocError, Global};
 use std::convert::AsStr;
@@ -30,7 +22,10 @@ use std::io::{Read, Write};
 use std::net::Net;
 use std::rt::Files;
 use std::time::Clock;
+use ua_report::{Fault, Reason, Stop, Telling, Watched, open_file, print, push_word, say};
+use ua_serving::serve_connections;
 use ua_session::Verdict;
+use ua_words::{BadWord, Dissect, Parsed, Task, parse};
 
 /// Runs the program on its words, of which the first is its name. The input is read only where the
 /// words ask for it. The status is 0 where the command succeeded; 1 where it met a fault or a
@@ -52,7 +47,7 @@ pub fn run<S: AsStr, R: Files + Net + Clock + AllocGlobal, I: Read, O: Write, E:
     ensures streams { (out.new ≡ out.old) ⊎ (err.new ≡ err.old) ⊎ HasBegun (O.contents out.old) (O.contents out.new)
         ⊎ MayTell (λ word. S.text word) words.now ⊎ SaysWhy (λ word. S.text word) words.now }
 {
-    let Parsed { task, why } = match arguments::parse(rt.alloc(), words) {
+    let Parsed { task, why } = match parse(rt.alloc(), words) {
         Ok(parsed) => parsed,
         Err(error) => return refuse(rt.alloc(), &error, err),
     };

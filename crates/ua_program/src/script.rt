@@ -6,11 +6,9 @@
 //! send.
 
 mod lines;
-mod loop_fault;
 mod looped;
 mod printed;
 
 pub use lines::parse_lines;
-pub use loop_fault::LoopFault;
 pub use looped::{Looped, run_lines};
 pub use printed::push_end;

@@ -1,15 +1,13 @@
 //! What `ua ask` asks for, one task after the other.
 
 use crate::ask::read_question;
-use crate::ask_words::Rounds;
 use crate::blame::blame_read;
-use crate::input::exact_form;
 use crate::line_task::{LineTask, parse_task};
-use crate::output::Stop;
-use crate::script::LoopFault;
 use std::alloc::{AllocError, Global};
 use std::io;
 use std::io::BufRead;
+use ua_report::{LoopFault, Stop, exact_form};
+use ua_words::Rounds;
 
 /// Why there is no next task.
 #[derive(Debug, Drop)]

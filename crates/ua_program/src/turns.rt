@@ -5,17 +5,14 @@ ghost use Rattle.std.specs.Prelude.{IfErr, IfOk, MatchOption, OnOk};
 ghost use Rattle.ua_program.specs.Recorded.{AddsLine, AreRecorded, IsRecord, RecordLine};
 ghost use Rattle.ua_program.specs.Recorded.{StopsReadingRecord, WritesNoRecord, WritesRecord, hex_octets, line_read};
 ghost use Rattle.ua_program.specs.Recorded.RecordLine.{Up, Down};
-ghost use Rattle.ua_program.specs.declared.fault.Fault.TheVariants.{NoMemory, NotHexadecimal};
+ghost use Rattle.ua_report.specs.declared.fault.Fault.TheVariants.{NoMemory, NotHexadecimal};
 
-use crate::arguments::JudgeRecord;
-use crate::fault::Fault;
-use crate::hex_pieces::HexPieces;
-use crate::input::{read_file, read_nodes};
-use crate::output::Stop;
 use std::alloc::{AllocError, Global};
 use std::io::Read;
 use std::rt::Files;
 use ua_judge::{Mark, guess_marks};
+use ua_report::{Fault, HexPieces, Stop, read_file, read_nodes};
+use ua_words::JudgeRecord;
 
 /// What both sides of a connection sent, and in which order.
 #[derive(Debug, Drop)]

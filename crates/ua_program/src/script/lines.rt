@@ -8,11 +8,11 @@ ghost use Rattle.ua_program.specs.Script.{session_opening_turns, read_of_node, s
 ghost use Rattle.ua_program.specs.Script.{step_turn as turn_of_step, token as own_token, write_to_node};
 ghost use Rattle.ua_answers.specs.Script.{AsksFor};
 
-use crate::script::loop_fault::LoopFault;
 use std::alloc::{AllocError, Global};
 use ua_answers::{ScriptLine, Step, parse_script};
 use ua_builtin::{DateTime, Identifier, NodeId, UaString};
 use ua_exchange::Turn;
+use ua_report::LoopFault;
 use ua_services::Request;
 use ua_services::session_requests::{
     activate_session_request, close_session_request, create_session_request, local_url, read_item,

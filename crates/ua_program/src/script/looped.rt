@@ -13,12 +13,12 @@ ghost use Rattle.ua_program.specs.Script.{script_moment, script_turns as turns_o
 ghost use Rattle.ua_nodes.specs.Sound.{AreNodesSound};
 
 use crate::script::lines::{MOMENT, script_turns};
-use crate::script::loop_fault::LoopFault;
 use crate::script::printed::push_transcript;
 use std::alloc::Global;
 use ua_answers::ScriptLine;
 use ua_exchange::{PairFault, Reply, Transcript, exchange};
 use ua_nodes::NodeTable;
+use ua_report::LoopFault;
 use ua_session::is_bad_response;
 
 /// The number of client operations that begin the session, before those of the lines.

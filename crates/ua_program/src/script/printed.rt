@@ -4,12 +4,11 @@ ghost use Rattle.std.specs.Prelude.{◌≡◌, ◌++◌, ◌∷◌, [], ℕ, Boo
 ghost use Rattle.std.specs.Prelude.{Err, drop, length, map, string_bytes, IfOk, IfErr, OnOk};
 ghost use Rattle.std.specs.List.{slice_get};
 ghost use Rattle.ua_client.specs.declared.reply.Reply.TheVariants as reply;
-ghost use Rattle.ua_program.specs.ScriptFaults.{of_line_answer};
+ghost use Rattle.ua_report.specs.LoopFaults.{of_line_answer};
 ghost use Rattle.ua_program.specs.ScriptPrinted.{AddsAll, AddsTold, asked_behind, asked_for, end_text};
 ghost use Rattle.ua_program.specs.ScriptPrinted.{replies_told, reply_told, response_told, said, totals_line};
 ghost use Rattle.ua_answers.specs.declared.script.Step.{Step};
 
-use crate::script::loop_fault::LoopFault;
 use std::alloc::{AllocError, Global};
 use std::fmt::Write;
 use std::slice;
@@ -17,6 +16,7 @@ use ua_answers::{
     AnswerFault, AnswerStyle, LineStyle, ScriptLine, Step, push_read_answers_as, push_write_answers,
 };
 use ua_exchange::{Reply, Transcript};
+use ua_report::LoopFault;
 use ua_server::End;
 use ua_services::Response;
 use ua_texts::push_code_as;

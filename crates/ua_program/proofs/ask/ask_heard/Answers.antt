@@ -1,4 +1,4 @@
-use Rattle.ua_program.proofs.Stops.{left_asking}
+use Rattle.ua_report.proofs.Stops.{left_asking}
 use Rattle.ua_program.proofs.ask.ask_heard.Goals as goal
 
 pub returns-in-Err-clause-stopped : goal.returns-in-Err-clause-stopped

@@ -1,4 +1,4 @@
-use Rattle.ua_program.proofs.Stops.{left_asking}
+use Rattle.ua_report.proofs.Stops.{left_asking}
 use Rattle.ua_program.proofs.ask.endpoints_recorded.Goals as goal
 
 pub returns-clause-stopped : goal.returns-clause-stopped

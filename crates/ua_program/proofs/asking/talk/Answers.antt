@@ -1,4 +1,4 @@
-use Rattle.ua_program.specs.Reasons.{StopsWriting}
+use Rattle.ua_report.specs.Reasons.{StopsWriting}
 use Rattle.ua_program.proofs.Talks.{none_stops}
 use Rattle.ua_program.proofs.asking.talk.Goals as goal
 

@@ -1,8 +1,8 @@
 use Rattle.std.proofs.Common.{◌≡◌, ◌⊎◌, inl, inr, refl, sym, ap, subst, ◌∙◌, arith}
 use Rattle.std.proofs.lemmas.Result.{err_from_is_err_and}
 use Rattle.ua_program.specs.Dissects.{HasBegunDissecting, StopsNext}
-use Rattle.ua_program.specs.Reasons.{StopsWriting}
-use Rattle.ua_program.specs.declared.output.Stop.{Stop}
+use Rattle.ua_report.specs.Reasons.{StopsWriting}
+use Rattle.ua_report.specs.declared.output.Stop.{Stop}
 use Rattle.ua_program.proofs.Readings.{as_last, as_piece, has_begun, read_first, reads_all, reads_on, stops_reading}
 use Rattle.ua_program.proofs.dissect.dissect_source.Goals as goal
 

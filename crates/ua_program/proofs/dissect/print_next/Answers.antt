@@ -1,7 +1,7 @@
 use Rattle.std.proofs.Common.{◌≡◌, ◌++◌, ◌⊎◌, ◌∙◌, [], ℕ, List, Option, Some, None, take, refl, sym, ap, subst, string_bytes, arith}
 use Rattle.std.proofs.lemmas.Result.{err_from_is_err_and}
 use Rattle.ua_program.specs.Dissects.{ReadsIntoFragment, StopsLast}
-use Rattle.ua_program.specs.declared.output.Stop.{Stop}
+use Rattle.ua_report.specs.declared.output.Stop.{Stop}
 use Rattle.ua_program.proofs.Readings.{at_end_none, last_stops, never_left, none_plain, nothing_read, prints_last, prints_refused, reason_left, stops_next}
 use Rattle.ua_program.proofs.dissect.print_next.Goals as goal
 

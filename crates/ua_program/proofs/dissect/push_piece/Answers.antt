@@ -1,7 +1,7 @@
 use Rattle.std.proofs.Common.{◌≡◌, ◌++◌, sym, ap, subst, List, ℕ, String, Global}
 use Rattle.std.specs.Prelude.{string_bytes}
 use Rattle.ua_pair.specs.Dissecting.{TellsMore}
-use Rattle.ua_program.specs.declared.hex_pieces.HexPieces.{HexPieces}
+use Rattle.ua_report.specs.declared.hex_pieces.HexPieces.{HexPieces}
 use Rattle.ua_program.proofs.Readings.{as_digits, digit_piece, plain_piece, tells_so}
 use Rattle.ua_program.proofs.dissect.push_piece.Goals.{then-asked+in_ok-octets+in_ok-take, else-asked+in_ok-take-2}
 use Rattle.ua_program.proofs.dissect.push_piece.Goals as goal

@@ -1,7 +1,0 @@
-use Rattle.std.proofs.Common.{rules, append_assoc}
-use Rattle.ua_program.specs.Served.{request_line}
-use Rattle.ua_program.proofs.serve.request_text.Goals as goal
-
-pub returns : goal.returns
-unfolding request_line
-returns c = search (rules, append_assoc)

@@ -1,0 +1,3 @@
+pub mod HexParts
+mod Places
+pub mod Stops

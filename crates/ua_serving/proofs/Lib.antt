@@ -1,0 +1,5 @@
+mod Ends
+mod Lives
+mod Serves
+mod Standards
+mod Storing
