@@ -1,7 +1,7 @@
 #!/usr/bin/env python3
 """Writes the man pages of `ua` and its completion for bash from the table of words that its help has: write_pages [--check].
 
-The table is COMMANDS of crates/ua_program/src/commands.rt. man/ua.1 lists the commands, man/ua-COMMAND.1 has the
+The table is COMMANDS of crates/ua_words/src/commands.rt. man/ua.1 lists the commands, man/ua-COMMAND.1 has the
 words of one, and completion/ua.bash completes commands, options and names of files. With --check nothing is written: the
 status is 1 where a file is not what the table gives, and each such file is named.
 """
@@ -14,7 +14,7 @@ from dataclasses import dataclass
 
 sys.dont_write_bytecode = True
 TOP = os.path.dirname(os.path.dirname(os.path.abspath(__file__)))
-TABLE = "crates/ua_program/src/commands.rt"
+TABLE = "crates/ua_words/src/commands.rt"
 FILES = ("FILE", "NODES", "SCRIPT", "UP", "DOWN")
 VALUES = {"policy": ["anonymous", "auto"], "connections": ["all"]}
 STATUS = [
