@@ -17,3 +17,5 @@ mod Honest
 mod Calling
 mod Replied
 mod SessionCalls
+mod AsAnswered
+mod SessionMade

@@ -45,7 +45,7 @@ use Rattle.ua_headline.proofs.Talking.{AsksEarlier, EndsConnect, RoundsReach, no
 
 -- ---- operations
 
-abbrev calls : List Request → List Outgoing
+abbrev pub calls : List Request → List Outgoing
 calls requests = map CallWith (bodies_of requests)
 
 calls_push : (xs ys : List Request) → calls (xs ++ ys) ≡ calls xs ++ calls ys
@@ -118,7 +118,7 @@ module _ (e : Ends) (turns : List (List Outgoing)) where
       subst (λ (u : ClientTold). IsReplyBy (kind_of_request m) (id_after before) u reply)
       (sym (same_next (reply_to_call e before (request.canonical m)) t [] p.0 all).0) by
 
-  own_replies : (requests : List Request) (replies : List Reply) (before after : List Outgoing) (id : ℕ) → id ≡ id_after before
+  pub own_replies : (requests : List Request) (replies : List Reply) (before after : List Outgoing) (id : ℕ) → id ≡ id_after before
       → operations_of turns ≡ before ++ (calls requests ++ after) → (told : List ClientTold) → IsPrefix told (heard_in e turns)
       → AreReplies requests id told replies → AreServersReplies e before requests replies
   own_replies [] [] before after id id_is parts told front h = tt

@@ -27,7 +27,7 @@ use Rattle.ua_headline.proofs.Calling.{all_done, did_behind, did_one, group_fail
 use Rattle.ua_headline.proofs.Replied.{id_behind, id_done, operations_behind}
 
 -- a request that was called by itself is answered
-replied_one : (limits : Limits) (c x : ClientChannel) (m : Request) (s t : ClientPlace) (sent taken : List ℕ) (reply : Reply) → SameClient x c
+pub replied_one : (limits : Limits) (c x : ClientChannel) (m : Request) (s t : ClientPlace) (sent taken : List ℕ) (reply : Reply) → SameClient x c
     → client_limits c ≡ limits → StandsAt x t → IsReplied x m s t sent taken reply → Did limits s (Calls (m ∷ []) ∷ []) t sent
 replied_one limits c x m s t sent taken reply same own at r =
     did_one limits s t (Calls (m ∷ [])) sent (omega arith, omega arith, r.answered.judged)

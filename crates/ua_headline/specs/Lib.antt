@@ -4,5 +4,6 @@ pub mod EachCall
 pub mod Answering
 pub mod Clients
 pub mod Calling
+pub mod AsAnswered
 pub mod Example
 pub mod Records

@@ -9,5 +9,6 @@ pub mod answering_laws;
 pub mod calling_laws;
 pub mod laws;
 mod records;
+pub mod reply_laws;
 
 pub use records::is_honest;
