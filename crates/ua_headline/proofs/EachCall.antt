@@ -89,7 +89,7 @@ its_own lane s times issued id (CallWith first ∷ before) after body k e =
 its_own lane s times issued id (RenewalAt time ∷ before) after body k e =
     its_own lane s (behind_first times) (issued + 1) (id + 1) before after body k (omega (arith, e))
 
-left_parts : (s : State) (times : List DateTime) (before more : List Outgoing)
+pub left_parts : (s : State) (times : List DateTime) (before more : List Outgoing)
     → left_by s times (before ++ more) ≡ left_by (left_by s times before).0 (left_by s times before).1 more
 left_parts s times [] more = refl
 left_parts s times (CallWith body ∷ before) more = left_parts (answered s (first_time times) body).0 (behind_first times) before more

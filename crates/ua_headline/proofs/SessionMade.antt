@@ -1,6 +1,6 @@
 -- That the session which a client begins over a connection is one that the services made and activated.
-use Rattle.std.proofs.Common.{◌≡◌, ℕ, ◌+◌, Bool, true, false, not, List, [], ◌∷◌, ◌++◌, Option, Some, None, Ok}
-use Rattle.std.proofs.Common.{length, map, refl, sym, ◌∙◌, ap, subst, arith, append_assoc, append-nil, length-append}
+use Rattle.std.proofs.Common.{◌≡◌, ℕ, ◌+◌, Bool, true, false, not, IsTrue, List, [], ◌∷◌, ◌++◌, Option, Some, None, Ok}
+use Rattle.std.proofs.Common.{map, refl, sym, ◌∙◌, ap, subst, arith, append_assoc, append-nil, length-append}
 use Rattle.ua_wire.proofs.Readers.{some_is}
 use Rattle.ua_builtin.specs.Reasons.{first_reason}
 use Rattle.ua_builtin.specs.Status.{of_code}
@@ -25,7 +25,7 @@ use Rattle.ua_services.specs.declared.request.RequestKind.TheVariants as kind
 use Rattle.ua_services.specs.declared.response.Response.{Response}
 use Rattle.ua_server.specs.Answer.{answer, session_header, unless}
 use Rattle.ua_server.specs.Sessions.{activate_reasons, activation_given, create_reasons, session_given, with_activated}
-use Rattle.ua_server.specs.Said.{first_time}
+use Rattle.ua_server.specs.Said.{behind_first, first_time}
 use Rattle.ua_server.specs.Sound.{IsSoundState}
 use Rattle.ua_server.specs.State.{State, activated, is_activated, is_own, session_token, with_next_session}
 use Rattle.ua_server.specs.Status.{bad_session_id_invalid}
@@ -38,8 +38,8 @@ use Rattle.ua_client.specs.declared.client.Client.{Client}
 use Rattle.ua_client.specs.declared.reply.Reply.{Reply}
 use Rattle.ua_client.specs.declared.reply.Reply.TheVariants.{Response as Responds}
 use Rattle.ua_headline.specs.AsAnswered.{HasActiveSession, IsCreatedWith, IsGoodActivation, IsSessionOfServices}
-use Rattle.ua_headline.specs.AsAnswered.{answered_after, lane_to_client, reply_over, reply_unless_cut}
-use Rattle.ua_headline.specs.Calling.{AreServersReplies, HasDoneAll, IsOneConnection, creating_after, with_creating}
+use Rattle.ua_headline.specs.AsAnswered.{answered_after, lane_to_client, reply_over, reply_unless_cut, services_with_session}
+use Rattle.ua_headline.specs.Calling.{AreServersReplies, HasDoneAll, IsOneConnection, activating_after, creating_after, with_creating}
 use Rattle.ua_headline.specs.Clients.{Deed, Did, turn_of}
 use Rattle.ua_headline.specs.Clients.Deed.{Calls}
 use Rattle.ua_headline.specs.EachCall.{id_after, operations_of, services_before}
@@ -47,6 +47,7 @@ use Rattle.ua_headline.specs.Talk.{Ends, heard_in}
 use Rattle.ua_headline.proofs.AsAnswered.{group_encodable, one_after}
 use Rattle.ua_headline.proofs.Calling.{all_done, did_behind, limits_then}
 use Rattle.ua_headline.proofs.Doing.{linked_told}
+use Rattle.ua_headline.proofs.EachCall.{answered_as, left_parts}
 use Rattle.ua_headline.proofs.Replied.{calls, id_behind, id_done, linked, operations_behind, own_replies}
 use Rattle.ua_headline.proofs.SessionCalls.{replied_one}
 use Rattle.ua_headline.proofs.Talking.{EndsConnect}
@@ -229,6 +230,31 @@ module _ (connect : EndsConnect) (e : Ends) (deeds : List Deed) (server : Server
         (is_good_activation (services_before e then).0 (first_time (services_before e then).1) activating
         (request_header_of w.token moment (id_at w.between)) refl refl (sym (ap reply_failure second_response) ∙ r.says.0))))
 
+    -- the state that both operations leave
+    abbrev done_first : List Outgoing
+    done_first = operations_of (map turn_of (with_creating e deeds moment))
+
+    abbrev activation : Request
+    activation = activate_session_as policy_id token moment (id_after done_first)
+
+    activating_is : activating ≡ activation
+    activating_is =
+        ap (λ (given : NodeId). activate_session_as policy_id given moment (id_at w.between)) w.further.0
+        ∙ ap (λ (id : ℕ). activate_session_as policy_id token moment id) (id_then ∙ ap id_after then_is)
+
+    activation_fits : IsTrue (request.encodable activation)
+    activation_fits =
+        subst (λ (q : Request). IsTrue (request.encodable q)) activating_is
+        (group_encodable w.between.before.ack (id_at w.between) (activating ∷ []) r.replied.answered.judged).0
+
+    left_is : services_with_session e deeds policy_id token moment ≡ (answered_after e done_first activation).0
+    left_is =
+        let now : State × List DateTime = services_before e done_first in
+        ap (λ (os : List Outgoing). (services_before e os).0)
+        (operations_behind (with_creating e deeds moment) (activating_after (with_creating e deeds moment) policy_id token moment ∷ []))
+        ∙ (ap (λ (p : State × List DateTime). p.0) (left_parts e.first (behind_first e.times) done_first (CallWith (request.canonical activation) ∷ []))
+        ∙ ap (λ (g : State × Response). g.0) (answered_as now.0 (first_time now.1) activation activation_fits))
+
     pub made : IsSessionOfServices e deeds policy_id moment token
     made = record {
       created =
@@ -236,5 +262,5 @@ module _ (connect : EndsConnect) (e : Ends) (deeds : List Deed) (server : Server
           (is_created (services_before e first).0 (first_time (services_before e first).1) creating token refl (sym (ap reply_failure first_response) ∙ w.good)
           (sym (ap token_in first_response) ∙ (w.brought ∙ ap (λ (given : NodeId). Some given) w.further.0)));
       activated = active.0;
-      active = active.1;
+      active = subst (HasActiveSession token) (sym left_is) active.1;
     }

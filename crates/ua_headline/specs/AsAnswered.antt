@@ -23,7 +23,7 @@ use Rattle.ua_server.specs.Said.{first_time}
 use Rattle.ua_server.specs.State.{State, is_activated, is_own}
 use Rattle.ua_client.specs.declared.reply.Reply.{Reply}
 use Rattle.ua_client.specs.declared.reply.Reply.TheVariants.{Response as Responds, Aborted}
-use Rattle.ua_headline.specs.Calling.{with_creating}
+use Rattle.ua_headline.specs.Calling.{activating_after, with_creating}
 use Rattle.ua_headline.specs.Clients.{Deed, turn_of}
 use Rattle.ua_headline.specs.EachCall.{id_after, operations_of, services_before}
 use Rattle.ua_headline.specs.Talk.{Ends}
@@ -97,11 +97,17 @@ IsGoodActivation other = ⊥
 abbrev pub HasActiveSession : NodeId → State → Type 0
 HasActiveSession token s = IsTrue (is_own token s.session) × IsTrue (is_activated s.session)
 
+-- the state of the services after both
+abbrev pub services_with_session : Ends → List Deed → Option (List ℕ) → NodeId → DateTime → State
+services_with_session e deeds policy_id token moment =
+    let created = with_creating e deeds moment in
+    (services_before e (operations_of (map turn_of (created ++ activating_after created policy_id token moment ∷ [])))).0
+
 -- the session of this token, which a client began after these operations, is one of the services
 pub record IsSessionOfServices (e : Ends) (deeds : List Deed) (policy_id : Option (List ℕ)) (moment : DateTime) (token : NodeId) : Type 0 where
   -- they created it with this token
   pub created : IsCreatedWith token (creation_after e deeds moment).1
   -- they activated it
   pub activated : IsGoodActivation (activation_after e deeds policy_id token moment).1
-  -- and so they have it
-  pub active : HasActiveSession token (activation_after e deeds policy_id token moment).0
+  -- and they have it when both operations are done
+  pub active : HasActiveSession token (services_with_session e deeds policy_id token moment)
