@@ -3,51 +3,29 @@
 use crate::asked::asked;
 use crate::fault::Fault;
 use crate::lines::{gathering, moment, stream};
-use crate::names::{client_fault, end, loop_fault, memory_refused, named_end, outcome};
+use crate::names::{client_fault, loop_fault, memory_refused, outcome};
 use crate::serve::serve;
-use crate::writers::{err_row, no_words_row, out_told_row};
-use std::alloc::AllocError;
-use std::net::Net;
-use std::rt::Files;
-use std::time::Clock;
+use std::alloc::{AllocError, Global};
 
 /// What is printed of a line: the line with its response after it, or alone where it is no
 /// question.
-pub fn answered<R: Files + Net + Clock + AllocGlobal>(
-    rt: &R,
-    line: &str,
-) -> Result<String, AllocError> {
+pub fn answered(alloc: Global, line: &str) -> Result<String, AllocError> {
     if line.is_empty() || line.starts_with('#') {
-        return String::from_str(rt.alloc(), line);
+        return String::from_str(alloc, line);
     }
     let (kind, words) = line.split_once(' ').unwrap_or((line, ""));
-    match answer(rt, kind, words) {
-        Ok(text) => format!(in rt.alloc(); "{line} = {text}"),
+    match answer(alloc, kind, words) {
+        Ok(text) => format!(in alloc; "{line} = {text}"),
         Err(fault) => {
             let text = fault.text();
-            format!(in rt.alloc(); "{line} = {text}")
+            format!(in alloc; "{line} = {text}")
         }
     }
 }
 
-fn answer<R: Files + Net + Clock + AllocGlobal>(
-    rt: &R,
-    kind: &str,
-    words: &str,
-) -> Result<String, Fault> {
+fn answer(alloc: Global, kind: &str, words: &str) -> Result<String, Fault> {
     match kind {
-        "asked" => asked(rt, words),
-        "out-told" => out_told_row(rt, words),
-        "err" => err_row(rt, words),
-        _ => text_answer(rt, kind, words),
-    }
-}
-
-/// The answer to a row of texts and numbers.
-fn text_answer<R: AllocGlobal>(rt: &R, kind: &str, words: &str) -> Result<String, Fault> {
-    let alloc = rt.alloc();
-    match kind {
-        "no-words" => no_words_row(rt, words),
+        "asked" => asked(alloc, words),
         "serve" => serve(alloc, words),
         "no-memory" => memory_refused(alloc, words),
         "stream" => stream(alloc, words),
@@ -55,8 +33,6 @@ fn text_answer<R: AllocGlobal>(rt: &R, kind: &str, words: &str) -> Result<String
         "moment" => moment(alloc, words),
         "client-fault" => client_fault(alloc, words),
         "loop-fault" => loop_fault(alloc, words),
-        "end" => end(alloc, words),
-        "named-end" => named_end(alloc, words),
         "outcome" => outcome(alloc, words),
         _ => Err(Fault::NoRow),
     }

@@ -12,14 +12,13 @@ mod lines;
 mod names;
 mod serve;
 mod texts;
-mod writers;
 
 use std::io;
 use std::io::{BufRead, BufReader};
 
 fn main(rt: HostRuntime) -> io::Result<()> {
     for line in BufReader::new(rt.alloc(), rt.reader())?.lines(rt.alloc()) {
-        let text = answers::answered(&rt, line?.as_str())?;
+        let text = answers::answered(rt.alloc(), line?.as_str())?;
         println!(rt; "{text}")?;
     }
     Ok(())

@@ -5,8 +5,9 @@ use crate::texts::{first_word, marked, number_of};
 use std::alloc::Global;
 use ua_builtin::StatusCode;
 use ua_client::ClientFault;
-use ua_program::{Fault, LoopFault, push_end, push_outcome, say_no_memory};
+use ua_report::{Fault, LoopFault};
 use ua_server::{End, ServeFault};
+use ua_serving::{push_outcome, say_no_memory};
 use ua_session::QuestionFault;
 
 /// The code after a name.
@@ -67,20 +68,6 @@ fn end_of(words: &str) -> Result<End, RowFault> {
         "Refused" => Ok(End::Refused(code_of(code)?)),
         _ => Err(RowFault::NoRow),
     }
-}
-
-/// `end NAME [CODE]`: how `ua loop` prints the end of a connection.
-pub fn end(alloc: Global, words: &str) -> Result<String, RowFault> {
-    let mut out = String::new(alloc);
-    push_end(&mut out, end_of(words)?, false)?;
-    Ok(out)
-}
-
-/// `named-end NAME [CODE]`: the same with the names of StatusCodes.
-pub fn named_end(alloc: Global, words: &str) -> Result<String, RowFault> {
-    let mut out = String::new(alloc);
-    push_end(&mut out, end_of(words)?, true)?;
-    Ok(out)
 }
 
 /// `outcome NAME [CODE]`: how `ua serve` prints what became of a connection.

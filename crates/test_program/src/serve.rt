@@ -4,8 +4,8 @@ use crate::fault::{Fault, or_no_row};
 use crate::texts::{first_word, marked, number_of};
 use std::alloc::{AllocError, Global};
 use ua_channel::{Line, ListMoments, MemoryLine};
-use ua_program::{serve_line, services};
 use ua_server::Services;
+use ua_serving::{serve_line, services};
 
 /// 1970-01-01, at which all is said.
 const MOMENT: i64 = 116_444_736_000_000_000;
