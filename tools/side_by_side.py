@@ -1,0 +1,35 @@
+#!/usr/bin/env python3
+"""Prints how many checks `rt ci` may run side by side here, as its RT_JOBS: one a processor, as far as memory is free.
+
+Left alone, `rt ci` counts on two to three times the memory that a check takes, so that the largest crates wait for each
+other beside idle processors. In a whole run none took more than 5.4 GB (docs/ARCHITECTURE.md), and each is given 5.5.
+Nothing is printed where that makes fewer than two.
+"""
+from __future__ import annotations
+
+import sys
+
+sys.dont_write_bytecode = True
+from kept_libraries import toolchain
+
+GIVEN = 5_500_000_000
+
+
+def lanes(processors: int, free: float) -> int:
+    """How many checks there may be with so many processors, and so many bytes free.
+
+    >>> lanes(4, 25e9), lanes(4, 12e9), lanes(2, 64e9), lanes(8, 4e9)
+    (4, 2, 2, 0)
+    """
+    return min(processors, int(free // GIVEN))
+
+
+def main() -> None:
+    rt = toolchain()
+    count = lanes(rt.processors(), rt.free())
+    if count > 1:
+        print(count)
+
+
+if __name__ == "__main__":
+    main()
