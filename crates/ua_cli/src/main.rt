@@ -1,5 +1,5 @@
 //! The program `ua`: OPC UA Binary on the command line. `main` gives its words and streams to
-//! [`ua_program::run`], which the test vectors of `test_program` call with writers over memory.
+//! [`ua_program::run`]; `rows/program.rows` has what it then prints, asks and answers.
 #![tactic(auto)]
 
 use std::process::ExitCode;
