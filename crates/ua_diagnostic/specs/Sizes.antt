@@ -7,13 +7,13 @@ use Rattle.ua_diagnostic.specs.View.{diagnostic_fields_of, diagnostic_of, made_d
 use Rattle.ua_diagnostic.specs.declared.diagnostic_info.DiagnosticInfo.{DiagnosticInfo}
 use Rattle.ua_diagnostic.specs.declared.diagnostic_info.BoxedDiagnostic.TheDeep.{deep-DiagnosticInfo, deep-BoxedDiagnostic}
 
-diagnostic_at : (i : Option DiagnosticData) (f : DiagnosticFields) → max (deep-DiagnosticInfo (made_diagnostic i f)) 0
+made_falls : (i : Option DiagnosticData) (f : DiagnosticFields) → max (deep-DiagnosticInfo (made_diagnostic i f)) 0
     ≤ diagnostic_depth (diagnostic_within i f)
-diagnostic_at None f = zero-le
-diagnostic_at (Some d) f = max-le (max-le (max-le (le_of_eq (add_comm (diagnostic_depth d) 1)) zero-le) zero-le) zero-le
+made_falls None f = zero-le
+made_falls (Some d) f = max-le (max-le (max-le (le_of_eq (add_comm (diagnostic_depth d) 1)) zero-le) zero-le) zero-le
 
 pub diagnostic_falls : (d : DiagnosticInfo) → max (deep-DiagnosticInfo d) 0 ≤ diagnostic_depth (diagnostic_of d)
-diagnostic_falls d = diagnostic_at d.inner (diagnostic_fields_of d)
+diagnostic_falls d = made_falls d.inner (diagnostic_fields_of d)
 
 pub boxed_diagnostic_falls : (o : Option (Box DiagnosticInfo Global))
     → deep-BoxedDiagnostic (record { inner = o }) ≤ diagnostic_depth (or_innermost (option_map (λ b. diagnostic_of b.value) o))
