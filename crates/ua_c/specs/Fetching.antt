@@ -1,10 +1,8 @@
 -- What any handle tells: how many bytes it holds, and those that wait.
 use Rattle.std.specs.Prelude.{◌≡◌, ◌⊎◌, ◌≤◌, ℕ, List, Option, Some, None}
-use Rattle.ua_channel.specs.Asks.{Placed}
-use Rattle.ua_channel.specs.Client.{ClientStands, IsClientDone, client_bound, client_bound_behind, held_octets, client_limits}
+use Rattle.ua_channel.specs.Client.{IsClientDone, WhateverPassed, client_bound, client_bound_behind, held_octets, client_limits}
 use Rattle.ua_channel.specs.Received.{received}
-use Rattle.ua_channel.specs.ServerStands.{ChannelStands, IsDone, bound_of, bound_after, held_after, limits_of}
-use Rattle.ua_frame.specs.declared.frame.Frame.{Frame}
+use Rattle.ua_channel.specs.ServerStands.{IsDone, WhateverCame, bound_of, bound_after, held_after, limits_of}
 use Rattle.ua_server.specs.Served.{channel_at, channel_in}
 use Rattle.ua_c.specs.Status.{ok, no_memory, no_handle}
 use Rattle.ua_c.specs.Waiting.{FillsBuffer}
@@ -16,38 +14,30 @@ use Rattle.ua_c.specs.declared.holding.Machine.TheVariants as machine
 -- hold no bytes
 abbrev pub HoldsCount : Machine → ℕ → Type 0
 HoldsCount (machine.Server station) count =
-    ((octets : List ℕ) (frames : List Frame) (rest : List ℕ) → ChannelStands (channel_in station.server) octets frames rest
-    → count ≡ held_after (received frames) rest)
-    × ((octets : List ℕ) (frames : List Frame) (rest : List ℕ) → ChannelStands (channel_in station.server) octets frames rest
-    → count ≤ bound_after (limits_of (channel_in station.server)) (received frames))
+    WhateverCame (channel_in station.server) (λ octets frames rest. count ≡ held_after (received frames) rest)
+    × WhateverCame (channel_in station.server) (λ octets frames rest. count ≤ bound_after (limits_of (channel_in station.server)) (received frames))
     × (IsDone (channel_in station.server) → count ≡ 0)
 HoldsCount (machine.Client client) count =
-    ((asks : List Placed) (octets : List ℕ) (frames : List Frame) (rest : List ℕ) → ClientStands client asks octets frames rest
-    → count ≡ held_octets frames rest)
-    × ((asks : List Placed) (octets : List ℕ) (frames : List Frame) (rest : List ℕ) → ClientStands client asks octets frames rest → count ≤ client_bound client)
+    WhateverPassed client (λ asks octets frames rest. count ≡ held_octets frames rest)
+    × WhateverPassed client (λ asks octets frames rest. count ≤ client_bound client)
     × (IsClientDone client → count ≡ 0)
 HoldsCount (machine.Nodes shared) count = count ≡ 0
 HoldsCount (machine.Connection served) count =
-    ((octets : List ℕ) (frames : List Frame) (rest : List ℕ) → ChannelStands (channel_at served.connection) octets frames rest
-    → count ≡ held_after (received frames) rest)
-    × ((octets : List ℕ) (frames : List Frame) (rest : List ℕ) → ChannelStands (channel_at served.connection) octets frames rest
-    → count ≤ bound_after (limits_of (channel_at served.connection)) (received frames))
+    WhateverCame (channel_at served.connection) (λ octets frames rest. count ≡ held_after (received frames) rest)
+    × WhateverCame (channel_at served.connection) (λ octets frames rest. count ≤ bound_after (limits_of (channel_at served.connection)) (received frames))
     × (IsDone (channel_at served.connection) → count ≡ 0)
 
 -- what `Server::bound`, `ClientChannel::bound` and `Connection::bound` ensure of this count
 abbrev pub Bounds : Machine → ℕ → Type 0
 Bounds (machine.Server station) count =
-    ((octets : List ℕ) (frames : List Frame) (rest : List ℕ) → ChannelStands (channel_in station.server) octets frames rest
-    → count ≡ bound_after (limits_of (channel_in station.server)) (received frames))
+    WhateverCame (channel_in station.server) (λ octets frames rest. count ≡ bound_after (limits_of (channel_in station.server)) (received frames))
     × (count ≡ bound_of (channel_in station.server))
 Bounds (machine.Client client) count =
-    ((asks : List Placed) (octets : List ℕ) (frames : List Frame) (rest : List ℕ) → ClientStands client asks octets frames rest
-    → count ≡ client_bound_behind (client_limits client) (received frames).ack)
+    WhateverPassed client (λ asks octets frames rest. count ≡ client_bound_behind (client_limits client) (received frames).ack)
     × (count ≡ client_bound client)
 Bounds (machine.Nodes shared) count = count ≡ 0
 Bounds (machine.Connection served) count =
-    ((octets : List ℕ) (frames : List Frame) (rest : List ℕ) → ChannelStands (channel_at served.connection) octets frames rest
-    → count ≡ bound_after (limits_of (channel_at served.connection)) (received frames))
+    WhateverCame (channel_at served.connection) (λ octets frames rest. count ≡ bound_after (limits_of (channel_at served.connection)) (received frames))
     × (count ≡ bound_of (channel_at served.connection))
 
 -- a count of what is held, which is 0 if nothing is

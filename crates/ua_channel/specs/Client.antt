@@ -9,7 +9,7 @@ use Rattle.ua_frame.specs.declared.limits.Limits.{Limits}
 use Rattle.ua_frame.specs.Run.{Rules}
 use Rattle.ua_chunk.specs.Open.{open_octets}
 use Rattle.ua_channel.specs.Asks.{Asking, Placed, asked_in}
-use Rattle.ua_channel.specs.ClientAsks.{Talks, ask_reasons, renew_reasons, Calls, JudgesBy, AsksRenewal, closing_octets}
+use Rattle.ua_channel.specs.ClientAsks.{Talks, ask_reasons, renew_reasons, Calls, IsCalled, JudgesBy, AsksRenewal, closing_octets}
 use Rattle.ua_channel.specs.ClientTable.{client_rules}
 use Rattle.ua_channel.specs.ClientTold.{ClientTold, Why, peers}
 use Rattle.ua_channel.specs.Ends.{Side, EndDone, EndGoes, EndStands, EndStarves, EndStops, EndTells}
@@ -101,6 +101,11 @@ client_rules_of x asks = client_rules (client_limits x) asks
 abbrev pub ClientStands : ClientChannel → List Placed → List ℕ → List Frame → List ℕ → Type 0
 ClientStands x asks octets frames rest = EndStands client_side x.end asks octets frames rest
 
+-- a call with this body and RequestId between two states of a channel, after these operations and
+-- frames
+abbrev pub IsCalledBetween : ClientChannel → ClientChannel → List Placed → List Frame → List ℕ → ℕ → List ℕ → Type 0
+IsCalledBetween old new asks frames body id octets = IsCalled (received frames) (asked_in asks) (client_next old) body id octets (client_next new)
+
 -- a channel that failed or was closed, and holds nothing
 abbrev pub IsClientDone : ClientChannel → Type 0
 IsClientDone x = EndDone client_side x.end
@@ -108,6 +113,17 @@ IsClientDone x = EndDone client_side x.end
 -- the channel goes on after these operations and bytes, whose frames told this
 abbrev pub ClientGoes : ClientChannel → List Placed → List ℕ → List ClientTold → Type 0
 ClientGoes x asks octets told = EndGoes client_side x.end asks octets told
+
+-- a fact of whatever operations and bytes led a channel to its state: of these, of the frames of
+-- the bytes, and of the rest, of an incomplete frame
+abbrev pub WhateverPassed : ClientChannel → (List Placed → List ℕ → List Frame → List ℕ → Type 0) → Type 0
+WhateverPassed x Fact =
+    (asks : List Placed) (octets : List ℕ) (frames : List Frame) (rest : List ℕ) → ClientStands x asks octets frames rest → Fact asks octets frames rest
+
+-- a fact of whatever operations and bytes a channel goes on after: of these, and of what the frames
+-- told
+abbrev pub WhateverWasHeard : ClientChannel → (List Placed → List ℕ → List ClientTold → Type 0) → Type 0
+WhateverWasHeard x Fact = (asks : List Placed) (octets : List ℕ) (told : List ClientTold) → ClientGoes x asks octets told → Fact asks octets told
 
 -- the last of the frames of these bytes is the one that tells this, after what the others told, and
 -- nothing follows it

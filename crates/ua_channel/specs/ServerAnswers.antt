@@ -1,9 +1,12 @@
 -- The outcome of a server's channel for bytes.
-use Rattle.std.specs.Prelude.{◌≡◌, ℕ, ◌<◌, ◌≤◌, length, take, List, [], ◌∷◌, ◌++◌, Some, Result, Ok, Err}
+use Rattle.std.specs.Prelude.{◌≡◌, ℕ, ◌<◌, ◌≤◌, length, take, is_some, List, [], ◌∷◌, ◌++◌, Some, Result, Ok, Err}
 use Rattle.std.specs.List.{concat}
 use Rattle.ua_builtin.specs.declared.date_time.DateTime.{DateTime}
 use Rattle.ua_frame.specs.Frames.{frame_octets}
 use Rattle.ua_frame.specs.Messages.{err_frame}
+use Rattle.ua_chunk.specs.Cutting.{cut_refusal}
+use Rattle.ua_chunk.specs.declared.lane.Lane.{Lane}
+use Rattle.ua_channel.specs.declared.sent_reply.SentReply.{SentReply}
 use Rattle.ua_channel.specs.declared.server.ServerChannel.{ServerChannel}
 use Rattle.ua_channel.specs.declared.server_event.ServerEvent.{ServerEvent}
 use Rattle.ua_channel.specs.declared.server_event.ServerEvent.TheVariants.{NeedMore, Send, Asked, Aborted}
@@ -11,8 +14,9 @@ use Rattle.ua_channel.specs.declared.server_event.ServerEvent.TheVariants as eve
 use Rattle.ua_channel.specs.declared.server_fault.ChannelFault.{ChannelFault}
 use Rattle.ua_channel.specs.declared.server_fault.ChannelFault.TheVariants.{Refused, Closed, OutOfMemory}
 use Rattle.ua_channel.specs.Ends.{HandsOutParts}
-use Rattle.ua_channel.specs.ServerSends.{AreSent, counted_by}
-use Rattle.ua_channel.specs.ServerStands.{next_of, server_side, Goes, GoesTelling, ClosedAt, RefusedAt, StarvedAt}
+use Rattle.ua_channel.specs.Received.{Received}
+use Rattle.ua_channel.specs.ServerSends.{AreSent, IsReply, RepliesGo, counted_by}
+use Rattle.ua_channel.specs.ServerStands.{limits_of, channel_of, next_of, server_side, Goes, GoesTelling, ClosedAt, RefusedAt, StarvedAt}
 use Rattle.ua_channel.specs.ServerTold.{Told}
 use Rattle.ua_channel.specs.ServerTold.{Told as told}
 
@@ -68,3 +72,19 @@ ServerAnswers channel number moment piece (Err fault) new octets before = (n : �
 abbrev pub Progress : {A E : Type 0} → List ℕ → ℕ → Result A E → Type 0
 Progress piece n (Ok e) = (n ≤ length piece) × (0 < length piece → 0 < n)
 Progress piece n (Err fault) = n ≤ length piece
+
+-- ---- replies
+
+-- the lane of replies of a server, after what it received
+abbrev pub RepliesOn : ServerChannel → Received → Lane → Type 0
+RepliesOn x before lane = RepliesGo (limits_of x) (channel_of x) before lane
+
+-- these bytes are sent for a body where replies go after these frames, and the next number is the
+-- one behind them: the chunks of the body, or an abort in their place
+abbrev pub ReplyGoes : ServerChannel → ServerChannel → Received → List ℕ → ℕ → List ℕ → Type 0
+ReplyGoes old new before body id octets = (lane : Lane) × RepliesOn old before lane × IsReply lane body (next_of old) id octets (next_of new)
+
+-- the same of a reply that tells whether it is an abort: it is one where the body is refused
+abbrev pub SendsReply : ServerChannel → ServerChannel → Received → List ℕ → ℕ → SentReply → Type 0
+SendsReply old new before body id sent = (lane : Lane) × RepliesOn old before lane
+    × IsReply lane body (next_of old) id sent.octets.items (next_of new) × (sent.is_abort ≡ is_some (cut_refusal lane body))

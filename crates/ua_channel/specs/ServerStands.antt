@@ -132,6 +132,15 @@ IsDone x = EndDone server_side x.end
 abbrev pub Goes : ServerChannel → List ℕ → List Told → Type 0
 Goes x octets told = EndGoes server_side x.end tt octets told
 
+-- a fact of whatever bytes led a channel to its state: of the bytes, of their frames, and of the
+-- rest, of an incomplete frame
+abbrev pub WhateverCame : ServerChannel → (List ℕ → List Frame → List ℕ → Type 0) → Type 0
+WhateverCame x Fact = (octets : List ℕ) (frames : List Frame) (rest : List ℕ) → ChannelStands x octets frames rest → Fact octets frames rest
+
+-- a fact of whatever bytes a channel goes on after: of the bytes, and of what their frames told
+abbrev pub WhateverWasTold : ServerChannel → (List ℕ → List Told → Type 0) → Type 0
+WhateverWasTold x Fact = (octets : List ℕ) (told : List Told) → Goes x octets told → Fact octets told
+
 -- the channel goes on after these bytes, of which the last byte is that of a frame that tells this,
 -- after what the frames before it told
 abbrev pub GoesTelling : ServerChannel → List ℕ → List Told → Told → Type 0

@@ -46,19 +46,19 @@ pub struct ServerChannel {
 impl ServerChannel {
     ghost use Rattle.std.specs.Prelude.{◌≡◌, ◌<◌, ◌≤◌, ◌+◌, ◌^◌, ◌↔◌, [], ℕ, List, length};
     ghost use Rattle.std.specs.Prelude.{take, None, Some, Ok, Err, IfOk, IfSome, MatchOption};
-    ghost use Rattle.std.specs.Prelude.{MatchResult, OnOk, OnErr, IsErrOf, IsTrue, is_some};
-    ghost use Rattle.ua_frame.specs.declared.frame.Frame.{Frame};
-    ghost use Rattle.ua_chunk.specs.Cutting.{cut_refusal, most_octets};
+    ghost use Rattle.std.specs.Prelude.{MatchResult, OnOk, OnErr, IsErrOf, IsTrue};
+    ghost use Rattle.ua_chunk.specs.Cutting.{most_octets};
     ghost use Rattle.ua_chunk.specs.declared.lane.Lane.{Lane};
     ghost use Rattle.ua_chunk.specs.Open.{open_ids};
     ghost use Rattle.ua_channel.specs.Received.{received};
     ghost use Rattle.ua_channel.specs.ServerAnswers.{Progress, AnswersAt, ServerAnswers};
+    ghost use Rattle.ua_channel.specs.ServerAnswers.{SendsReply, ReplyGoes, RepliesOn};
     ghost use Rattle.ua_channel.specs.inside.ServerSteps.{AnswersTo, StandsWith};
     ghost use Rattle.ua_channel.specs.ServerStands.{limits_of, channel_of, next_of, bound_of};
     ghost use Rattle.ua_channel.specs.ServerStands.{HasNoToken, IsWithoutToken, ChannelStands, Goes};
-    ghost use Rattle.ua_channel.specs.ServerStands.{IsDone, bound_after, held_after};
+    ghost use Rattle.ua_channel.specs.ServerStands.{IsDone, bound_after, held_after, WhateverCame};
+    ghost use Rattle.ua_channel.specs.ServerStands.{WhateverWasTold};
     ghost use Rattle.ua_channel.specs.inside.ServerFrames.{LaneIs};
-    ghost use Rattle.ua_channel.specs.ServerSends.{IsReply, RepliesGo};
     ghost use Rattle.ua_channel.specs.ServerTold.{Told};
     ghost use Rattle.ua_channel.specs.declared.server.Phase.TheVariants as phase;
     ghost use Rattle.ua_channel.specs.declared.server_fault.ChannelFault.TheVariants as fault;
@@ -161,9 +161,8 @@ impl ServerChannel {
     /// Takes bytes up to the end of the first frame that has an event, or else the whole fragment.
     /// `moment` is the timestamp of an OPN response.
     fn go_on(&mut self, piece: &[u8], moment: DateTime) -> Taken<Result<ServerEvent, ChannelFault>>
-        ensures answers { (octets : List ℕ) (told : List Told) → Goes self.old octets told
-            → AnswersAt (channel_of self.old) (next_of self.old) moment piece.now result.size result.outcome self.new
-            octets told }
+        ensures answers { WhateverWasTold self.old
+            (AnswersAt (channel_of self.old) (next_of self.old) moment piece.now result.size result.outcome self.new) }
         ensures progress { Progress piece.now result.size result.outcome }
         ensures limits { limits_of self.new ≡ limits_of self.old }
         ensures channel { channel_of self.new ≡ channel_of self.old }
@@ -192,9 +191,8 @@ impl ServerChannel {
         piece: &[u8],
         moment: DateTime,
     ) -> Taken<Result<ServerEvent, ChannelFault>>
-        ensures answers { (octets : List ℕ) (told : List Told) → Goes self.old octets told
-            → AnswersAt (channel_of self.old) (next_of self.old) moment piece.now result.size result.outcome self.new
-            octets told }
+        ensures answers { WhateverWasTold self.old
+            (AnswersAt (channel_of self.old) (next_of self.old) moment piece.now result.size result.outcome self.new) }
         ensures progress { Progress piece.now result.size result.outcome }
         ensures closed { IsDone self.old → (result.size ≡ 0) × (result.outcome ≡ Err fault.Closed)
             × (self.new ≡ self.old) }
@@ -237,8 +235,8 @@ impl ServerChannel {
         piece: &[u8],
         moment: DateTime,
     ) -> Result<(usize, ServerEvent), ChannelFault>
-        ensures answers { (octets : List ℕ) (told : List Told) → Goes self.old octets told
-            → ServerAnswers (channel_of self.old) (next_of self.old) moment piece.now result self.new octets told }
+        ensures answers { WhateverWasTold self.old
+            (ServerAnswers (channel_of self.old) (next_of self.old) moment piece.now result self.new) }
         ensures closed { IsDone self.old → (result ≡ Err fault.Closed) × (self.new ≡ self.old) }
         // After `OutOfMemory` the bound is what it was before the call.
         ensures starved { IsErrOf result fault.OutOfMemory → bound_of self.new ≡ bound_of self.old }
@@ -268,10 +266,8 @@ impl ServerChannel {
     /// The maximum size, in bytes, of a body that can be sent as a reply; `None` where the client
     /// sets no such limit, and where no channel is open. A larger body becomes an abort.
     pub fn most_octets(&self) -> Option<usize>
-        ensures most { (octets : List ℕ) (frames : List Frame) (rest : List ℕ)
-            → ChannelStands self.now octets frames rest → (IsWithoutToken self.now → ⊥)
-            → (lane : Lane) → RepliesGo (limits_of self.now) (channel_of self.now) (received frames) lane
-            → (0 < lane.room) × (result ≡ most_octets lane) }
+        ensures most { WhateverCame self.now (λ octets frames rest. ¬ IsWithoutToken self.now → (lane : Lane)
+            → RepliesOn self.now (received frames) lane → (0 < lane.room) × (result ≡ most_octets lane)) }
         ensures not_open { IsWithoutToken self.now → result ≡ None }
     {
         match self.lane() {
@@ -285,21 +281,15 @@ impl ServerChannel {
     /// an allocation fails, the channel fails.
     pub fn respond(&mut self, id: u32, body: &[u8]) -> Result<SentReply, ReplyFault>
         requires { 0 < length body.now }
-        ensures stands { (octets : List ℕ) (frames : List Frame) (rest : List ℕ)
-            → ChannelStands self.old octets frames rest
-            → OnOk result (ChannelStands self.new octets frames rest) }
-        ensures sent { (octets : List ℕ) (frames : List Frame) (rest : List ℕ)
-            → ChannelStands self.old octets frames rest
-            → IfOk result (λ sent. (lane : Lane) × RepliesGo (limits_of self.old) (channel_of self.old)
-            (received frames) lane
-            × IsReply lane body.now (next_of self.old) id sent.octets.items (next_of self.new)
-            × (sent.is_abort ≡ is_some (cut_refusal lane body.now))) }
+        ensures stands { WhateverCame self.old (λ octets frames rest.
+            OnOk result (ChannelStands self.new octets frames rest)) }
+        ensures sent { WhateverCame self.old (λ octets frames rest.
+            IfOk result (SendsReply self.old self.new (received frames) body.now id)) }
         // No channel is open before the first OPN or after the channel ended, and in no other case.
         ensures not_open { IsErrOf result NotOpen ↔ IsWithoutToken self.old }
         ensures unchanged { IsErrOf result NotOpen → self.new ≡ self.old }
-        ensures before { (octets : List ℕ) (frames : List Frame) (rest : List ℕ)
-            → ChannelStands self.old octets frames rest
-            → IsErrOf result NotOpen ↔ ((received frames).openings ≡ []) }
+        ensures before { WhateverCame self.old (λ octets frames rest.
+            IsErrOf result NotOpen ↔ ((received frames).openings ≡ [])) }
         ensures failed { IsErrOf result OutOfMemory → IsDone self.new }
         ensures bound { bound_of self.new ≡ bound_of self.old }
         ensures limits { limits_of self.new ≡ limits_of self.old }
@@ -321,20 +311,15 @@ impl ServerChannel {
     /// place.
     pub fn reply(&mut self, id: u32, body: &[u8]) -> Result<Vec<u8>, ReplyFault>
         requires { 0 < length body.now }
-        ensures stands { (octets : List ℕ) (frames : List Frame) (rest : List ℕ)
-            → ChannelStands self.old octets frames rest
-            → OnOk result (ChannelStands self.new octets frames rest) }
-        ensures sent { (octets : List ℕ) (frames : List Frame) (rest : List ℕ)
-            → ChannelStands self.old octets frames rest
-            → IfOk result (λ out. (lane : Lane) × RepliesGo (limits_of self.old) (channel_of self.old)
-            (received frames) lane
-            × IsReply lane body.now (next_of self.old) id out.items (next_of self.new)) }
+        ensures stands { WhateverCame self.old (λ octets frames rest.
+            OnOk result (ChannelStands self.new octets frames rest)) }
+        ensures sent { WhateverCame self.old (λ octets frames rest.
+            IfOk result (λ out. ReplyGoes self.old self.new (received frames) body.now id out.items)) }
         // No channel is open before the first OPN or after the channel ended, and in no other case.
         ensures not_open { IsErrOf result NotOpen ↔ IsWithoutToken self.old }
         ensures unchanged { IsErrOf result NotOpen → self.new ≡ self.old }
-        ensures before { (octets : List ℕ) (frames : List Frame) (rest : List ℕ)
-            → ChannelStands self.old octets frames rest
-            → IsErrOf result NotOpen ↔ ((received frames).openings ≡ []) }
+        ensures before { WhateverCame self.old (λ octets frames rest.
+            IsErrOf result NotOpen ↔ ((received frames).openings ≡ [])) }
         ensures failed { IsErrOf result OutOfMemory → IsDone self.new }
         ensures bound { bound_of self.new ≡ bound_of self.old }
         ensures limits { limits_of self.new ≡ limits_of self.old }
@@ -359,12 +344,9 @@ impl ServerChannel {
     /// The number of bytes held: those of an incomplete frame, and those of unfinished messages. It
     /// is never more than [`bound`](ServerChannel::bound).
     pub fn held(&self) -> usize
-        ensures held { (octets : List ℕ) (frames : List Frame) (rest : List ℕ)
-            → ChannelStands self.now octets frames rest
-            → result ≡ held_after (received frames) rest }
-        ensures bound { (octets : List ℕ) (frames : List Frame) (rest : List ℕ)
-            → ChannelStands self.now octets frames rest
-            → result ≤ bound_after (limits_of self.now) (received frames) }
+        ensures held { WhateverCame self.now (λ octets frames rest. result ≡ held_after (received frames) rest) }
+        ensures bound { WhateverCame self.now (λ octets frames rest.
+            result ≤ bound_after (limits_of self.now) (received frames)) }
         ensures done { IsDone self.now → result ≡ 0 }
     {
         self.end.held()
@@ -373,9 +355,8 @@ impl ServerChannel {
     /// The maximum number of bytes that may be held: 8192 before the ACK; after it those of a frame
     /// of the agreed size and of 4 messages of the maximum size.
     pub fn bound(&self) -> usize
-        ensures stands { (octets : List ℕ) (frames : List Frame) (rest : List ℕ)
-            → ChannelStands self.now octets frames rest
-            → result ≡ bound_after (limits_of self.now) (received frames) }
+        ensures stands { WhateverCame self.now (λ octets frames rest.
+            result ≡ bound_after (limits_of self.now) (received frames)) }
         ensures is { result ≡ bound_of self.now }
     {
         self.end.bound
@@ -383,9 +364,8 @@ impl ServerChannel {
 
     /// The number of unfinished messages.
     pub fn open_count(&self) -> usize
-        ensures count { (octets : List ℕ) (frames : List Frame) (rest : List ℕ)
-            → ChannelStands self.now octets frames rest
-            → result ≡ length (open_ids (received frames).messages) }
+        ensures count { WhateverCame self.now (λ octets frames rest.
+            result ≡ length (open_ids (received frames).messages)) }
         ensures done { IsDone self.now → result ≡ 0 }
     {
         match &self.end.phase {

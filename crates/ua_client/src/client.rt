@@ -32,13 +32,11 @@ pub struct Client {
 }
 
 impl Client {
-    ghost use Rattle.std.specs.Prelude.{◌≡◌, ◌⊎◌, ◌+◌, ◌<◌, ◌≤◌, ◌∷◌, [], ℕ, List};
+    ghost use Rattle.std.specs.Prelude.{◌≡◌, ◌⊎◌, ◌+◌, ◌<◌, ◌≤◌, ◌∷◌, []};
     ghost use Rattle.std.specs.Prelude.{length, None, IsTrue, IfOk, IfErr, OnOk, Err};
     ghost use Rattle.ua_wire.specs.Counted.{text};
-    ghost use Rattle.ua_channel.specs.Asks.{Placed};
-    ghost use Rattle.ua_channel.specs.Client.{ClientStands, IsClientDone, client_bound};
+    ghost use Rattle.ua_channel.specs.Client.{IsClientDone, client_bound, WhateverPassed};
     ghost use Rattle.ua_channel.specs.Client.{client_bound_behind, client_limits, held_octets};
-    ghost use Rattle.ua_frame.specs.declared.frame.Frame.{Frame};
     ghost use Rattle.ua_channel.specs.Received.{received};
     ghost use Rattle.ua_client.specs.Calls.{CallsAll};
     ghost use Rattle.ua_client.specs.Client.{OpensNothing, OpensClient, HasFailedOrClosed, IsReady};
@@ -146,9 +144,8 @@ impl Client {
         policy_id: UaString,
         moment: DateTime,
     ) -> Result<NodeId, SessionFault>
-        ensures begins { IsReady self.old
-            → TriesSession policy_id moment (connection_of self.old) (connection_of self.new) (L.traffic line.old)
-            (L.traffic line.new) result }
+        ensures begins { IsReady self.old → TriesSession policy_id moment (connection_of self.old)
+            (connection_of self.new) (L.traffic line.old) (L.traffic line.new) result }
         ensures left { IsReady self.old → IsLeft (session_alone result) self.new }
         ensures closed { HasFailedOrClosed self.old → (result ≡ Err session_closed) × (self.new ≡ self.old)
             × (line.new ≡ line.old) }
@@ -244,8 +241,7 @@ impl Client {
         ensures names { IsReady self.old → IfErr result (λ calls. calls.request < length requests.now) }
         ensures left { IsReady self.old → IsLeft (fault_alone result) self.new }
         ensures closed { HasFailedOrClosed self.old → (result ≡ Err (closed_at_request 0)) × (self.new ≡ self.old)
-            × (line.new ≡ line.old)
-            × (replies.new ≡ replies.old) }
+            × (line.new ≡ line.old) × (replies.new ≡ replies.old) }
         ensures failed { L.failures line.new ≡ failures_behind (L.failures line.old) (fault_alone result) }
     {
         if self.is_done {
@@ -266,12 +262,10 @@ impl Client {
     /// The number of bytes held that are incomplete: of a frame, and of unfinished messages. Bytes
     /// that were read and are not yet taken are not counted; they are at most 4096.
     pub fn held(&self) -> usize
-        ensures held { (asks : List Placed) (octets : List ℕ) (frames : List Frame) (rest : List ℕ)
-            → ClientStands (client_channel self.now) asks octets frames rest
-            → result ≡ held_octets frames rest }
-        ensures bound { (asks : List Placed) (octets : List ℕ) (frames : List Frame) (rest : List ℕ)
-            → ClientStands (client_channel self.now) asks octets frames rest
-            → result ≤ client_bound (client_channel self.now) }
+        ensures held { WhateverPassed (client_channel self.now) (λ asks octets frames rest.
+            result ≡ held_octets frames rest) }
+        ensures bound { WhateverPassed (client_channel self.now) (λ asks octets frames rest.
+            result ≤ client_bound (client_channel self.now)) }
         ensures done { IsClientDone (client_channel self.now) → result ≡ 0 }
     {
         self.connection.channel.held()
@@ -280,9 +274,8 @@ impl Client {
     /// The maximum number of bytes that may be held: the largest frame that the server sends, and 4
     /// times the largest message that the client accepts.
     pub fn bound(&self) -> usize
-        ensures stands { (asks : List Placed) (octets : List ℕ) (frames : List Frame) (rest : List ℕ)
-            → ClientStands (client_channel self.now) asks octets frames rest
-            → result ≡ client_bound_behind (client_limits (client_channel self.now)) (received frames).ack }
+        ensures stands { WhateverPassed (client_channel self.now) (λ asks octets frames rest.
+            result ≡ client_bound_behind (client_limits (client_channel self.now)) (received frames).ack) }
         ensures is { result ≡ client_bound (client_channel self.now) }
     {
         self.connection.channel.bound()

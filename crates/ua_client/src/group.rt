@@ -3,10 +3,8 @@
 ghost use Rattle.std.specs.Prelude.{◌≡◌, ◌<◌, ◌++◌, ◌↔◌, ℕ, List, Some, None, length};
 ghost use Rattle.std.specs.Prelude.{map, IfOk, IfErr, OnOk, IsTrue, IsFalse, IsErrOf};
 ghost use Rattle.ua_wire.specs.declared.fault.WriteFault.TheVariants.{NotWritable};
-ghost use Rattle.ua_frame.specs.declared.frame.Frame.{Frame};
 ghost use Rattle.ua_services.specs.Request.{request};
-ghost use Rattle.ua_channel.specs.Asks.{Placed};
-ghost use Rattle.ua_channel.specs.Client.{ClientStands, SameClient, phase_of, ask_refusal};
+ghost use Rattle.ua_channel.specs.Client.{SameClient, phase_of, ask_refusal, WhateverPassed};
 ghost use Rattle.ua_client.specs.Sent.{asked_len, of_ask, AnswersBy, request_refusal, group_refusal};
 ghost use Rattle.ua_client.specs.Sent.{bodies_of, AsksFrom, AsksOr, RefusesBy, place_by};
 ghost use Rattle.ua_client.specs.Hearing.{fault_alone};
@@ -176,10 +174,10 @@ pub fn ask_group<'a>(
     channel: &mut ClientChannel,
     group: &JudgedGroup<'a>,
 ) -> Result<AskedGroup<'a>, ClientFault>
-    ensures asks { (asks : List Placed) (octets : List ℕ) (frames : List Frame) (rest : List ℕ)
-        → ClientStands channel.old asks octets frames rest
-        → AsksOr (λ found. AsksFrom group.now.bodies.items channel.old channel.new asks octets frames rest
-        (found.first, found.octets.items)) result }
+    ensures asks { WhateverPassed channel.old
+        (λ asks octets frames rest.
+        AsksOr (λ found. AsksFrom group.now.bodies.items channel.old channel.new asks octets frames rest
+        (found.first, found.octets.items)) result) }
     ensures len { IfOk result (λ found. asked_len found.calls.items ≡ length found.octets.items) }
     ensures requests { IfOk result (λ found. found.requests.now ≡ group.now.requests.now) }
     ensures same { SameClient channel.old channel.new }

@@ -6,7 +6,7 @@ use Rattle.ua_frame.specs.Run.{Stopped}
 use Rattle.ua_channel.specs.Agreement.{Agreement}
 use Rattle.ua_channel.specs.Received.{has_some, listed}
 use Rattle.ua_channel.specs.ServerPlaces.{agreed_by}
-use Rattle.ua_channel.specs.ServerStands.{limits_of, channel_of, next_of, Goes}
+use Rattle.ua_channel.specs.ServerStands.{limits_of, channel_of, next_of, Goes, WhateverWasTold}
 use Rattle.ua_channel.specs.ServerTold.{Told}
 use Rattle.ua_channel.specs.declared.server.ServerChannel.{ServerChannel}
 use Rattle.ua_server.specs.Requests.{requests_of}
@@ -55,6 +55,10 @@ StepNow old moment piece (Ok step) new octets told before now = NowBy old moment
 StepNow old moment piece (Err step_fault.OutOfMemory) new octets told before now =
     StepBreaks (limits_of old) (channel_of old) moment piece new octets told before now
 StepNow old moment piece (Err step_fault.Closed) new octets told before now = ⊥
+
+-- the outcome of a step after whatever bytes
+abbrev pub StepsNow : ServerChannel → DateTime → List ℕ → Result Step StepFault → ServerChannel → State → State → Type 0
+StepsNow old moment piece result new before now = WhateverWasTold old (λ octets told. StepNow old moment piece result new octets told before now)
 
 -- ---- inside
 

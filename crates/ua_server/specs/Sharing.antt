@@ -5,7 +5,7 @@ use Rattle.ua_builtin.specs.declared.date_time.DateTime.{DateTime}
 use Rattle.ua_frame.specs.Run.{End, Stopped, Over}
 use Rattle.ua_frame.specs.declared.limits.Limits.{Limits}
 use Rattle.ua_channel.specs.Agreement.{Agreement}
-use Rattle.ua_channel.specs.ServerStands.{channel_of, next_of, Goes, IsDone}
+use Rattle.ua_channel.specs.ServerStands.{limits_of, channel_of, next_of, Goes, IsDone}
 use Rattle.ua_channel.specs.ServerTold.{Told}
 use Rattle.ua_channel.specs.declared.server.ServerChannel.{ServerChannel}
 use Rattle.ua_nodes.specs.Table.{Nodes}
@@ -165,3 +165,15 @@ pub record StepAmong (limits : Limits) (channels : ℕ → ℕ) (k : ℕ) (momen
   pub left_is : (shared_over channels (opened first) (es ++ at_moment k moment told)).state ≡ now
   pub comes_to : ResultAmong limits channels k piece result new session octets es (at_moment k moment told) told first before now
   pub others : OthersStand channels k es (at_moment k moment told) first before now
+
+-- the outcome of a step of one connection at a time among others, whatever happened on each before
+abbrev pub StepsAmong : DateTime → List ℕ → Result Step StepFault → ServerChannel → Option Session → State → ServerChannel → Option Session → State → Type 0
+StepsAmong moment piece result old mine before new session now =
+    (channels : ℕ → ℕ) (k : ℕ) (octets : List ℕ) (es : List SharedEvent) (first : State) → StandsAmong channels k old mine octets es first before
+    → StepAmong (limits_of old) channels k moment piece result new session octets es first before now
+
+-- a connection with this SecureChannelId begins among others, wherever these stand
+abbrev pub BeginsAmong : ServerChannel → Option Session → ℕ → Type 0
+BeginsAmong x session channel =
+    (channels : ℕ → ℕ) (k : ℕ) (es : List SharedEvent) (first now : State) → channels k ≡ channel → told_by k es ≡ []
+    → (shared_over channels (opened first) es).state ≡ now → StandsAmong channels k x session [] es first now

@@ -4,7 +4,10 @@ use Rattle.std.specs.Prelude.{ℕ, ◌+◌, Bool, true, false, Option, Some, Non
 use Rattle.ua_builtin.specs.NodeId.{node}
 use Rattle.ua_builtin.specs.declared.node_id.NodeId.{NodeId}
 use Rattle.ua_builtin.specs.declared.node_id.Identifier.TheVariants.{Numeric}
-use Rattle.ua_nodes.specs.Table.{Nodes, same_id}
+use Rattle.ua_nodes.specs.declared.fault.SetFault.{SetFault}
+use Rattle.ua_nodes.specs.Set.{set_refusal_at}
+use Rattle.ua_nodes.specs.Table.{Nodes, node_id_at, same_id}
+use Rattle.ua_nodes.specs.declared.set.Reading.{Reading}
 use Rattle.ua_server.specs.declared.endpoint.Endpoint.{Endpoint}
 use Rattle.ua_server.specs.declared.session.Session.{Session}
 
@@ -39,6 +42,10 @@ with_next_session s = record {
 -- the state with these nodes
 abbrev pub with_nodes : State → Nodes → State
 with_nodes s nodes = record { nodes = nodes; endpoint = s.endpoint; memory_limit = s.memory_limit; made = s.made; session = s.session }
+
+-- why the node with this index among these does not take a reading, if it does not
+abbrev pub setting_refusal : Nodes → ℕ → Reading → Option SetFault
+setting_refusal nodes index reading = set_refusal_at (node_id_at nodes index) reading nodes
 
 -- the state with this limit
 abbrev pub with_memory_limit : State → ℕ → State

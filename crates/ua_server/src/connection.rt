@@ -1,21 +1,20 @@
 //! One of several connections over one node table.
 
-ghost use Rattle.std.specs.Prelude.{◌≡◌, ◌≤◌, ◌↔◌, [], ℕ, List, Err, None, IfOk, OnErr, IsErrOf, IsTrue};
+ghost use Rattle.std.specs.Prelude.{◌≡◌, ◌≤◌, ◌↔◌, [], Err, None, IfOk, OnErr, IsErrOf, IsTrue};
 ghost use Rattle.std.specs.Map.{keys_of};
 ghost use Rattle.ua_channel.specs.Received.{received};
 ghost use Rattle.ua_channel.specs.ServerStands.{limits_of, channel_of, bound_of, bound_after};
-ghost use Rattle.ua_channel.specs.ServerStands.{held_after, Goes, IsDone, ChannelStands as Holds};
-ghost use Rattle.ua_channel.specs.ServerTold.{Told};
-ghost use Rattle.ua_frame.specs.declared.frame.Frame.{Frame};
+ghost use Rattle.ua_channel.specs.ServerStands.{held_after, IsDone, ChannelStands as Holds};
+ghost use Rattle.ua_channel.specs.ServerStands.{WhateverCame, WhateverWasTold};
 ghost use Rattle.ua_server.specs.History.{StandsOver};
-ghost use Rattle.ua_server.specs.Now.{StepNow};
 ghost use Rattle.ua_server.specs.Served.{channel_at, session_at, with_own_session};
 ghost use Rattle.ua_server.specs.Serving.{IsClean};
-ghost use Rattle.ua_server.specs.Sharing.{SharedEvent, StandsAmong, StepAmong, opened, shared_over, told_by};
 ghost use Rattle.ua_server.specs.State.{State};
 ghost use Rattle.ua_server.specs.Stepping.{StepTakes};
 ghost use Rattle.ua_server.specs.Storing.{StepStores};
 ghost use Rattle.ua_server.specs.declared.step.StepFault.TheVariants as step_fault;
+ghost use Rattle.ua_server.specs.Now.{StepsNow};
+ghost use Rattle.ua_server.specs.Sharing.{StepsAmong, BeginsAmong};
 
 use crate::server::Server;
 use crate::services::Services;
@@ -40,9 +39,7 @@ impl Connection {
     /// A connection that waits for a client's HEL, with these limits. Its channel will have this
     /// SecureChannelId, which no other open channel of the server has (OPC 10000-6, 6.7.2).
     pub fn new(alloc: Global, limits: Limits, channel_id: u32) -> Connection
-        ensures among { (channels : ℕ → ℕ) (k : ℕ) (es : List SharedEvent) (first now : State) → channels k ≡ channel_id
-            → told_by k es ≡ [] → (shared_over channels (opened first) es).state ≡ now
-            → StandsAmong channels k (channel_at result) (session_at result) [] es first now }
+        ensures among { BeginsAmong (channel_at result) (session_at result) channel_id }
         ensures history { (first : State) → StandsOver (channel_at result) [] [] first first }
         ensures holds { Holds (channel_at result) [] [] [] }
         ensures session { session_at result ≡ None }
@@ -58,12 +55,10 @@ impl Connection {
     /// How many bytes are held, as [`Server::held`]: never more than [`bound`](Connection::bound),
     /// whatever the client sends and other connections do.
     pub fn held(&self) -> usize
-        ensures held { (octets : List ℕ) (frames : List Frame) (rest : List ℕ)
-            → Holds (channel_at self.now) octets frames rest
-            → result ≡ held_after (received frames) rest }
-        ensures bound { (octets : List ℕ) (frames : List Frame) (rest : List ℕ)
-            → Holds (channel_at self.now) octets frames rest
-            → result ≤ bound_after (limits_of (channel_at self.now)) (received frames) }
+        ensures held { WhateverCame (channel_at self.now) (λ octets frames rest.
+            result ≡ held_after (received frames) rest) }
+        ensures bound { WhateverCame (channel_at self.now) (λ octets frames rest.
+            result ≤ bound_after (limits_of (channel_at self.now)) (received frames)) }
         ensures done { IsDone (channel_at self.now) → result ≡ 0 }
     {
         self.server.held()
@@ -71,9 +66,8 @@ impl Connection {
 
     /// The most bytes that may be held, as [`Server::bound`].
     pub fn bound(&self) -> usize
-        ensures stands { (octets : List ℕ) (frames : List Frame) (rest : List ℕ)
-            → Holds (channel_at self.now) octets frames rest
-            → result ≡ bound_after (limits_of (channel_at self.now)) (received frames) }
+        ensures stands { WhateverCame (channel_at self.now) (λ octets frames rest.
+            result ≡ bound_after (limits_of (channel_at self.now)) (received frames)) }
         ensures is { result ≡ bound_of (channel_at self.now) }
     {
         self.server.bound()
@@ -81,9 +75,7 @@ impl Connection {
 
     /// Whether the client's bytes may end here: no frame and no message is unfinished.
     pub fn is_clean(&self) -> bool
-        ensures { (octets : List ℕ) (frames : List Frame) (rest : List ℕ)
-            → Holds (channel_at self.now) octets frames rest
-            → IsTrue result ↔ IsClean frames rest }
+        ensures { WhateverCame (channel_at self.now) (λ octets frames rest. IsTrue result ↔ IsClean frames rest) }
     {
         self.server.is_clean()
     }
@@ -98,13 +90,10 @@ impl Connection {
     ) -> Result<Step, StepFault>
         // Among all connections over these services: what is sent to this one, and the state of
         // each other one.
-        ensures among { (channels : ℕ → ℕ) (k : ℕ) (octets : List ℕ) (es : List SharedEvent) (first : State)
-            → StandsAmong channels k (channel_at self.old) (session_at self.old) octets es first services.old
-            → StepAmong (limits_of (channel_at self.old)) channels k moment piece.now result (channel_at self.new)
-            (session_at self.new) octets es first services.old services.new }
+        ensures among { StepsAmong moment piece.now result (channel_at self.old) (session_at self.old) services.old
+            (channel_at self.new) (session_at self.new) services.new }
         // As a function of the current state alone, however it arose.
-        ensures now { (octets : List ℕ) (told : List Told) → Goes (channel_at self.old) octets told
-            → StepNow (channel_at self.old) moment piece.now result (channel_at self.new) octets told
+        ensures now { StepsNow (channel_at self.old) moment piece.now result (channel_at self.new)
             (with_own_session self.old services.old) (with_own_session self.new services.new) }
         ensures apart { services.new.session ≡ services.old.session }
         ensures endpoint { services.new.endpoint ≡ services.old.endpoint }
@@ -113,8 +102,8 @@ impl Connection {
         ensures ids { keys_of services.new.nodes ≡ keys_of services.old.nodes }
         ensures progress { IfOk result (λ step. StepTakes piece.now step) }
         // After a failed allocation, the bound is what it was before the call.
-        ensures starved { (octets : List ℕ) (told : List Told) → Goes (channel_at self.old) octets told
-            → IsErrOf result step_fault.OutOfMemory → bound_of (channel_at self.new) ≡ bound_of (channel_at self.old) }
+        ensures starved { WhateverWasTold (channel_at self.old) (λ octets told.
+            IsErrOf result step_fault.OutOfMemory → bound_of (channel_at self.new) ≡ bound_of (channel_at self.old)) }
         ensures closed { IsDone (channel_at self.old) → (result ≡ Err step_fault.Closed) × (self.new ≡ self.old)
             × (services.new ≡ services.old) }
         ensures limits { limits_of (channel_at self.new) ≡ limits_of (channel_at self.old) }
@@ -135,19 +124,15 @@ impl Connection {
     ) -> Result<Step, StepFault>
         // Among all connections over these services: what is sent to this one, and the state of
         // each other one.
-        ensures among { (channels : ℕ → ℕ) (k : ℕ) (octets : List ℕ) (es : List SharedEvent) (first : State)
-            → StandsAmong channels k (channel_at self.old) (session_at self.old) octets es first services.old
-            → StepAmong (limits_of (channel_at self.old)) channels k moment piece.now result (channel_at self.new)
-            (session_at self.new) octets es first services.old services.new }
+        ensures among { StepsAmong moment piece.now result (channel_at self.old) (session_at self.old) services.old
+            (channel_at self.new) (session_at self.new) services.new }
         // As a function of the current state alone, however it arose.
-        ensures now { (octets : List ℕ) (told : List Told) → Goes (channel_at self.old) octets told
-            → StepNow (channel_at self.old) moment piece.now result (channel_at self.new) octets told
+        ensures now { StepsNow (channel_at self.old) moment piece.now result (channel_at self.new)
             (with_own_session self.old services.old) (with_own_session self.new services.new) }
         // `written` has just the items that were stored by the Write that this step answered, in
         // order, and nothing of another step.
-        ensures stores { (octets : List ℕ) (told : List Told) → Goes (channel_at self.old) octets told
-            → StepStores piece.now result written.new (channel_at self.new) octets told
-            (with_own_session self.old services.old) }
+        ensures stores { WhateverWasTold (channel_at self.old) (λ octets told. StepStores piece.now result written.new
+            (channel_at self.new) octets told (with_own_session self.old services.old)) }
         ensures failed { OnErr result (written.new ≡ []) }
         ensures apart { services.new.session ≡ services.old.session }
         ensures endpoint { services.new.endpoint ≡ services.old.endpoint }
@@ -156,8 +141,8 @@ impl Connection {
         ensures ids { keys_of services.new.nodes ≡ keys_of services.old.nodes }
         ensures progress { IfOk result (λ step. StepTakes piece.now step) }
         // After a failed allocation, the bound is what it was before the call.
-        ensures starved { (octets : List ℕ) (told : List Told) → Goes (channel_at self.old) octets told
-            → IsErrOf result step_fault.OutOfMemory → bound_of (channel_at self.new) ≡ bound_of (channel_at self.old) }
+        ensures starved { WhateverWasTold (channel_at self.old) (λ octets told.
+            IsErrOf result step_fault.OutOfMemory → bound_of (channel_at self.new) ≡ bound_of (channel_at self.old)) }
         ensures closed { IsDone (channel_at self.old) → (result ≡ Err step_fault.Closed) × (self.new ≡ self.old)
             × (services.new ≡ services.old) }
         ensures limits { limits_of (channel_at self.new) ≡ limits_of (channel_at self.old) }

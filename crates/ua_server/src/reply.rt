@@ -100,9 +100,8 @@ impl Services {
         moment: DateTime,
         most: Option<usize>,
     ) -> Result<Replied, AllocError>
-        ensures body { IfOk result
-            (λ told. IsBodyWithin most (response.canonical (answered self.old moment (S.octets src.old)).1)
-            told.body.items) }
+        ensures body { IfOk result (λ told.
+            IsBodyWithin most (response.canonical (answered self.old moment (S.octets src.old)).1) told.body.items) }
         ensures some { IfOk result (λ told. 0 < length told.body.items) }
         ensures request { IfOk result
             (λ told. told.request ≡ request_answered None self.old moment (S.octets src.old)) }
@@ -141,9 +140,8 @@ impl Services {
         moment: DateTime,
         most: Option<usize>,
     ) -> Result<Replied, AllocError>
-        ensures body { IfOk result
-            (λ told. IsBodyWithin most (response.canonical (answered self.old moment (concat message.now)).1)
-            told.body.items) }
+        ensures body { IfOk result (λ told.
+            IsBodyWithin most (response.canonical (answered self.old moment (concat message.now)).1) told.body.items) }
         ensures some { IfOk result (λ told. 0 < length told.body.items) }
         ensures request { IfOk result
             (λ told. told.request ≡ request_answered None self.old moment (concat message.now)) }
@@ -239,13 +237,8 @@ impl Services {
     ) -> Result<Replied, AllocError>
         ensures body { IfOk result (λ told. told.body.items ≡ response.canonical (fault_of handle code.code moment)) }
         ensures some { IfOk result (λ told. 0 < length told.body.items) }
-        ensures request { IfOk result
-            (λ told. told.request ≡ record {
-              kind = None;
-              encoding = encoding_number (S.octets head.old);
-              items = 0;
-              code = code;
-            }) }
+        ensures request { IfOk result (λ told. told.request
+            ≡ record { kind = None; encoding = encoding_number (S.octets head.old); items = 0; code = code }) }
         ensures results { IfOk result (λ told. told.results ≡ None) }
     {
         let encoding = encoding_ahead(alloc, head)?;

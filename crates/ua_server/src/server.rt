@@ -3,11 +3,11 @@
 ghost use Rattle.std.specs.Prelude.{◌≡◌, false, ℕ, List, Err, None, IfOk, IsErrOf};
 ghost use Rattle.ua_builtin.specs.declared.date_time.DateTime.{DateTime};
 ghost use Rattle.ua_channel.specs.ServerAnswers.{Progress};
-ghost use Rattle.ua_channel.specs.ServerStands.{limits_of, channel_of, next_of, bound_of, IsDone, Goes};
+ghost use Rattle.ua_channel.specs.ServerStands.{limits_of, channel_of, bound_of, IsDone, WhateverWasTold};
 ghost use Rattle.ua_channel.specs.ServerTold.{Told};
 ghost use Rattle.ua_channel.specs.declared.server.ServerChannel.{ServerChannel};
 ghost use Rattle.ua_channel.specs.declared.server_fault.ChannelFault.TheVariants as channel_fault;
-ghost use Rattle.ua_server.specs.Now.{StepNow};
+ghost use Rattle.ua_server.specs.Now.{StepNow, StepsNow};
 ghost use Rattle.ua_server.specs.State.{State};
 ghost use Rattle.ua_server.specs.Stepping.{AnswersBehind, is_given_up};
 ghost use Rattle.ua_server.specs.declared.step.StepFault.TheVariants as step_fault;
@@ -39,13 +39,13 @@ fn next_answered(
     piece: &[u8],
     moment: DateTime,
 ) -> Taken<Result<ServerEvent, ChannelFault>>
-    ensures answers { (octets : List ℕ) (told : List Told) → Goes channel.old octets told
-        → AnswersBehind channel.old moment piece.now result.size result.outcome channel.new octets told }
+    ensures answers { WhateverWasTold channel.old
+        (AnswersBehind channel.old moment piece.now result.size result.outcome channel.new) }
     ensures progress { Progress piece.now result.size result.outcome }
     ensures some { is_given_up result.outcome ≡ false }
     ensures closed { IsDone channel.old → (result.outcome ≡ Err channel_fault.Closed) × (channel.new ≡ channel.old) }
-    ensures starved { (octets : List ℕ) (told : List Told) → Goes channel.old octets told
-        → IsErrOf result.outcome channel_fault.OutOfMemory → bound_of channel.new ≡ bound_of channel.old }
+    ensures starved { WhateverWasTold channel.old (λ octets told.
+        IsErrOf result.outcome channel_fault.OutOfMemory → bound_of channel.new ≡ bound_of channel.old) }
     ensures limits { limits_of channel.new ≡ limits_of channel.old }
     ensures channel { channel_of channel.new ≡ channel_of channel.old }
 {
@@ -117,15 +117,14 @@ impl Server {
     ghost use Rattle.ua_builtin.specs.declared.date_time.DateTime.{DateTime};
     ghost use Rattle.ua_channel.specs.Received.{received};
     ghost use Rattle.ua_channel.specs.ServerPlaces.{agreed_by};
-    ghost use Rattle.ua_channel.specs.ServerStands.{limits_of, channel_of, next_of};
+    ghost use Rattle.ua_channel.specs.ServerStands.{limits_of, channel_of, next_of, WhateverCame};
     ghost use Rattle.ua_channel.specs.ServerStands.{bound_of, Goes, GoesTelling, IsDone};
     ghost use Rattle.ua_channel.specs.ServerStands.{bound_after, held_after, ChannelStands as Holds};
     ghost use Rattle.ua_channel.specs.ServerTold.{Asked, Told};
     ghost use Rattle.ua_channel.specs.declared.server.ServerChannel.{ServerChannel};
-    ghost use Rattle.ua_frame.specs.declared.frame.Frame.{Frame};
     ghost use Rattle.ua_services.specs.Response.{response};
     ghost use Rattle.ua_server.specs.History.{StandsOver};
-    ghost use Rattle.ua_server.specs.Now.{AdvanceNow, StepNow};
+    ghost use Rattle.ua_server.specs.Now.{AdvanceNow};
     ghost use Rattle.ua_server.specs.Reply.{answered};
     ghost use Rattle.ua_server.specs.Requests.{request_answered};
     ghost use Rattle.ua_server.specs.Said.{lane_at};
@@ -155,12 +154,10 @@ impl Server {
     /// How many bytes are held: those of an unfinished frame, and those of unfinished messages.
     /// They are never more than [`bound`](Server::bound).
     pub fn held(&self) -> usize
-        ensures held { (octets : List ℕ) (frames : List Frame) (rest : List ℕ)
-            → Holds (channel_in self.now) octets frames rest
-            → result ≡ held_after (received frames) rest }
-        ensures bound { (octets : List ℕ) (frames : List Frame) (rest : List ℕ)
-            → Holds (channel_in self.now) octets frames rest
-            → result ≤ bound_after (limits_of (channel_in self.now)) (received frames) }
+        ensures held { WhateverCame (channel_in self.now) (λ octets frames rest.
+            result ≡ held_after (received frames) rest) }
+        ensures bound { WhateverCame (channel_in self.now) (λ octets frames rest.
+            result ≤ bound_after (limits_of (channel_in self.now)) (received frames)) }
         ensures done { IsDone (channel_in self.now) → result ≡ 0 }
     {
         self.channel.held()
@@ -169,9 +166,8 @@ impl Server {
     /// The most bytes that may be held: 8192 before the ACK, then those of a frame of the agreed
     /// size and of 4 messages of the greatest size.
     pub fn bound(&self) -> usize
-        ensures stands { (octets : List ℕ) (frames : List Frame) (rest : List ℕ)
-            → Holds (channel_in self.now) octets frames rest
-            → result ≡ bound_after (limits_of (channel_in self.now)) (received frames) }
+        ensures stands { WhateverCame (channel_in self.now) (λ octets frames rest.
+            result ≡ bound_after (limits_of (channel_in self.now)) (received frames)) }
         ensures is { result ≡ bound_of (channel_in self.now) }
     {
         self.channel.bound()
@@ -188,8 +184,7 @@ impl Server {
         moment: DateTime,
     ) -> Result<Step, StepFault>
         // As a function of the current state alone, however it arose.
-        ensures now { (octets : List ℕ) (told : List Told) → Goes (channel_in self.old) octets told
-            → StepNow (channel_in self.old) moment piece.now result (channel_in self.new) octets told services.old
+        ensures now { StepsNow (channel_in self.old) moment piece.now result (channel_in self.new) services.old
             services.new }
         ensures endpoint { services.new.endpoint ≡ services.old.endpoint }
         ensures memory_limit { services.new.memory_limit ≡ services.old.memory_limit }
@@ -197,8 +192,8 @@ impl Server {
         ensures ids { keys_of services.new.nodes ≡ keys_of services.old.nodes }
         ensures progress { IfOk result (λ step. StepTakes piece.now step) }
         // After a failed allocation, the bound is what it was before the call.
-        ensures starved { (octets : List ℕ) (told : List Told) → Goes (channel_in self.old) octets told
-            → IsErrOf result step_fault.OutOfMemory → bound_of (channel_in self.new) ≡ bound_of (channel_in self.old) }
+        ensures starved { WhateverWasTold (channel_in self.old) (λ octets told.
+            IsErrOf result step_fault.OutOfMemory → bound_of (channel_in self.new) ≡ bound_of (channel_in self.old)) }
         ensures closed { IsDone (channel_in self.old) → (result ≡ Err step_fault.Closed) × (self.new ≡ self.old)
             × (services.new ≡ services.old) }
         ensures limits { limits_of (channel_in self.new) ≡ limits_of (channel_in self.old) }
@@ -219,13 +214,12 @@ impl Server {
         written: &mut Written,
     ) -> Result<Step, StepFault>
         // As a function of the current state alone, however it arose.
-        ensures now { (octets : List ℕ) (told : List Told) → Goes (channel_in self.old) octets told
-            → StepNow (channel_in self.old) moment piece.now result (channel_in self.new) octets told services.old
+        ensures now { StepsNow (channel_in self.old) moment piece.now result (channel_in self.new) services.old
             services.new }
         // `written` has just the items that were stored by the Write that this step answered, in
         // order, and nothing of another step.
-        ensures stores { (octets : List ℕ) (told : List Told) → Goes (channel_in self.old) octets told
-            → StepStores piece.now result written.new (channel_in self.new) octets told services.old }
+        ensures stores { WhateverWasTold (channel_in self.old) (λ octets told.
+            StepStores piece.now result written.new (channel_in self.new) octets told services.old) }
         ensures failed { OnErr result (written.new ≡ []) }
         ensures endpoint { services.new.endpoint ≡ services.old.endpoint }
         ensures memory_limit { services.new.memory_limit ≡ services.old.memory_limit }
@@ -233,8 +227,8 @@ impl Server {
         ensures ids { keys_of services.new.nodes ≡ keys_of services.old.nodes }
         ensures progress { IfOk result (λ step. StepTakes piece.now step) }
         // After a failed allocation, the bound is what it was before the call.
-        ensures starved { (octets : List ℕ) (told : List Told) → Goes (channel_in self.old) octets told
-            → IsErrOf result step_fault.OutOfMemory → bound_of (channel_in self.new) ≡ bound_of (channel_in self.old) }
+        ensures starved { WhateverWasTold (channel_in self.old) (λ octets told.
+            IsErrOf result step_fault.OutOfMemory → bound_of (channel_in self.new) ≡ bound_of (channel_in self.old)) }
         ensures closed { IsDone (channel_in self.old) → (result ≡ Err step_fault.Closed) × (self.new ≡ self.old)
             × (services.new ≡ services.old) }
         ensures limits { limits_of (channel_in self.new) ≡ limits_of (channel_in self.old) }
@@ -248,9 +242,7 @@ impl Server {
 
     /// Whether no frame and no message is unfinished.
     pub(crate) fn is_clean(&self) -> bool
-        ensures { (octets : List ℕ) (frames : List Frame) (rest : List ℕ)
-            → Holds (channel_in self.now) octets frames rest
-            → IsTrue result ↔ IsClean frames rest }
+        ensures { WhateverCame (channel_in self.now) (λ octets frames rest. IsTrue result ↔ IsClean frames rest) }
     {
         self.channel.open_count() == 0 && self.channel.held() == 0
     }
@@ -263,19 +255,18 @@ impl Server {
         moment: DateTime,
         written: &mut Written,
     ) -> Result<Advanced, StepFault>
-        ensures now { (octets : List ℕ) (told : List Told) → Goes (channel_in self.old) octets told
-            → AdvanceNow (channel_in self.old) moment piece.now result (channel_in self.new) octets told services.old
-            services.new }
-        ensures stores { (octets : List ℕ) (told : List Told) → Goes (channel_in self.old) octets told
-            → AdvanceStores piece.now result written.new (channel_in self.new) octets told services.old }
+        ensures now { WhateverWasTold (channel_in self.old) (λ octets told. AdvanceNow (channel_in self.old) moment
+            piece.now result (channel_in self.new) octets told services.old services.new) }
+        ensures stores { WhateverWasTold (channel_in self.old) (λ octets told.
+            AdvanceStores piece.now result written.new (channel_in self.new) octets told services.old) }
         ensures failed { OnErr result (written.new ≡ []) }
         ensures endpoint { services.new.endpoint ≡ services.old.endpoint }
         ensures memory_limit { services.new.memory_limit ≡ services.old.memory_limit }
         // No node comes, goes or moves.
         ensures ids { keys_of services.new.nodes ≡ keys_of services.old.nodes }
         ensures progress { IfOk result (λ found. StepTakes piece.now found.step) }
-        ensures starved { (octets : List ℕ) (told : List Told) → Goes (channel_in self.old) octets told
-            → IsErrOf result step_fault.OutOfMemory → bound_of (channel_in self.new) ≡ bound_of (channel_in self.old) }
+        ensures starved { WhateverWasTold (channel_in self.old) (λ octets told.
+            IsErrOf result step_fault.OutOfMemory → bound_of (channel_in self.new) ≡ bound_of (channel_in self.old)) }
         ensures closed { IsDone (channel_in self.old) → (result ≡ Err step_fault.Closed) × (self.new ≡ self.old)
             × (services.new ≡ services.old) }
         ensures limits { limits_of (channel_in self.new) ≡ limits_of (channel_in self.old) }

@@ -2,7 +2,7 @@
 
 ghost use Rattle.std.specs.Prelude.{◌≡◌, ◌++◌, ◌∷◌, ◌↔◌, [], IsTrue, IsSome, IfOk};
 ghost use Rattle.std.specs.Prelude.{OnOk, OnErr, IsErrOf, MatchResult, None, Some};
-ghost use Rattle.ua_nodes.specs.Set.{after_set, after_set_at, set_refusal, set_refusal_at};
+ghost use Rattle.ua_nodes.specs.Set.{after_set, after_set_at, set_refusal};
 ghost use Rattle.ua_nodes.specs.Table.{node_id_at, node_at, variable_of};
 ghost use Rattle.ua_nodes.specs.Sound.{AreNodesSound, is_sound_node};
 ghost use Rattle.ua_nodes.specs.declared.fault.InsertFault.TheVariants as insert_fault;
@@ -10,7 +10,7 @@ ghost use Rattle.ua_services.specs.Response.{response};
 ghost use Rattle.ua_server.specs.Answer.{fault_of, answer};
 ghost use Rattle.ua_server.specs.Endpoint.{IsEndpointEncodable};
 ghost use Rattle.ua_server.specs.Served.{session_in};
-ghost use Rattle.ua_server.specs.State.{fresh, begun, with_memory_limit, with_nodes, with_session};
+ghost use Rattle.ua_server.specs.State.{fresh, begun, setting_refusal, with_memory_limit, with_nodes, with_session};
 
 use crate::endpoint::Endpoint;
 use crate::session::{Session, SessionSlot};
@@ -125,9 +125,8 @@ impl Services {
     pub fn set_at(&mut self, index: usize, reading: Reading) -> Result<(), SetFault>
         ensures state { self.new ≡ with_nodes self.old
             (after_set_at (node_id_at self.old.nodes index) reading self.old.nodes) }
-        ensures answer { MatchResult result
-            (λ _. set_refusal_at (node_id_at self.old.nodes index) reading self.old.nodes
-            ≡ None) (λ fault. set_refusal_at (node_id_at self.old.nodes index) reading self.old.nodes ≡ Some fault) }
+        ensures answer { MatchResult result (λ _. setting_refusal self.old.nodes index reading ≡ None)
+            (λ fault. setting_refusal self.old.nodes index reading ≡ Some fault) }
         ensures kept { OnErr result (self.new ≡ self.old) }
     {
         self.nodes.set_at(index, reading)

@@ -144,8 +144,7 @@ impl Serving {
     ghost use Rattle.ua_builtin.specs.declared.date_time.DateTime.{DateTime};
     ghost use Rattle.ua_channel.specs.Line.{IfTrafficKnown};
     ghost use Rattle.ua_channel.specs.Received.{listed};
-    ghost use Rattle.ua_channel.specs.ServerStands.{ChannelStands as Holds};
-    ghost use Rattle.ua_frame.specs.declared.frame.Frame.{Frame};
+    ghost use Rattle.ua_channel.specs.ServerStands.{WhateverCame};
     ghost use Rattle.ua_frame.specs.declared.limits.Limits.{Limits};
     ghost use Rattle.ua_server.specs.Served.{channel_in};
     ghost use Rattle.ua_server.specs.Happening.{Event, Happens, WasTold};
@@ -170,9 +169,7 @@ impl Serving {
 
     /// How a connection ends whose input ends.
     fn finish(&self) -> End
-        ensures { (octets : List ℕ) (frames : List Frame) (rest : List ℕ)
-            → Holds (channel_in self.now.server) octets frames rest
-            → Finishes result frames rest }
+        ensures { WhateverCame (channel_in self.now.server) (λ octets frames rest. Finishes result frames rest) }
     {
         if self.server.is_clean() {
             End::NoClose

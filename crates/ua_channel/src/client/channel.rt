@@ -5,16 +5,16 @@ ghost use Rattle.std.specs.Prelude.{IsTrue, Some, Err, IfOk, IsErrOf, OnOk, OnEr
 ghost use Rattle.ua_wire.specs.Counted.{text};
 ghost use Rattle.ua_builtin.specs.Reasons.{first_reason};
 ghost use Rattle.ua_frame.specs.Frames.{frame_octets};
-ghost use Rattle.ua_frame.specs.declared.frame.Frame.{Frame};
 ghost use Rattle.ua_channel.specs.Asks.{Placed, asked_in, next_id};
 ghost use Rattle.ua_channel.specs.Asks.Asking.{Call, Renewal};
-ghost use Rattle.ua_channel.specs.Client.{ClientStands, ClientGoes, IsClientDone, SameClient};
+ghost use Rattle.ua_channel.specs.Client.{ClientStands, IsClientDone, SameClient, WhateverPassed};
 ghost use Rattle.ua_channel.specs.Client.{client_limits, url_of, client_next, client_bound};
 ghost use Rattle.ua_channel.specs.Client.{client_bound_behind, held_octets, call_refused, renewal_refused};
 ghost use Rattle.ua_channel.specs.Client.{closing_refused, JudgesLength, SendsCall, SendsRenewal, SendsClosing};
+ghost use Rattle.ua_channel.specs.Client.{WhateverWasHeard, IsCalledBetween};
 ghost use Rattle.ua_channel.specs.ClientAnswers.{ClientAnswers, ClientProgress};
 ghost use Rattle.ua_channel.specs.ClientAsks.{call_reasons, closing_reasons, renewing_reasons};
-ghost use Rattle.ua_channel.specs.ClientAsks.{AnswersFor, IsCalled, IsCloseWith, IsRenewalWith, JudgesBy};
+ghost use Rattle.ua_channel.specs.ClientAsks.{AnswersFor, IsCloseWith, IsRenewalWith, JudgesBy};
 ghost use Rattle.ua_channel.specs.inside.ClientParts.{AnswersEvent, EndsWithEvent, outcome_counted};
 ghost use Rattle.ua_channel.specs.ClientSends.{AreFramesOf, appended, hello_frame, hello_to};
 ghost use Rattle.ua_channel.specs.ClientTold.{ClientTold};
@@ -79,12 +79,8 @@ impl ClientChannel {
 
     /// The number of bytes held that are incomplete: of a frame, and of unfinished messages.
     pub fn held(&self) -> usize
-        ensures held { (asks : List Placed) (octets : List ℕ) (frames : List Frame) (rest : List ℕ)
-            → ClientStands self.now asks octets frames rest
-            → result ≡ held_octets frames rest }
-        ensures bound { (asks : List Placed) (octets : List ℕ) (frames : List Frame) (rest : List ℕ)
-            → ClientStands self.now asks octets frames rest
-            → result ≤ client_bound self.now }
+        ensures held { WhateverPassed self.now (λ asks octets frames rest. result ≡ held_octets frames rest) }
+        ensures bound { WhateverPassed self.now (λ asks octets frames rest. result ≤ client_bound self.now) }
         ensures done { IsClientDone self.now → result ≡ 0 }
     {
         self.end.held()
@@ -94,9 +90,8 @@ impl ClientChannel {
     /// frame that the server sends, and 4 times the largest message that this end accepts.
     #[inline]
     pub fn bound(&self) -> usize
-        ensures stands { (asks : List Placed) (octets : List ℕ) (frames : List Frame) (rest : List ℕ)
-            → ClientStands self.now asks octets frames rest
-            → result ≡ client_bound_behind (client_limits self.now) (received frames).ack }
+        ensures stands { WhateverPassed self.now (λ asks octets frames rest.
+            result ≡ client_bound_behind (client_limits self.now) (received frames).ack) }
         ensures is { result ≡ client_bound self.now }
     {
         self.end.bound
@@ -114,9 +109,7 @@ impl ClientChannel {
 
     /// The RequestId of the next call, renewal or CLO; 2 where the channel failed or was closed.
     pub fn next_id(&self) -> u32
-        ensures stands { (asks : List Placed) (octets : List ℕ) (frames : List Frame) (rest : List ℕ)
-            → ClientStands self.now asks octets frames rest
-            → result ≡ next_id (asked_in asks) }
+        ensures stands { WhateverPassed self.now (λ asks octets frames rest. result ≡ next_id (asked_in asks)) }
         ensures done { IsClientDone self.now → result ≡ 2 }
     {
         match &self.end.phase {
@@ -137,9 +130,8 @@ impl ClientChannel {
     /// which succeeds. Failing allocations are not considered, and the function allocates nothing.
     pub fn judge(&self, before: usize, len: usize) -> Result<(), AskFault>
         ensures judges { JudgesLength self.now before len result }
-        ensures stands { (asks : List Placed) (octets : List ℕ) (frames : List Frame) (rest : List ℕ)
-            → ClientStands self.now asks octets frames rest
-            → JudgesBy (λ body. first_reason (call_reasons (received frames) (asked_in asks) before body)) len result }
+        ensures stands { WhateverPassed self.now (λ asks octets frames rest.
+            JudgesBy (λ body. first_reason (call_reasons (received frames) (asked_in asks) before body)) len result) }
     {
         match &self.end.phase {
             Phase::Open(talking) => talking.judge(before, len),
@@ -154,29 +146,22 @@ impl ClientChannel {
         ensures answers { AnswersFor (call_refused self.old 0 body.now) result }
         ensures behind { OnOk result (out.new.items ≡ out.old.items ++ appended out.old.items out.new.items) }
         ensures len { IfOk result (λ asked. asked.len ≡ length (appended out.old.items out.new.items)) }
-        ensures sent { IfOk result
-            (λ asked. SendsCall self.old (client_next self.old) body.now asked.id
+        ensures sent { IfOk result (λ asked. SendsCall self.old (client_next self.old) body.now asked.id
             (appended out.old.items out.new.items) (client_next self.new)) }
         ensures frames { IfOk result
             (λ asked. AreFramesOf asked.frame_len (appended out.old.items out.new.items)) }
         // The same by what was received and sent, also inside a frame or a message.
-        ensures refuses { (asks : List Placed) (octets : List ℕ) (frames : List Frame) (rest : List ℕ)
-            → ClientStands self.old asks octets frames rest
-            → AnswersFor (first_reason (call_reasons (received frames) (asked_in asks) 0 body.now)) result }
-        ensures calls { (asks : List Placed) (octets : List ℕ) (frames : List Frame) (rest : List ℕ)
-            → ClientStands self.old asks octets frames rest
-            → IfOk result (λ asked. IsCalled (received frames) (asked_in asks) (client_next self.old) body.now asked.id
-            (appended out.old.items out.new.items) (client_next self.new)) }
-        ensures stands { (asks : List Placed) (octets : List ℕ) (frames : List Frame) (rest : List ℕ)
-            → ClientStands self.old asks octets frames rest
-            → IfOk result (λ asked. ClientStands self.new (asks ++ (length octets, Call asked.id) ∷ []) octets frames
-            rest) }
+        ensures refuses { WhateverPassed self.old (λ asks octets frames rest.
+            AnswersFor (first_reason (call_reasons (received frames) (asked_in asks) 0 body.now)) result) }
+        ensures calls { WhateverPassed self.old (λ asks octets frames rest. IfOk result (λ asked.
+            IsCalledBetween self.old self.new asks frames body.now asked.id (appended out.old.items out.new.items))) }
+        ensures stands { WhateverPassed self.old (λ asks octets frames rest. IfOk result (λ asked.
+            ClientStands self.new (asks ++ (length octets, Call asked.id) ∷ []) octets frames rest)) }
         ensures err { OnErr result (out.new.items ≡ out.old.items) }
 
         // After a fault the channel is in the state before, and sends next what it would have sent.
-        ensures kept { (asks : List Placed) (octets : List ℕ) (frames : List Frame) (rest : List ℕ)
-            → ClientStands self.old asks octets frames rest
-            → OnErr result (ClientStands self.new asks octets frames rest) }
+        ensures kept { WhateverPassed self.old (λ asks octets frames rest.
+            OnErr result (ClientStands self.new asks octets frames rest)) }
         ensures next { OnErr result (client_next self.new ≡ client_next self.old) }
         ensures done { IsClientDone self.old → (result ≡ Err NotOpen) × (self.new ≡ self.old) }
         ensures same { SameClient self.old self.new }
@@ -195,21 +180,16 @@ impl ClientChannel {
         ensures sent { IfOk result (λ r. SendsCall self.old (client_next self.old) body.now r.0 r.1.items
             (client_next self.new)) }
         // The same by what was received and sent, also inside a frame or a message.
-        ensures refuses { (asks : List Placed) (octets : List ℕ) (frames : List Frame) (rest : List ℕ)
-            → ClientStands self.old asks octets frames rest
-            → AnswersFor (first_reason (call_reasons (received frames) (asked_in asks) 0 body.now)) result }
-        ensures calls { (asks : List Placed) (octets : List ℕ) (frames : List Frame) (rest : List ℕ)
-            → ClientStands self.old asks octets frames rest
-            → IfOk result (λ r. IsCalled (received frames) (asked_in asks) (client_next self.old) body.now r.0 r.1.items
-            (client_next self.new)) }
-        ensures stands { (asks : List Placed) (octets : List ℕ) (frames : List Frame) (rest : List ℕ)
-            → ClientStands self.old asks octets frames rest
-            → IfOk result (λ r. ClientStands self.new (asks ++ (length octets, Call r.0) ∷ []) octets frames rest) }
+        ensures refuses { WhateverPassed self.old (λ asks octets frames rest.
+            AnswersFor (first_reason (call_reasons (received frames) (asked_in asks) 0 body.now)) result) }
+        ensures calls { WhateverPassed self.old (λ asks octets frames rest.
+            IfOk result (λ r. IsCalledBetween self.old self.new asks frames body.now r.0 r.1.items)) }
+        ensures stands { WhateverPassed self.old (λ asks octets frames rest.
+            IfOk result (λ r. ClientStands self.new (asks ++ (length octets, Call r.0) ∷ []) octets frames rest)) }
 
         // After a fault the channel is in the state before, and sends next what it would have sent.
-        ensures kept { (asks : List Placed) (octets : List ℕ) (frames : List Frame) (rest : List ℕ)
-            → ClientStands self.old asks octets frames rest
-            → OnErr result (ClientStands self.new asks octets frames rest) }
+        ensures kept { WhateverPassed self.old (λ asks octets frames rest.
+            OnErr result (ClientStands self.new asks octets frames rest)) }
         ensures next { OnErr result (client_next self.new ≡ client_next self.old) }
         ensures done { IsClientDone self.old → (result ≡ Err NotOpen) × (self.new ≡ self.old) }
         ensures same { SameClient self.old self.new }
@@ -229,17 +209,12 @@ impl ClientChannel {
         ensures sent { IfOk result (λ r. SendsRenewal self.old (client_next self.old) moment r.0 r.1.items
             (client_next self.new)) }
         // The same by what was received and sent.
-        ensures refuses { (asks : List Placed) (octets : List ℕ) (frames : List Frame) (rest : List ℕ)
-            → ClientStands self.old asks octets frames rest
-            → AnswersFor (first_reason (renewing_reasons (received frames) (asked_in asks))) result }
-        ensures renews { (asks : List Placed) (octets : List ℕ) (frames : List Frame) (rest : List ℕ)
-            → ClientStands self.old asks octets frames rest
-            → IfOk result (λ r. IsRenewalWith (received frames) (asked_in asks) (client_next self.old) moment r.0
-            r.1.items
-            (client_next self.new)) }
-        ensures stands { (asks : List Placed) (octets : List ℕ) (frames : List Frame) (rest : List ℕ)
-            → ClientStands self.old asks octets frames rest
-            → IfOk result (λ r. ClientStands self.new (asks ++ (length octets, Renewal r.0) ∷ []) octets frames rest) }
+        ensures refuses { WhateverPassed self.old (λ asks octets frames rest.
+            AnswersFor (first_reason (renewing_reasons (received frames) (asked_in asks))) result) }
+        ensures renews { WhateverPassed self.old (λ asks octets frames rest. IfOk result (λ r. IsRenewalWith
+            (received frames) (asked_in asks) (client_next self.old) moment r.0 r.1.items (client_next self.new))) }
+        ensures stands { WhateverPassed self.old (λ asks octets frames rest.
+            IfOk result (λ r. ClientStands self.new (asks ++ (length octets, Renewal r.0) ∷ []) octets frames rest)) }
         ensures unchanged { OnErr result (self.new ≡ self.old) }
         ensures same { SameClient self.old self.new }
         ensures bound { client_bound self.new ≡ client_bound self.old }
@@ -255,13 +230,10 @@ impl ClientChannel {
         ensures answers { AnswersFor (closing_refused self.old) result }
         ensures sent { IfOk result (λ out. SendsClosing self.old (client_next self.old) moment out.items) }
         // The same by what was received and sent.
-        ensures refuses { (asks : List Placed) (octets : List ℕ) (frames : List Frame) (rest : List ℕ)
-            → ClientStands self.old asks octets frames rest
-            → AnswersFor (first_reason (closing_reasons (received frames))) result }
-        ensures closes { (asks : List Placed) (octets : List ℕ) (frames : List Frame) (rest : List ℕ)
-            → ClientStands self.old asks octets frames rest
-            → IfOk result
-            (λ out. IsCloseWith (received frames) (asked_in asks) (client_next self.old) moment out.items) }
+        ensures refuses { WhateverPassed self.old (λ asks octets frames rest.
+            AnswersFor (first_reason (closing_reasons (received frames))) result) }
+        ensures closes { WhateverPassed self.old (λ asks octets frames rest. IfOk result (λ out.
+            IsCloseWith (received frames) (asked_in asks) (client_next self.old) moment out.items)) }
         ensures done { OnOk result (IsClientDone self.new) }
         ensures unchanged { OnErr result (self.new ≡ self.old) }
         ensures same { SameClient self.old self.new }
@@ -275,13 +247,10 @@ impl ClientChannel {
     fn closing(&self, moment: DateTime) -> Result<Vec<u8>, AskFault>
         ensures answers { AnswersFor (closing_refused self.now) result }
         ensures sent { IfOk result (λ out. SendsClosing self.now (client_next self.now) moment out.items) }
-        ensures refuses { (asks : List Placed) (octets : List ℕ) (frames : List Frame) (rest : List ℕ)
-            → ClientStands self.now asks octets frames rest
-            → AnswersFor (first_reason (closing_reasons (received frames))) result }
-        ensures closes { (asks : List Placed) (octets : List ℕ) (frames : List Frame) (rest : List ℕ)
-            → ClientStands self.now asks octets frames rest
-            → IfOk result
-            (λ out. IsCloseWith (received frames) (asked_in asks) (client_next self.now) moment out.items) }
+        ensures refuses { WhateverPassed self.now (λ asks octets frames rest.
+            AnswersFor (first_reason (closing_reasons (received frames))) result) }
+        ensures closes { WhateverPassed self.now (λ asks octets frames rest. IfOk result (λ out.
+            IsCloseWith (received frames) (asked_in asks) (client_next self.now) moment out.items)) }
     {
         match &self.end.phase {
             Phase::Open(talking) => {
@@ -305,8 +274,7 @@ impl ClientChannel {
     /// The event that is returned. `moment` is the timestamp of an OPN request.
     fn answer(&mut self, event: Event, moment: DateTime) -> Result<ClientEvent, ClientTakeFault>
         ensures answers { (asks : List Placed) (octets : List ℕ) (told : List ClientTold)
-            → EndsWithEvent event self.old asks octets told
-            → AnswersEvent moment result self.new asks octets told }
+            → EndsWithEvent event self.old asks octets told → AnswersEvent moment result self.new asks octets told }
         ensures same { SameClient self.old self.new }
         ensures next { client_next self.new ≡ client_next self.old }
     {
@@ -332,9 +300,8 @@ impl ClientChannel {
         piece: &[u8],
         moment: DateTime,
     ) -> Taken<Result<ClientEvent, ClientTakeFault>>
-        ensures answers { (asks : List Placed) (octets : List ℕ) (told : List ClientTold)
-            → ClientGoes self.old asks octets told
-            → ClientAnswers moment piece.now (outcome_counted result.size result.outcome) self.new asks octets told }
+        ensures answers { WhateverWasHeard self.old
+            (ClientAnswers moment piece.now (outcome_counted result.size result.outcome) self.new) }
         ensures progress { ClientProgress piece.now (outcome_counted result.size result.outcome) }
         ensures same { SameClient self.old self.new }
         ensures next { client_next self.new ≡ client_next self.old }
@@ -365,9 +332,7 @@ impl ClientChannel {
         piece: &[u8],
         moment: DateTime,
     ) -> Result<(usize, ClientEvent), ClientTakeFault>
-        ensures answers { (asks : List Placed) (octets : List ℕ) (told : List ClientTold)
-            → ClientGoes self.old asks octets told
-            → ClientAnswers moment piece.now result self.new asks octets told }
+        ensures answers { WhateverWasHeard self.old (ClientAnswers moment piece.now result self.new) }
         ensures progress { ClientProgress piece.now result }
         ensures closed { IsClientDone self.old → (result ≡ Err Closed) × (self.new ≡ self.old) }
         // After `OutOfMemory` the bound is what it was before the call.
