@@ -3,8 +3,7 @@
 use crate::asked::asked;
 use crate::fault::Fault;
 use crate::lines::{gathering, moment, stream};
-use crate::names::{client_fault, loop_fault, memory_refused, outcome};
-use crate::serve::serve;
+use crate::names::{client_fault, loop_fault};
 use std::alloc::{AllocError, Global};
 
 /// What is printed of a line: the line with its response after it, or alone where it is no
@@ -26,14 +25,11 @@ pub fn answered(alloc: Global, line: &str) -> Result<String, AllocError> {
 fn answer(alloc: Global, kind: &str, words: &str) -> Result<String, Fault> {
     match kind {
         "asked" => asked(alloc, words),
-        "serve" => serve(alloc, words),
-        "no-memory" => memory_refused(alloc, words),
         "stream" => stream(alloc, words),
         "gathering" => gathering(alloc, words),
         "moment" => moment(alloc, words),
         "client-fault" => client_fault(alloc, words),
         "loop-fault" => loop_fault(alloc, words),
-        "outcome" => outcome(alloc, words),
         _ => Err(Fault::NoRow),
     }
 }

@@ -10,7 +10,6 @@ mod asked;
 mod fault;
 mod lines;
 mod names;
-mod serve;
 mod texts;
 
 use std::io;

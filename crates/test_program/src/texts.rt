@@ -3,15 +3,6 @@
 use crate::fault::{Fault, or_no_row};
 use std::alloc::Global;
 
-/// Bytes of a text, as a row has them.
-pub fn marked(alloc: Global, octets: &[u8]) -> Result<String, Fault> {
-    let Ok(text) = str::from_utf8(octets) else {
-        return Err(Fault::NoRow);
-    };
-    let text = text.replace(alloc, "\\", "\\\\")?;
-    Ok(text.replace(alloc, "\n", "\\n")?)
-}
-
 /// The next word, and what is after it.
 pub fn first_word(words: &str) -> (&str, &str) {
     words.split_once(' ').unwrap_or((words, ""))

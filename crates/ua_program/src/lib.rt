@@ -27,18 +27,4 @@ mod tasks;
 mod turns;
 mod version;
 
-pub use ask::{policy_of, read_question, url_of, write_question};
-pub use loop_line::{LoopLine, MOST_OCTETS};
-pub use looping::{carry_over, run_script};
 pub use program::{refuse_words, run};
-pub use script::{Looped, parse_lines, push_end, run_lines};
-pub use ua_exchange::limits;
-pub use ua_report::{Fault, Heard, LoopFault, Reason, Stop, Telling};
-pub use ua_serving::{
-    LiveFile, Plant, Setup, StandardServices, TimeKeeper, push_outcome, say_no_memory, serve_all,
-    serve_line, serve_places, services, standard_services,
-};
-pub use ua_words::{
-    ALL_CONNECTIONS, Address, AskServer, Asked, BadWord, Dissect, ListEndpoints, Loop, Parsed,
-    ReadNodes, Rounds, Serve, Task, WriteNode, parse,
-};

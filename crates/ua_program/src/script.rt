@@ -11,4 +11,3 @@ mod printed;
 
 pub use lines::parse_lines;
 pub use looped::{Looped, run_lines};
-pub use printed::push_end;

@@ -1,5 +1,4 @@
 -- What a script is told to have met, of what a line, or the answer to it, is told to have met.
-use Rattle.std.specs.Prelude.{ℕ}
 use Rattle.ua_report.specs.declared.loop_fault.LoopFault.{LoopFault}
 use Rattle.ua_report.specs.declared.loop_fault.LoopFault.TheVariants.{ScriptLine as OfLine, Service, UnknownResponse, NoMemory}
 use Rattle.ua_answers.specs.declared.fault.AnswerFault.{AnswerFault}

@@ -3,8 +3,7 @@
 //!
 //! ```
 //! let services = services(alloc, "ns=1;s=Pump\trw\tPump\tInt32\t5\n", 4840)?;
-//! // the client at the other end of `line` is served; `connection 1 Closed` is its line
-//! let text = serve_line(alloc, &mut line, &mut services, 1, 0, &mut moments)?;
+//! // a client may be served over any transport: `ua_server` has `serve`
 //! ```
 #![tactic(auto)]
 
@@ -16,9 +15,4 @@ mod standard;
 mod stored;
 mod time_keeper;
 
-pub use at_once::{Plant, serve_places};
-pub use live::LiveFile;
-pub use serve::{push_outcome, say_no_memory, serve_all, serve_connections, serve_line, services};
-pub use setup::Setup;
-pub use standard::{StandardServices, standard_services};
-pub use time_keeper::TimeKeeper;
+pub use serve::{serve_connections, services};

@@ -1,10 +1,11 @@
 //! `ua serve`: serves connections on a port of this machine, one after the other or many at a time.
 
-ghost use Rattle.std.specs.Prelude.{◌≡◌, ◌⊎◌, ◌++◌, None, Some, IfOk, IfErr, OnOk, string_bytes, true, false};
+ghost use Rattle.std.specs.Prelude.{◌≡◌, ◌⊎◌, ◌++◌, None, Some, IfOk, IfErr, OnOk, string_bytes, true, false, ⊤};
 ghost use Rattle.std.specs.Io.KnownBytes.{Appends};
 ghost use Rattle.std.specs.IoError.{raw_os_error};
-ghost use Rattle.ua_server.specs.Serving.{Serves};
+ghost use Rattle.ua_server.specs.ServingOver.{ServesApplication};
 ghost use Rattle.ua_server.specs.State.{begun};
+ghost use Rattle.ua_server.specs.declared.watch.Unwatched.{Unwatched};
 ghost use Rattle.ua_report.specs.Refused.{RefusesNodes};
 ghost use Rattle.ua_serving.specs.AtOnce.{ServesAsked, ServesSomeAsked};
 ghost use Rattle.ua_serving.specs.Served.{AddsOutcome, BeginsWith, HasServed, HasServedSome, HasTold};
@@ -37,7 +38,7 @@ use ua_report::{
 };
 use ua_server::{
     AnsweredRequest, Application, End, Endpoint, NoApplication, ServeFault, ServeTerms, Services,
-    Unwatched, Watch, serve, serve_application,
+    Unwatched, Watch, serve_application,
 };
 use ua_services::RequestKind;
 use ua_services::session_requests::local_url;
@@ -68,7 +69,7 @@ pub fn services<'a>(alloc: Global, text: &str, port: u16) -> Result<Services, Fa
 }
 
 /// Appends the outcome of a connection.
-pub fn push_outcome(out: &mut String, outcome: Result<End, ServeFault>) -> Result<(), AllocError>
+fn push_outcome(out: &mut String, outcome: Result<End, ServeFault>) -> Result<(), AllocError>
     ensures { OnOk result (AddsOutcome outcome (string_bytes out.old) (string_bytes out.new)) }
 {
     match outcome {
@@ -101,27 +102,8 @@ struct Terms {
     number: u32,
     /// Whether each request has a line.
     requests: bool,
-    limits: Limits,
-}
-
-/// Serves the client at the other end of a transport, with this many bytes as the most of a
-/// response's body; 0 is no limit. Returns the line of text with the outcome of the connection.
-pub fn serve_line<L: Line, M: Moments>(
-    alloc: Global,
-    line: &mut L,
-    services: &mut Services,
-    number: u32,
+    /// The most bytes of a response's body; 0 is no limit.
     most: u32,
-    moments: &mut M,
-) -> Result<String, AllocError>
-    ensures { IfOk result
-        (λ text.
-        TellsOf number most (λ limits outcome. Serves limits number M.gives (begun services.old) moments.old outcome
-        services.new moments.new (L.traffic line.old) (L.traffic line.new)) (string_bytes text)) }
-{
-    let limits = limits_for(most);
-    let outcome = serve(alloc, line, services, limits, number, moments);
-    outcome_line(alloc, number, outcome)
 }
 
 /// The line of text with the outcome of a connection.
@@ -254,7 +236,7 @@ fn tell_beside<'a, L: Line, M: Moments, A: Application, O: Write>(
     };
     let serving = ServeTerms {
         alloc: terms.alloc,
-        limits: terms.limits,
+        limits: limits_for(terms.most),
         channel_id: terms.number,
     };
     let outcome = serve_application(line, services, serving, moments, &mut lines, application);
@@ -271,6 +253,30 @@ fn tell_beside<'a, L: Line, M: Moments, A: Application, O: Write>(
         Some(Halt::Memory) => Err(Stop::Fault(Fault::NoMemory)),
         Some(Halt::Output(error)) => Err(Stop::Output(error)),
     }
+}
+
+/// Serves the client at the other end of a transport beside an application, without a line of any
+/// request. Returns the line of text with the outcome of the connection.
+fn serve_silently<L: Line, M: Moments, A: Application>(
+    line: &mut L,
+    services: &mut Services,
+    terms: Terms,
+    moments: &mut M,
+    application: &mut A,
+) -> Result<String, AllocError>
+    ensures { IfOk result (λ text. TellsOf terms.number terms.most (λ limits outcome. (seen : Unwatched × Unwatched)
+        × ServesApplication limits terms.number M.gives (λ before request after. ⊤) A.changes
+        (begun services.old, application.old) (moments.old, seen.0) outcome (services.new, application.new)
+        (moments.new, seen.1) (L.traffic line.old) (L.traffic line.new)) (string_bytes text)) }
+{
+    let mut watch = Unwatched;
+    let serving = ServeTerms {
+        alloc: terms.alloc,
+        limits: limits_for(terms.most),
+        channel_id: terms.number,
+    };
+    let outcome = serve_application(line, services, serving, moments, &mut watch, application);
+    outcome_line(terms.alloc, terms.number, outcome)
 }
 
 /// Serves the client at the other end of a transport beside an application, with the lines of its
@@ -292,20 +298,7 @@ fn serve_beside<'a, L: Line, M: Moments, A: Application, O: Write>(
     if terms.requests {
         return tell_beside(line, services, terms, moments, application, out);
     }
-    let serving = ServeTerms {
-        alloc: terms.alloc,
-        limits: terms.limits,
-        channel_id: terms.number,
-    };
-    let outcome = serve_application(
-        line,
-        services,
-        serving,
-        moments,
-        &mut Unwatched,
-        application,
-    );
-    Ok(outcome_line(terms.alloc, terms.number, outcome)?)
+    Ok(serve_silently(line, services, terms, moments, application)?)
 }
 
 /// Serves the client of a connection beside an application, after which the connection has ended.
@@ -351,7 +344,7 @@ fn serve_asked<'a, R: Clock + AllocGlobal, S: Read + Write + Drop, O: Write>(
         alloc: rt.alloc(),
         number,
         requests: asked.requests,
-        limits: limits_for(asked.answers),
+        most: asked.answers,
     };
     let mut moments = ClockMoments::new(rt);
     if asked.standard {
@@ -423,7 +416,7 @@ fn next_stream<'a, R: Net + Clock, E: Write>(
 }
 
 /// Prints that an allocation failed at a connection. The function allocates nothing.
-pub fn say_no_memory<'a, O: Write>(number: u32, out: &mut O) -> Result<(), Stop<'a>>
+fn say_no_memory<'a, O: Write>(number: u32, out: &mut O) -> Result<(), Stop<'a>>
     ensures said { OnOk result
         (Appends (O.contents out.old) (O.contents out.new) (connection_line number no_memory_text)) }
     ensures failed { IfErr result (λ stop. StopsWriting stop) }
