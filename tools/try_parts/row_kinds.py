@@ -89,19 +89,21 @@ class Kinds:
         ran = self.place.run(self.place.words(words))
         return f"{ran.status} out {presence(ran.out)} err {presence(ran.err)}"
 
-    def out(self, words: str) -> str:
+    def failing(self, stream: str, words: str) -> Ran:
+        """The run of which this stream takes so many bytes, and fails behind them."""
         size, words = first_word(words)
-        ran = self.place.run(self.place.words(words), out=number_of(size))
+        return self.place.run(self.place.words(words), **{stream: number_of(size)})
+
+    def out(self, words: str) -> str:
+        ran = self.failing("out", words)
         return f"{ran.status} err {presence(ran.err)}"
 
     def out_told(self, words: str) -> str:
-        size, words = first_word(words)
-        ran = self.place.run(self.place.words(words), out=number_of(size))
+        ran = self.failing("out", words)
         return f'{ran.status} err "{marked(ran.err)}"'
 
     def err(self, words: str) -> str:
-        size, words = first_word(words)
-        ran = self.place.run(self.place.words(words), err=number_of(size))
+        ran = self.failing("err", words)
         return f"{ran.status} out {presence(ran.out)}"
 
     def no_words(self, words: str) -> str:
