@@ -20,7 +20,7 @@ use Rattle.ua_chunk.specs.Item.{Item}
 use Rattle.ua_chunk.specs.Item.Item.{Whole}
 use Rattle.ua_chunk.specs.Kept.{kept, kept_messages}
 use Rattle.ua_chunk.specs.Open.{open_ids}
-use Rattle.ua_chunk.specs.Pending.{without, is_under, message_under_id}
+use Rattle.ua_chunk.specs.Pending.{without, is_under, message_under_id, nothing_of}
 use Rattle.ua_chunk.specs.Refusal.{chunk_refusal, passes, most_open, IsFor, OpenWithin}
 use Rattle.ua_chunk.specs.Sequence.{may_follow}
 use Rattle.ua_chunk.specs.View.{HasParts}
@@ -214,3 +214,29 @@ stays a b cs c s none closed octets pending = record {
       (not (is_abort_flag c.flag) && passes a.octets (length (joined (gathered cs c)))) (not (is_abort_flag c.flag) && passes a.chunks (length (gathered cs c)))
       none));
 }
+
+-- ---- a whole message where none is unfinished
+
+pub alone_given : (ms : List Pending) (c : Chunk) (o : List (List ℕ)) → ms ≡ [] → c.flag ≡ F → o ≡ filled (c.body ∷ [])
+    → Whole c.request (concat o) ∷ [] ≡ given_kept (message_under_id c.request ms) c
+alone_given ms c o none flag parts =
+    ap (λ (b : List (List ℕ)). Whole c.request (concat b) ∷ []) parts
+    ∙ (ap (λ (f : Flag). given_kept_by f (message_under_id c.request []) c) (sym flag)
+    ∙ ap (λ (t : List Pending). given_kept (message_under_id c.request t) c) (sym none))
+
+pub alone_parts : (ms : List Pending) (c : Chunk) (o : List (List ℕ)) → ms ≡ [] → o ≡ filled (c.body ∷ [])
+    → o ≡ (message_under_id c.request ms).message ++ filled (c.body ∷ [])
+alone_parts ms c o none parts = parts ∙ ap (λ (t : List Pending). (message_under_id c.request t).message ++ filled (c.body ∷ [])) (sym none)
+
+pub alone_left : (ms : List Pending) (c : Chunk) → ms ≡ [] → c.flag ≡ F
+    → ms ≡ without (is_under c.request) ms ++ put_back (message_under_id c.request ms) c
+alone_left ms c none flag =
+    none
+    ∙ (ap (λ (f : Flag). put_back_by f (message_under_id c.request []) c) (sym flag)
+    ∙ ap (λ (t : List Pending). without (is_under c.request) t ++ put_back (message_under_id c.request t) c) (sym none))
+
+pub alone_unrefused : (a : Assembler) (cs : List Chunk) (c : Chunk) → Stands a cs → a.chunks < 2 ^ 32 → a.pending ≡ []
+    → refusal_kept a (nothing_of c.request) c ≡ None → chunk_refusal a.octets a.chunks a.last cs c ≡ None
+alone_unrefused a cs c s h none refused =
+    refusal_is a a cs c s h refl refl refl (none ∙ ap (without (is_under c.request)) (sym none))
+    ∙ (ap (λ (t : List Pending). refusal_kept a (message_under_id c.request t) c) none ∙ refused)

@@ -9,6 +9,7 @@ use crate::chunk::Chunk;
 use crate::delivered::Delivered;
 use crate::fault::AssembleFault;
 use crate::flag::Flag;
+use crate::message::Message;
 use crate::pending::{Pending, PendingMessages};
 use std::alloc::{AllocError, Global};
 
@@ -58,12 +59,14 @@ impl Assembler {
     ghost use Rattle.std.specs.Prelude.{◌≡◌, ◌≤◌, ◌<◌, ◌*◌, ◌∷◌, ◌++◌, [], List, length, true, false};
     ghost use Rattle.std.specs.Prelude.{Some, None, IsTrue, IsFalse, OnOk, OnErr, IfOk, MatchResult};
     ghost use Rattle.ua_chunk.specs.declared.chunk.Chunk.{Chunk};
+    ghost use Rattle.ua_chunk.specs.declared.flag.Flag.TheVariants.{F as Final};
     ghost use Rattle.ua_chunk.specs.Assembling.{Stands, IsClosed, SameLimits, octet_limit, chunk_limit};
     ghost use Rattle.ua_chunk.specs.Assembling.{last_number, refusal_kept, given_kept, put_back};
     ghost use Rattle.ua_chunk.specs.Delivered.{given, delivered};
     ghost use Rattle.ua_chunk.specs.Open.{open_ids, open_octets};
     ghost use Rattle.ua_chunk.specs.Refusal.{chunk_refusal, IsFor};
     ghost use Rattle.ua_chunk.specs.Gathered.{filled, bodies, gathered};
+    ghost use Rattle.ua_chunk.specs.Pending.{nothing_of};
     ghost use Rattle.ua_chunk.specs.View.{delivered_items, HasParts};
 
     /// An assembler for messages of at most `octets` bytes and `chunks` chunks, 0 meaning no limit,
@@ -136,6 +139,57 @@ impl Assembler {
         }
     }
 
+    /// Whether a chunk is a whole message, no other is unfinished, and nothing is against it. Nearly
+    /// each chunk is one.
+    #[inline(always)]
+    fn takes_alone(&self, chunk: &Chunk) -> bool
+        ensures { IsTrue result → (self.now.closed ≡ false) × (self.now.pending ≡ []) × (chunk.now.flag ≡ Final)
+            × (refusal_kept self.now (nothing_of chunk.now.request) chunk.now ≡ None) }
+    {
+        if self.closed || !self.pending.is_empty() || !matches!(chunk.flag, Flag::F) {
+            return false;
+        }
+        follows(self.last, chunk.sequence)
+            && !sum_passes(self.octets, 0, chunk.body.len())
+            && !sum_passes(self.chunks, 0, 1)
+    }
+
+    /// Takes the next chunk, as [`Assembler::accept`] does.
+    #[inline(never)]
+    fn accept_among(&mut self, chunk: Chunk) -> Result<Option<Delivered>, AssembleFault>
+        ensures given { (cs : List Chunk) → Stands self.old cs →
+            IfOk result (λ d. delivered (cs ++ chunk ∷ []) ≡ delivered cs ++ delivered_items d) }
+        ensures items { (cs : List Chunk) → Stands self.old cs → IfOk result (λ d. given cs chunk ≡ delivered_items d) }
+        ensures parts { (cs : List Chunk) → Stands self.old cs
+            → IfOk result (λ d. HasParts d (bodies (gathered cs chunk))) }
+        ensures stands { (cs : List Chunk) → Stands self.old cs → OnOk result (Stands self.new (cs ++ chunk ∷ [])) }
+        ensures last { OnOk result (last_number self.new ≡ Some chunk.sequence) }
+        ensures limits { SameLimits self.old self.new }
+        ensures faults { (cs : List Chunk) → Stands self.old cs →
+            let reason = chunk_refusal (octet_limit self.old) (chunk_limit self.old) (last_number self.old) cs chunk in
+            MatchResult result (λ _. reason ≡ None) (IsFor reason) }
+        ensures failed { (cs : List Chunk) → Stands self.old cs → OnErr result (IsClosed self.new) }
+        ensures closed { IsClosed self.old → (result ≡ Err AssembleFault.Closed) × IsClosed self.new }
+        ensures unchanged { IsClosed self.old → self.new ≡ self.old }
+    {
+        if self.closed {
+            return Err(AssembleFault::Closed);
+        }
+        let _chunks = self.chunks;
+        let pending = self.pending.take_out(chunk.request);
+        if let Some(fault) = self.refusal(&pending, &chunk) {
+            self.close();
+            return Err(fault);
+        }
+        match self.add(pending, chunk) {
+            Ok(delivered) => Ok(delivered),
+            Err(_) => {
+                self.close();
+                Err(AssembleFault::OutOfMemory)
+            }
+        }
+    }
+
     /// Takes the next chunk, and returns the message that it ends, if it ends one. After a fault
     /// the assembler takes nothing more.
     #[inline(always)]
@@ -161,22 +215,12 @@ impl Assembler {
         ensures closed { IsClosed self.old → (result ≡ Err AssembleFault.Closed) × IsClosed self.new }
         ensures unchanged { IsClosed self.old → self.new ≡ self.old }
     {
-        if self.closed {
-            return Err(AssembleFault::Closed);
-        }
         let _chunks = self.chunks;
-        let pending = self.pending.take_out(chunk.request);
-        if let Some(fault) = self.refusal(&pending, &chunk) {
-            self.close();
-            return Err(fault);
+        if self.takes_alone(&chunk) {
+            self.last = Some(chunk.sequence);
+            return Ok(Some(Delivered::Whole(chunk.request, Message::with_body(chunk.body))));
         }
-        match self.add(pending, chunk) {
-            Ok(delivered) => Ok(delivered),
-            Err(_) => {
-                self.close();
-                Err(AssembleFault::OutOfMemory)
-            }
-        }
+        self.accept_among(chunk)
     }
 
     /// Takes the SequenceNumber of a frame that is not part of a message: an OPN or a CLO.

@@ -53,6 +53,21 @@ impl Message {
         }
     }
 
+    /// The message of one chunk with this body.
+    #[inline(always)]
+    pub(crate) fn with_body(body: Bytes) -> Message
+        ensures { result ≡ filled (body ∷ []) }
+    {
+        let len = body.len();
+        if len == 0 {
+            return Message::new();
+        }
+        Message {
+            parts: HeldParts::One(body),
+            len,
+        }
+    }
+
     /// The number of bytes.
     #[inline]
     pub fn len(&self) -> usize

@@ -54,7 +54,7 @@ impl Model for PendingMessages {
 }
 
 impl PendingMessages {
-    ghost use Rattle.std.specs.Prelude.{◌≡◌, ◌∷◌, ◌++◌, [], length, OnOk, OnErr};
+    ghost use Rattle.std.specs.Prelude.{◌≡◌, ◌↔◌, ◌∷◌, ◌++◌, [], length, IsTrue, OnOk, OnErr};
     ghost use Rattle.std.specs.List.{position};
     ghost use Rattle.ua_chunk.specs.Pending.{octets_in, is_under, message_under_id, without};
 
@@ -74,6 +74,14 @@ impl PendingMessages {
         ensures { result ≡ length self.now }
     {
         self.messages.len()
+    }
+
+    /// Whether there are none.
+    #[inline]
+    pub fn is_empty(&self) -> bool
+        ensures { IsTrue result ↔ (self.now ≡ []) }
+    {
+        self.messages.is_empty()
     }
 
     /// The number of bytes that have arrived of all messages.
