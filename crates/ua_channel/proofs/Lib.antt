@@ -21,6 +21,7 @@ mod ClientGreets
 pub mod ClientAsking
 mod ClientStands
 mod AskedNext
+mod AskedOnce
 mod ClientOpenings
 pub mod ClientTalks
 mod ClientPhases

@@ -212,6 +212,11 @@ drops_first n (m ∷ ms) = not (m == n) || is_in n ms
 abbrev pub left_behind : Bool → ℕ → List ℕ → List ℕ
 left_behind ending request ids = if ending then filter (λ (id : ℕ). not (id == request)) ids else ids
 
+-- the first of these RequestIds does not occur again
+abbrev pub IsFirstOnce : List ℕ → Type 0
+IsFirstOnce [] = Unit {0}
+IsFirstOnce (id ∷ ids) = is_in id ids ≡ false
+
 -- the calls that stay pending after a chunk
 abbrev pub left_pending : Chunk → List ℕ → List ℕ
 left_pending c ids = left_behind (ends c) c.request ids

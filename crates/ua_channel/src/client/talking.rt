@@ -1,6 +1,7 @@
 //! A client's channel that is open.
 
-ghost use Rattle.std.specs.Prelude.{true, ◌≡◌, ◌<◌, ◌+◌, ◌^◌, ◌++◌, ◌∷◌, [], List, ℕ, length, OnErr, OnOk, IfOk};
+ghost use Rattle.std.specs.Prelude.{true, ◌≡◌, ◌<◌, ◌+◌, ◌^◌, ◌++◌, ◌∷◌, [], List, ℕ, length, drop};
+ghost use Rattle.std.specs.Prelude.{IsTrue, OnErr, OnOk, IfOk};
 ghost use Rattle.ua_builtin.specs.Reasons.{first_reason};
 ghost use Rattle.ua_frame.specs.Frames.{LetsIn};
 ghost use Rattle.ua_frame.specs.declared.limits.Limits.{Limits};
@@ -16,7 +17,8 @@ ghost use Rattle.ua_channel.specs.inside.ClientParts.{kept_renewal_reasons, IsRe
 ghost use Rattle.ua_channel.specs.inside.ClientParts.{TellsRenewal, chunk_token_reasons};
 ghost use Rattle.ua_channel.specs.inside.ClientParts.{chunk_reasons, refused_reasons, unasked_reasons, known_reasons};
 ghost use Rattle.ua_channel.specs.inside.ClientParts.{any_event, drops_first, left_behind, IsChunkAccepted};
-ghost use Rattle.ua_channel.specs.inside.ClientParts.{IsDeliveredWith, IsTakenWith, ClientTakesFrame, DeliversEvent};
+ghost use Rattle.ua_channel.specs.inside.ClientParts.{IsDeliveredWith, IsFirstOnce, IsTakenWith};
+ghost use Rattle.ua_channel.specs.inside.ClientParts.{ClientTakesFrame, DeliversEvent};
 ghost use Rattle.ua_channel.specs.ClientSends.{AreFramesOf, appended};
 ghost use Rattle.ua_channel.specs.ClientTable.{client_reasons, answer_gate, reply_gate};
 ghost use Rattle.ua_channel.specs.ClientTokens.{from_last};
@@ -85,10 +87,24 @@ fn release_before(tokens: &mut Vec<u32>, token: u32)
     }
 }
 
-/// Drops a RequestId.
-fn forget(ids: &mut Vec<u32>, request: u32)
-    ensures { ids.new.items ≡ left_behind true request ids.old.items }
+/// Whether a RequestId is the first of these.
+fn is_first(ids: &[u32], request: u32) -> bool
+    ensures { IsTrue result → ids.now ≡ request ∷ drop 1 ids.now }
 {
+    match ids.split_first() {
+        None => false,
+        Some((first, _)) => *first == request,
+    }
+}
+
+/// Drops a RequestId, where the first of them does not occur again. Nearly always it is that one.
+fn forget(ids: &mut Vec<u32>, request: u32)
+    ensures { IsFirstOnce ids.old.items → ids.new.items ≡ left_behind true request ids.old.items }
+{
+    if is_first(ids.as_slice(), request) {
+        ids.remove(0);
+        return;
+    }
     ids.retain(|id| *id != request);
 }
 
@@ -228,7 +244,7 @@ impl Talking {
         ends: bool,
         delivered: Option<Delivered>,
     ) -> Result<Option<Event>, EndFault>
-        ensures { Judged (unasked_reasons self.old request)
+        ensures { IsFirstOnce self.old.pending.items → Judged (unasked_reasons self.old request)
             (IsDeliveredWith self.old request token ends delivered self.new) result }
     {
         if !self.pending.contains(&request) {
@@ -244,7 +260,7 @@ impl Talking {
 
     /// Takes a chunk of this channel under a token that is held.
     fn on_known(&mut self, chunk: Chunk) -> Result<Option<Event>, EndFault>
-        ensures { (cs : List Chunk) → Stands self.old.assembler cs
+        ensures { (cs : List Chunk) → Stands self.old.assembler cs → IsFirstOnce self.old.pending.items
             → Judged (known_reasons self.old cs chunk) (IsTakenWith self.old cs chunk self.new) result }
     {
         let (request, token, ends) = (chunk.request, chunk.token, !chunk.flag.is_more());
@@ -256,7 +272,7 @@ impl Talking {
 
     /// Takes a chunk of a message.
     fn on_chunk(&mut self, chunk: Chunk) -> Result<Option<Event>, EndFault>
-        ensures { (cs : List Chunk) → Stands self.old.assembler cs
+        ensures { (cs : List Chunk) → Stands self.old.assembler cs → IsFirstOnce self.old.pending.items
             → Judged (chunk_reasons self.old cs chunk) (IsTakenWith self.old cs chunk self.new) result }
     {
         match self.judge_chunk(&chunk) {

@@ -1,3 +1,6 @@
+use Rattle.std.proofs.Common.{subst, sym}
+use Rattle.ua_channel.specs.inside.ClientParts.{IsFirstOnce}
+use Rattle.ua_channel.proofs.AskedOnce.{once_pending}
 use Rattle.ua_channel.proofs.ClientTalks.{renewal_judged, chunk_judged, stopped_opn}
 use Rattle.ua_channel.proofs.ClientGreets.{stopped_err}
 use Rattle.ua_channel.proofs.client.talking.Talking.on_frame.Goals as goal
@@ -5,7 +8,8 @@ use Rattle.ua_channel.proofs.client.talking.Talking.on_frame.Goals as goal
 pub returns-in-Msg : goal.returns-in-Msg
 returns-in-Msg c = λ limits before asked h let_in.
     chunk_judged limits c.args.self.now before asked c.on_chunk.new.self h c.args.frame c.read_chunk.result c.on_chunk.result c.in-Msg.is
-    c.read_chunk.ensures.found (c.on_chunk.ensures before.messages h.assembles)
+    c.read_chunk.ensures.found (c.on_chunk.ensures before.messages h.assembles
+    (subst IsFirstOnce (sym h.pending_are) (once_pending before.messages asked h.counted)))
 
 pub returns-in-Ok : goal.returns-in-Ok
 returns-in-Ok c = λ limits before asked h let_in.
