@@ -101,10 +101,7 @@ fn add_reply(replies: &mut Vec<Reply>, reply: Reply)
     ensures len { vec_len replies.new ≡ vec_len replies.old + 1 }
     ensures capacity { vec_capacity replies.old ≤ vec_capacity replies.new }
 {
-    match replies.push(reply) {
-        Ok(()) => {}
-        Err(failed) => drop(failed),
-    }
+    replies.push_reserved(reply);
 }
 
 /// Appends the replies before the first that is missing, in order, where memory is reserved for as

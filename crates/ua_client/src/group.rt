@@ -15,6 +15,7 @@ use std::alloc::Global;
 use std::marker::Model;
 use ua_builtin::WriteFault;
 use ua_channel::{AskFault, AskedCall, ClientChannel};
+use ua_chunk::CHUNK_HEADERS;
 use ua_services::{Request, empty_body, write_request};
 
 /// The body of a call, which is not empty.
@@ -142,6 +143,8 @@ pub fn judge_group<'a>(
     ensures bodies { IfOk result (λ group. group.bodies.items ≡ bodies_of requests.now) }
 {
     let mut bodies = Vec::new(alloc);
+    // without the reservation, memory is allocated as it is needed
+    let _has_room = bodies.reserve_exact(requests.len()).is_ok();
     for message in requests {
         let place = bodies.len();
         let body = match judge_request(alloc, channel, place, message) {
@@ -168,6 +171,17 @@ pub struct AskedGroup<'a> {
     pub calls: Vec<AskedCall>,
 }
 
+/// The number of bytes of the frames of calls with these bodies, where each has one chunk.
+fn frames_len(bodies: &[Body]) -> usize {
+    let mut len = 0usize;
+    for body in bodies {
+        len = len
+            .saturating_add(CHUNK_HEADERS)
+            .saturating_add(body.octets().len());
+    }
+    len
+}
+
 /// Sends a call of each request of a group, in order.
 pub fn ask_group<'a>(
     alloc: Global,
@@ -185,6 +199,9 @@ pub fn ask_group<'a>(
 {
     let mut octets = Vec::new(alloc);
     let mut calls = Vec::new(alloc);
+    // without the reservations, memory is allocated as it is needed
+    let _has_room = octets.reserve_exact(frames_len(&group.bodies)).is_ok();
+    let _has_room = calls.reserve_exact(group.bodies.len()).is_ok();
     let mut first = None;
     for body in &group.bodies {
         let Ok(call) = channel.call(body.octets(), &mut octets) else {

@@ -202,5 +202,5 @@ pub fn only_reply(mut replies: Vec<Reply>) -> Reply
     requires { length replies.items ≡ 1 }
     ensures { replies.items ≡ result ∷ [] }
 {
-    replies.remove(0)
+    replies.swap_remove(0)
 }
