@@ -37,12 +37,12 @@ below n f = Fits-lt-pow f
 lesser : (n m : ℕ) → m < 4294967296 → min n m < 4294967296
 lesser n m less = omega (arith, less)
 
--- what a client with these limits and a server send to open a channel can be written
-pub can_open_to : (b : Beginning) (limits : Limits) (url : Option (List ℕ)) (moment : DateTime) → CanBegin b → Fits w32 limits.receive_buffer_size
+-- what a client with these limits and a server send to open a channel at a time that can be written can be written
+pub can_open_at : (b : Beginning) (limits : Limits) (url : Option (List ℕ)) (moment : DateTime) → CanBegin b → Fits w32 limits.receive_buffer_size
     → Fits w32 limits.send_buffer_size → Fits w32 limits.max_message_size → Fits w32 limits.max_chunk_count
-    → FitsSigned w64 moment.ticks → IsTrue (text.encodable url) → CanOpenTo b limits url moment
+    → IsTrue (date_time.encodable moment) → IsTrue (text.encodable url) → CanOpenTo b limits url moment
 unfolding hello ack
-can_open_to b limits url moment can receive send octets chunks dated url_fits = record {
+can_open_at b limits url moment can receive send octets chunks dated url_fits = record {
   hello_fits =
       and_from _ _ refl
       (and_from _ _ (lt-ltb limits.receive_buffer_size (256 ^ 4) (below limits.receive_buffer_size receive))
@@ -60,9 +60,16 @@ can_open_to b limits url moment can receive send octets chunks dated url_fits = 
       (lesser b.limits.send_buffer_size limits.receive_buffer_size (below limits.receive_buffer_size receive)))
       (and_from _ _ (lt-ltb b.limits.max_message_size (256 ^ 4) can.octets) (lt-ltb b.limits.max_chunk_count (256 ^ 4) can.chunks))));
   on = can.on;
-  dated = moment_fits moment dated;
+  dated = dated;
   answered = can.dated;
 }
+
+-- the same of a time of 64 bits
+pub can_open_to : (b : Beginning) (limits : Limits) (url : Option (List ℕ)) (moment : DateTime) → CanBegin b → Fits w32 limits.receive_buffer_size
+    → Fits w32 limits.send_buffer_size → Fits w32 limits.max_message_size → Fits w32 limits.max_chunk_count
+    → FitsSigned w64 moment.ticks → IsTrue (text.encodable url) → CanOpenTo b limits url moment
+can_open_to b limits url moment can receive send octets chunks dated url_fits =
+    can_open_at b limits url moment can receive send octets chunks (moment_fits moment dated) url_fits
 
 -- the same of a server with the same limits
 pub can_open : (limits : Limits) (channel : ℕ) (first : State) (url : Option (List ℕ)) (moment : DateTime) → Fits w32 limits.receive_buffer_size

@@ -18,6 +18,7 @@ mod Faults
 mod Sounds
 mod Refused
 mod Begun
+mod Openings
 pub mod Pushes
 pub mod Conversing
 mod Courses

@@ -11,6 +11,7 @@
 ghost use Rattle.std.specs.Prelude.{◌≡◌, ◌⊎◌, ◌≤◌, ◌∷◌, ◌++◌, [], ℕ, List, Option, None, Some, Result};
 ghost use Rattle.std.specs.Prelude.{IfErr, IfOk, IsTrue, OnOk, map};
 ghost use Rattle.ua_wire.specs.Counted.{text};
+ghost use Rattle.ua_builtin.specs.DateTime.{date_time};
 ghost use Rattle.ua_builtin.specs.declared.date_time.DateTime.{DateTime};
 ghost use Rattle.ua_builtin.specs.declared.node_id.NodeId.{NodeId};
 ghost use Rattle.ua_frame.specs.Agreement.{url_length};
@@ -44,6 +45,7 @@ ghost use Rattle.ua_loopback.specs.Talking.{octets_of_turn, opening, session_req
 ghost use Rattle.ua_loopback.specs.Talking.{state_in, told_so_far, with_turn};
 ghost use Rattle.ua_loopback.specs.Turns.{turn_told};
 
+use std::alloc::Global;
 use ua_builtin::DateTime;
 use ua_client::laws::{calls_are_told_behind, clients_are_settled};
 use ua_frame::Limits;
@@ -72,6 +74,25 @@ pub fn openings_begin_talks(limits: Limits, moment: DateTime)
 {
     clients_are_settled();
 }
+
+/// So it does at any time that can be encoded, also one that only a clause names.
+pub fn dated_openings_begin_talks(limits: Limits)
+    ensures begins { (b : Beginning) (url : Option (List ℕ)) (moment : DateTime) (before after : Option Traffic)
+        (result : Result Client ClientFault) →
+        IsTrue (date_time.encodable moment) → IsTrue (text.encodable url) → CanBegin b → IsLineTo b [] [] before →
+        (OpensNothing before after result ⊎ OpensClient limits url moment before after result) →
+        IfOk result (λ client. IsTalking (opening b limits url moment) client after) }
+{
+    clients_are_settled();
+}
+
+/// There are talks, whatever the server, the limits of both ends, the URL and the times: a client
+/// and its transport to such a server can be as these laws suppose them.
+pub fn there_are_talks(alloc: Global, limits: Limits, moment: DateTime)
+    ensures begins { (b : Beginning) (url : Option (List ℕ)) → CanBegin b → IsTrue (text.encodable url) →
+        url_length url ≤ 4095 →
+        (x : Client) × (now : Option Traffic) × IsTalking (opening b limits url moment) x now }
+{}
 
 /// In a talk that goes on with an operation, the server reads just this operation more.
 pub fn talks_reach_the_server()
