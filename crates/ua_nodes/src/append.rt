@@ -66,6 +66,9 @@ impl NodeTable {
         let Some(variable) = self.get(&item.node_id) else {
             return refused(StatusCode::BAD_NODE_ID_UNKNOWN).append(out);
         };
+        if variable.gives_whole(item) {
+            return variable.append_value(stamps, moment, out);
+        }
         match variable.answer_beside(*out.allocator(), item, stamps, moment)? {
             Some(answer) => answer.append(out),
             None => variable.append_value(stamps, moment, out),

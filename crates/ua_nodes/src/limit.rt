@@ -108,7 +108,9 @@ impl NodeTable {
             drop(item);
             return;
         }
-        let _status = self.write_item(item, moment);
+        let mut item = item;
+        let _status = self.write_item(&mut item, moment);
+        drop(item);
     }
 }
 

@@ -11,6 +11,8 @@ ghost use Rattle.ua_nodes.specs.Read.{is_filled_text, is_default_encoding, read_
 ghost use Rattle.ua_nodes.specs.Read.{status_alone as refused_data, stamps_of, value_read, read_by, read_answer};
 ghost use Rattle.ua_nodes.specs.Sound.{AreNodesSound};
 ghost use Rattle.ua_builtin.specs.Reasons.{first_reason};
+ghost use Rattle.ua_builtin.specs.declared.date_time.DateTime.{DateTime};
+ghost use Rattle.ua_nodes.specs.declared.stamps.Stamps.{Stamps};
 ghost use Rattle.ua_nodes.specs.Table.{node_at};
 
 use crate::attribute::Attribute;
@@ -64,16 +66,62 @@ impl Variable {
             (λ d. data_value_of d ≡ read_by (first_reason (read_item_reasons self.now item.now)) self.now item.now
             stamps moment) }
     {
+        if self.gives_whole(item) {
+            return self.whole(alloc, stamps, moment);
+        }
+        self.read_judged(alloc, item, stamps, moment)
+    }
+
+    /// Reads any item; apart, so that a Value as it stands has no room to make for other answers.
+    #[inline(never)]
+    fn read_judged(
+        &self,
+        alloc: Global,
+        item: &ReadValueId,
+        stamps: Stamps,
+        moment: DateTime,
+    ) -> Result<DataValue, AllocError>
+        ensures { IfOk result
+            (λ d. data_value_of d ≡ read_by (first_reason (read_item_reasons self.now item.now)) self.now item.now
+            stamps moment) }
+    {
         match self.answer_beside(alloc, item, stamps, moment)? {
             Some(answer) => Ok(answer),
-            None => {
-                let value = HeldVariant::new(self.value.try_clone(alloc)?);
-                Ok(self.stamped(Some(value), true, stamps, moment))
-            }
+            None => self.whole(alloc, stamps, moment),
         }
     }
 
+    /// The Value as it stands, with its status and times.
+    #[inline(always)]
+    fn whole(
+        &self,
+        alloc: Global,
+        stamps: Stamps,
+        moment: DateTime,
+    ) -> Result<DataValue, AllocError>
+        ensures { IfOk result
+            (λ d. data_value_of d ≡ valued self.now.value (stamps_of self.now true stamps moment)) }
+    {
+        let value = HeldVariant::new(self.value.try_clone(alloc)?);
+        Ok(self.stamped(Some(value), true, stamps, moment))
+    }
+
+    /// Whether an item asks for the Value of this node as it stands, by null texts, as nearly each
+    /// one, and may read it.
+    #[inline(always)]
+    pub(crate) fn gives_whole(&self, item: &ReadValueId) -> bool
+        ensures { (stamps : Stamps) (moment : DateTime) → IsTrue result
+            → read_by (first_reason (read_item_reasons self.now item.now)) self.now item.now stamps moment
+            ≡ valued self.now.value (stamps_of self.now true stamps moment) }
+    {
+        item.attribute_id == VALUE_ATTRIBUTE
+            && self.access.readable
+            && !item.index_range.is_some()
+            && !item.data_encoding.name.is_some()
+    }
+
     /// The answer to an item for this node, unless that is its Value as it stands.
+    #[inline(never)]
     pub(crate) fn answer_beside(
         &self,
         alloc: Global,

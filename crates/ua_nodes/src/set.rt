@@ -87,12 +87,13 @@ impl Variable {
             (λ fault. first_reason (set_reasons self.old (value_of_reading reading)) ≡ Some fault) }
     {
         let moment = reading.source_time;
-        let given = reading.into_data();
+        let mut given = reading.into_data();
         if let Some(fault) = self.set_refusal(&given) {
             drop(given);
             return Err(fault);
         }
-        self.store(given, moment);
+        self.store(&mut given, moment);
+        drop(given);
         Ok(())
     }
 

@@ -12,6 +12,7 @@ use crate::attribute::Attribute;
 use crate::node::{NodeValue, Variable};
 use crate::read::has_text;
 use crate::table::NodeTable;
+use std::mem;
 use ua_builtin::laws::moment_is_encodable;
 use ua_builtin::{DateTime, StatusCode};
 use ua_structures::{VALUE_ATTRIBUTE, WriteValue};
@@ -33,39 +34,38 @@ impl NodeTable {
     {
         moment_is_encodable(&moment);
         for item in items {
-            let status = self.write_item(item, moment);
+            let mut item = item;
+            let status = self.write_item(&mut item, moment);
+            drop(item);
             let Ok(()) = statuses.push(status) else {
                 unreachable!();
             };
         }
     }
 
-    pub(crate) fn write_item(&mut self, item: WriteValue, moment: DateTime) -> StatusCode
-        ensures answer { result ≡ write_answer (node_at self.old item.node_id) item }
-        ensures nodes { self.new ≡ after_item item moment self.old }
+    /// Writes an item, out of which it takes the value where it is stored.
+    pub(crate) fn write_item(&mut self, item: &mut WriteValue, moment: DateTime) -> StatusCode
+        ensures answer { result ≡ write_answer (node_at self.old item.old.node_id) item.old }
+        ensures nodes { self.new ≡ after_item item.old moment self.old }
     {
         match self.nodes.get_mut(&item.node_id) {
             Some(variable) => variable.write(item, moment),
-            None => {
-                drop(item);
-                StatusCode::BAD_NODE_ID_UNKNOWN
-            }
+            None => StatusCode::BAD_NODE_ID_UNKNOWN,
         }
     }
 }
 
 impl Variable {
     /// Writes the value of an item, unless the item is rejected.
-    fn write(&mut self, item: WriteValue, moment: DateTime) -> StatusCode
-        ensures answer { result ≡ good_or (first_reason (write_item_reasons self.old item)) }
+    fn write(&mut self, item: &mut WriteValue, moment: DateTime) -> StatusCode
+        ensures answer { result ≡ good_or (first_reason (write_item_reasons self.old item.old)) }
         ensures node { self.new ≡ written_by self.old
-            (cond (is_none (first_reason (write_item_reasons self.old item))) (Some item) None) moment }
+            (cond (is_none (first_reason (write_item_reasons self.old item.old))) (Some item.old) None) moment }
     {
-        if let Some(code) = self.write_refusal(&item) {
-            drop(item);
+        if let Some(code) = self.write_refusal(item) {
             return code;
         }
-        self.store(item.value, moment);
+        self.store(&mut item.value, moment);
         StatusCode::GOOD
     }
 
@@ -92,26 +92,19 @@ impl Variable {
         None
     }
 
-    /// Keeps a value, its status and when it came about.
-    pub(crate) fn store(&mut self, given: DataValue, moment: DateTime)
-        requires { IsSome given.value }
-        ensures { self.new ≡ stored self.old given moment }
+    /// Keeps a value, which it takes, its status and when it came about.
+    pub(crate) fn store(&mut self, given: &mut DataValue, moment: DateTime)
+        requires { IsSome given.old.value }
+        ensures { self.new ≡ stored self.old given.old moment }
     {
-        let DataValue {
-            value,
-            status,
-            source_timestamp,
-            source_picoseconds,
-            ..
-        } = given;
-        let Some(value) = value else {
+        let Some(value) = mem::replace(&mut given.value, None) else {
             unreachable!();
         };
         self.value = NodeValue::new(value.into_inner());
-        self.status = status;
-        self.source_time = Some(source_timestamp.unwrap_or(moment));
-        self.source_picoseconds = if source_timestamp.is_some() {
-            source_picoseconds
+        self.status = given.status;
+        self.source_time = Some(given.source_timestamp.unwrap_or(moment));
+        self.source_picoseconds = if given.source_timestamp.is_some() {
+            given.source_picoseconds
         } else {
             None
         };

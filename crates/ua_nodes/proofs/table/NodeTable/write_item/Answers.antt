@@ -9,7 +9,7 @@ use Rattle.ua_nodes.proofs.table.NodeTable.write_item.Goals.{in-Some, in-None}
 
 pub returns-clause-nodes : goal.returns-clause-nodes
 returns-clause-nodes c =
-    let item = c.args.item in
+    let item = c.args.item.now in
     let nodes = c.self.inside.nodes.entries in
     elim c.match-get_mut.branch [
       | in-Some w ↦ rw w.self-inside-is (
