@@ -5,6 +5,7 @@ mod Statuses
 mod Replies
 mod GivenUp
 mod ReadBody
+mod GoodHeader
 pub mod SoundServices
 mod Steps
 mod Passing

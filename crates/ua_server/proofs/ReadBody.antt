@@ -1,12 +1,11 @@
 -- The body of a Read response, part by part.
-use Rattle.std.specs.Prelude.{◌≡◌, ◌<◌, ℕ, suc, List, [], ◌∷◌, ◌++◌, length, Some, None, IsTrue}
+use Rattle.std.specs.Prelude.{◌≡◌, ◌<◌, ℕ, suc, List, [], ◌∷◌, ◌++◌, length, Some, None}
 use Rattle.std.specs.List.{flat_map}
 use Rattle.std.proofs.Common.{inl, inr, ◌+◌, ◌≤◌, Option, length-append, refl, sym, ◌∙◌, ap, append_assoc, arith}
 use Rattle.ua_builtin.specs.Counted.{null_count}
 use Rattle.ua_builtin.specs.NodeId.{node_id}
 use Rattle.ua_builtin.specs.Number.{number_octets}
 use Rattle.ua_builtin.specs.declared.date_time.DateTime.{DateTime}
-use Rattle.ua_builtin.specs.Format.{Format}
 use Rattle.ua_nodes.specs.Read.{result_octets, read_answer}
 use Rattle.ua_nodes.specs.Table.{Nodes, node_at}
 use Rattle.ua_nodes.specs.Within.{IsWithin}
@@ -97,10 +96,6 @@ front-parts header results = append_assoc (node_id.canonical (standard 634)) (re
 null_diagnostics : (array diagnostic_format).canonical None ≡ number_octets 4 null_count
 unfolding array
 null_diagnostics = refl
-
-pub null_fits : {A : Type 0} (format : Format A) (items : Option (List A)) → items ≡ None → IsTrue ((array format).encodable items)
-unfolding array
-null_fits {A = A} format items is = rw is refl
 
 -- what stands there is the front, the results and no diagnostics
 pub written_parts : (most : Option ℕ) (header : ResponseHeader) (nodes : Nodes) (items : List ReadValueId) (stamps : Stamps) (moment : DateTime)

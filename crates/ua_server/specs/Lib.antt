@@ -19,3 +19,5 @@ pub mod Served
 pub mod Serving
 pub mod ServingOver
 pub mod ServingParts
+-- Definitions that only contracts within this crate cite.
+pub mod inside

@@ -1,7 +1,7 @@
 //! The services Read and Write.
 
 ghost use Rattle.std.specs.Prelude.{◌≡◌, ◌+◌, ◌<◌, ◌≤◌, ◌++◌, ◌⊎◌, IsTrue, IfErr, IfOk, OnOk, OnErr};
-ghost use Rattle.std.specs.Prelude.{None, option_map, length, vec_len, vec_capacity};
+ghost use Rattle.std.specs.Prelude.{None, Some, option_map, length, vec_len, vec_capacity};
 ghost use Rattle.std.specs.List.{list_all};
 ghost use Rattle.ua_builtin.specs.Format.{Extends};
 ghost use Rattle.ua_builtin.specs.NodeId.{node_id};
@@ -9,7 +9,10 @@ ghost use Rattle.ua_builtin.specs.Number.{number_octets};
 ghost use Rattle.ua_builtin.specs.Reasons.{first_reason};
 ghost use Rattle.ua_opening.specs.Message.{standard};
 ghost use Rattle.ua_services.specs.Response.{header_of_response, response};
-ghost use Rattle.ua_builtin.specs.Status.{status_code};
+ghost use Rattle.ua_builtin.specs.Status.{of_code, status_code};
+ghost use Rattle.ua_opening.specs.Header.{response_header};
+ghost use Rattle.ua_opening.specs.Plain.{response_header_of};
+ghost use Rattle.ua_structures.specs.Results.{AddsResponse};
 ghost use Rattle.ua_nodes.specs.Read.{read_answer};
 ghost use Rattle.ua_nodes.specs.Table.{node_at};
 ghost use Rattle.ua_nodes.specs.Limit.{limited_answers, after_limited};
@@ -21,6 +24,7 @@ ghost use Rattle.ua_structures.specs.Attribute.{write_response};
 ghost use Rattle.ua_server.specs.Reply.{IsBodyWithin};
 ghost use Rattle.ua_server.specs.Stored.{results_of};
 ghost use Rattle.ua_server.specs.Attributes.{items_of, most_items, value_from, count_reasons};
+ghost use Rattle.ua_server.specs.inside.GoodWrite.{good_write};
 ghost use Rattle.ua_server.specs.Attributes.{items_reasons, read_reasons, read_answers, values_given};
 
 use crate::reply::{AnswerBody, body_of};
@@ -28,24 +32,18 @@ use crate::services::Services;
 use crate::sessions::good_header;
 use std::alloc::{AllocError, Global};
 use std::mem;
-use ua_builtin::{DateTime, Identifier, NodeId, StatusCode, Wire};
+use ua_builtin::laws::moment_is_encodable;
+use ua_builtin::{DateTime, NULL_COUNT, NodeId, StatusCode, Wire};
 use ua_nodes::{NodeTable, Stamps};
-use ua_opening::append_message;
 use ua_services::{
     ReadRequest, ReadResponse, ReadValueId, RequestHeader, Response, ResponseHeader, TakesTypes,
     UaArray, ValueType, WriteRequest, WriteResponse, WriteValue, empty_body,
 };
-use ua_structures::{ReadResults, append_read_response};
+use ua_structures::ReadResults;
 use ua_variant::DataValue;
 
 /// The most items of a request.
 const MOST_ITEMS: usize = 1000;
-
-/// The number of the encoding of a Read response (OPC 10000-6, A.3).
-const READ_RESPONSE: u32 = 634;
-
-/// The number of the encoding of a Write response (OPC 10000-6, A.3).
-const WRITE_RESPONSE: u32 = 676;
 
 /// The greatest MaxAge, as the pattern of a Double: that of -0.
 const MOST_AGE: u64 = 0x8000_0000_0000_0000;
@@ -74,13 +72,75 @@ pub(crate) fn count_refusal(items: usize) -> Option<StatusCode>
     None
 }
 
-/// Adds what a Read response begins with: the NodeId of its encoding.
-#[tactic(auto, unfolding(ua_builtin::specs::NodeId::node_id))]
+/// Adds what a Read response begins with: the NodeId of its encoding, 01 00 and its number.
 fn append_front(out: &mut Vec<u8>) -> Result<(), AllocError>
     ensures ok { OnOk result (out.new.items ≡ out.old.items ++ node_id.canonical (standard 634)) }
     ensures err { OnErr result (Extends out.old.items out.new.items) }
 {
-    NodeId::new(0, Identifier::Numeric(READ_RESPONSE)).append(out)
+    out.extend_from_slice(&[0x01, 0x00, 0x7A, 0x02])?;
+    Ok(())
+}
+
+/// Adds what a Write response begins with: the NodeId of its encoding, 01 00 and its number.
+fn append_write_front(out: &mut Vec<u8>) -> Result<(), AllocError>
+    ensures ok { OnOk result (out.new.items ≡ out.old.items ++ node_id.canonical (standard 676)) }
+    ensures err { OnErr result (Extends out.old.items out.new.items) }
+{
+    out.extend_from_slice(&[0x01, 0x00, 0xA4, 0x02])?;
+    Ok(())
+}
+
+/// What follows the RequestHandle of a good response: the StatusCode Good, a DiagnosticInfo without
+/// fields, a null array of texts, and the object that holds nothing (OPC 10000-6, 5.2.2).
+const GOOD_END: [u8; 12] = [0, 0, 0, 0, 0, 0xFF, 0xFF, 0xFF, 0xFF, 0, 0, 0];
+
+/// Adds the header of a good response, without making it first.
+fn append_good_header(moment: DateTime, handle: u32, out: &mut Vec<u8>) -> Result<(), AllocError>
+    ensures ok { OnOk result (out.new.items ≡ out.old.items
+        ++ response_header.canonical (response_header_of moment handle (of_code 0))) }
+    ensures err { OnErr result (Extends out.old.items out.new.items) }
+{
+    moment_is_encodable(&moment);
+    moment.append(out)?;
+    handle.append(out)?;
+    out.extend_from_slice(&GOOD_END)?;
+    Ok(())
+}
+
+/// Adds the fields of a good Read response without diagnostics, in their order.
+#[tactic(auto, unfolding(ua_opening::specs::Array::array))]
+fn append_good_read<R: ReadResults>(
+    moment: DateTime,
+    handle: u32,
+    results: &R,
+    out: &mut Vec<u8>,
+) -> Result<(), AllocError>
+    requires results { R.writable results.now }
+    ensures ok { OnOk result (AddsResponse (R.adds results.now) (response_header_of moment handle (of_code 0)) None
+        out.old.items out.new.items) }
+    ensures err { OnErr result (Extends out.old.items out.new.items) }
+{
+    append_good_header(moment, handle, out)?;
+    results.append_results(out)?;
+    NULL_COUNT.append(out)
+}
+
+/// Adds the fields of a good Write response without diagnostics, in their order.
+#[tactic(auto, using(crate::proofs::GoodHeader::statuses_fit_alone, crate::proofs::GoodHeader::write_octets))]
+fn append_good_write(
+    moment: DateTime,
+    handle: u32,
+    results: &UaArray<StatusCode>,
+    out: &mut Vec<u8>,
+) -> Result<(), AllocError>
+    requires { IsTrue (write_response.encodable (good_write moment handle results.now)) }
+    ensures ok { OnOk result
+        (out.new.items ≡ out.old.items ++ write_response.canonical (good_write moment handle results.now)) }
+    ensures err { OnErr result (Extends out.old.items out.new.items) }
+{
+    append_good_header(moment, handle, out)?;
+    results.append(out)?;
+    NULL_COUNT.append(out)
 }
 
 /// The DataValues for the items of a granted Read, each made as it is written, with the Value of a
@@ -216,7 +276,7 @@ impl Services {
     {
         let stamps = Stamps::from_number(request.timestamps_to_return).unwrap_or(Stamps::Neither);
         let items = request.nodes_to_read.as_items().unwrap_or(&[]);
-        let header = good_header(moment, request.request_header.request_handle);
+        let handle = request.request_header.request_handle;
         let answers = ReadAnswers {
             nodes: &self.nodes,
             items,
@@ -226,7 +286,7 @@ impl Services {
         };
         let mut body = empty_body(alloc);
         append_front(&mut body)?;
-        append_read_response(&header, &answers, &UaArray::null(), &mut body)?;
+        append_good_read(moment, handle, &answers, &mut body)?;
         Ok(body)
     }
 
@@ -314,31 +374,33 @@ impl Services {
         Ok(statuses)
     }
 
-    /// The response to a Write, or why it is refused (OPC 10000-4, 5.11.4). Takes the items out of
+    /// The results of a Write, or why it is refused (OPC 10000-4, 5.11.4). Takes the items out of
     /// the request.
     fn granted_write(
         &mut self,
         alloc: Global,
         request: &mut WriteRequest,
         moment: DateTime,
-    ) -> Result<Result<WriteResponse, StatusCode>, AllocError>
-        ensures granted { IfOk result
-            (λ r. IfOk r (λ m. (write_items self.old moment request.old).1 ≡ WriteMessage m)) }
+    ) -> Result<Result<Vec<StatusCode>, StatusCode>, AllocError>
+        ensures granted { IfOk result (λ r. IfOk r (λ v. (write_items self.old moment request.old).1
+            ≡ WriteMessage (good_write moment request.old.request_header.request_handle (Some v.items)))) }
         ensures refused { IfOk result (λ r. IfErr r (λ s. (write_items self.old moment request.old).1
             ≡ fault_of request.old.request_header.request_handle s.code moment)) }
         ensures state { IfOk result (λ r. self.new ≡ (write_items self.old moment request.old).0) }
         ensures kept { OnErr result (self.new ≡ self.old) }
-        ensures encodable { IfOk result (λ r. IfOk r (λ m. IsTrue (write_response.encodable m))) }
+        ensures count { IfOk result (λ r. IfOk r (λ v. length v.items ≤ most_items)) }
+        ensures each { IfOk result (λ r. IfOk r (λ v. IsTrue (list_all status_code.encodable v.items))) }
+        ensures encodable { IfOk result (λ r. IfOk r (λ v. IsTrue
+            (write_response.encodable (good_write moment request.old.request_header.request_handle (Some v.items))))) }
     {
-        let handle = request.request_header.request_handle;
+        moment_is_encodable(&moment);
+        let _handle = request.request_header.request_handle;
         let count = item_count(&request.nodes_to_write);
         if let Some(code) = self.items_refusal(&request.request_header, count) {
             return Ok(Err(code));
         }
         let items = mem::replace(&mut request.nodes_to_write, UaArray::null());
-        let statuses = self.write_items(alloc, items, moment)?;
-        let header = good_header(moment, handle);
-        Ok(Ok(WriteResponse::with_results(header, statuses)))
+        Ok(Ok(self.write_items(alloc, items, moment)?))
     }
 
     /// Write. Takes the items out of the request.
@@ -356,7 +418,10 @@ impl Services {
     {
         let handle = request.request_header.request_handle;
         match self.granted_write(alloc, request, moment)? {
-            Ok(message) => Ok(Response::Write(message)),
+            Ok(statuses) => {
+                let header = good_header(moment, handle);
+                Ok(Response::Write(WriteResponse::with_results(header, statuses)))
+            }
             Err(code) => Ok(self.fault(handle, code, moment)),
         }
     }
@@ -383,14 +448,15 @@ impl Services {
     {
         let handle = request.request_header.request_handle;
         match self.granted_write(alloc, request, moment)? {
-            Ok(message) => {
+            Ok(statuses) => {
+                let results = UaArray::new(Some(statuses));
                 let mut body = empty_body(alloc);
-                append_message(WRITE_RESPONSE, &message, &mut body)?;
-                let code = message.response_header.service_result;
+                append_write_front(&mut body)?;
+                append_good_write(moment, handle, &results, &mut body)?;
                 Ok(AnswerBody {
                     body,
-                    code,
-                    results: message.results,
+                    code: StatusCode::GOOD,
+                    results,
                 })
             }
             Err(code) => {
