@@ -30,7 +30,7 @@ use ua_loopback::talking_laws::{calls_go_on, openings_begin_talks, renewals_go_o
 /// `Client::open` begins a talk where neither the transport nor an allocation fails, and fewer bytes
 /// come than the call may make reads.
 pub fn openings_are_answered(limits: Limits, moment: DateTime)
-    ensures { (b : Beginning) (url : Option (List ℕ)) (before after : Option Traffic)
+    ensures answered { (b : Beginning) (url : Option (List ℕ)) (before after : Option Traffic)
         (result : Result Client ClientFault) →
         IsTrue (text.encodable url) → CanBegin b → IsLineTo b [] [] before → url_length url ≤ 4095 →
         (OpensNothing before after result ⊎ OpensClient limits url moment before after result) →

@@ -34,7 +34,7 @@ use ua_server::Server;
 
 /// A client that `Client::open` returned did no operation yet.
 pub fn opened_clients_did_nothing()
-    ensures { (e : Ends) (x : Client) (before after : Option Traffic)
+    ensures opened { (e : Ends) (x : Client) (before after : Option Traffic)
         (k : OpensClient e.client e.url e.opened before after (Ok x)) →
         HasDoneAll e [] x k.opens.moves.got k.opens.sent }
 {

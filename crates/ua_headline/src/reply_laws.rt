@@ -66,7 +66,7 @@ pub fn replies_are_the_responses()
 /// Over any transport to a server with sound services, the replies that `Client::call` and
 /// `Client::call_all` return are the services' responses themselves.
 pub fn talked_replies_are_the_responses<A>()
-    ensures { (replies : A → List Reply) (t : SoFar) (requests : List Request) (x y : Client)
+    ensures replied { (replies : A → List Reply) (t : SoFar) (requests : List Request) (x y : Client)
         (before after : Option Traffic) (found : A) → IsTalking t x before →
         CallsAll replies requests (connection_of x) (connection_of y) before after (Ok found) →
         IsSoundState t.server.first → replies found ≡
@@ -78,7 +78,7 @@ pub fn talked_replies_are_the_responses<A>()
 
 /// So they are at the ends of one connection, over a socket too.
 pub fn connected_replies_are_the_responses<A>(server: &Server)
-    ensures { (replies : A → List Reply) (e : Ends) (deeds : List Deed) (requests : List Request)
+    ensures replied { (replies : A → List Reply) (e : Ends) (deeds : List Deed) (requests : List Request)
         (x y : Client) (read written : List ℕ) (before after : Option Traffic) (found : A) →
         HasDoneAll e deeds x read written →
         (k : CallsAll replies requests (connection_of x) (connection_of y) before after (Ok found)) →
@@ -92,7 +92,7 @@ pub fn connected_replies_are_the_responses<A>(server: &Server)
 /// they have that session then, activated; and so does `Client::begin_session`, of which
 /// `BeginsSession` says the same by the policy `anonymous`.
 pub fn sessions_are_of_the_services(server: &Server)
-    ensures { (e : Ends) (deeds : List Deed) (policy_id : Option (List ℕ)) (moment : DateTime) (x y : Client)
+    ensures begun { (e : Ends) (deeds : List Deed) (policy_id : Option (List ℕ)) (moment : DateTime) (x y : Client)
         (read written : List ℕ) (before after : Option Traffic) (token : NodeId) → HasDoneAll e deeds x read written →
         (k : BeginsSessionAs policy_id moment (connection_of x) (connection_of y) before after (Ok token)) →
         IsOneConnection e (channel_in server.now) (read ++ k.moves.got) (written ++ k.sent) →
