@@ -19,3 +19,4 @@ mod Replied
 mod SessionCalls
 mod AsAnswered
 mod SessionMade
+mod Questions

@@ -5,5 +5,6 @@ pub mod Answering
 pub mod Clients
 pub mod Calling
 pub mod AsAnswered
+pub mod Questions
 pub mod Example
 pub mod Records

@@ -8,6 +8,7 @@
 pub mod answering_laws;
 pub mod calling_laws;
 pub mod laws;
+pub mod question_laws;
 mod records;
 pub mod reply_laws;
 
