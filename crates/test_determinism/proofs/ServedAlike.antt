@@ -28,9 +28,10 @@ use Rattle.ua_server.proofs.Happened.{given-led}
 use Rattle.ua_server.proofs.LeftOver.{all-asked, as-many, asked-over}
 use Rattle.ua_server.proofs.RequestsInParts.{requests-more}
 use Rattle.ua_server.proofs.SaidInParts.{said-more, left-more}
-use Rattle.test_determinism.specs.Lines.{ComeAlike, LinesAlike, WroteExactly, WroteAlike}
+use Rattle.test_determinism.specs.Lines.{ComeAlike, ComesAsOne, Responds, WroteExactly, WroteAlike}
+use Rattle.test_determinism.specs.Lines.ComesAsOne.{Known, SameWritten, Steady}
 use Rattle.test_determinism.specs.Pinned.{HadMemory}
-use Rattle.test_determinism.specs.Serving.{IsWriteFault, ServesAlike, ToldAlike, line_failed_serving}
+use Rattle.test_determinism.specs.Serving.{IsWriteFault, ServedInStages, ServesAlike, ToldAlike, line_failed_serving}
 use Rattle.test_determinism.specs.Serving.ServesAlike.{NoFault, AtRead, AtWrite}
 use Rattle.test_determinism.proofs.BrokenAlike.{BrokeOff, broken_once}
 use Rattle.test_determinism.proofs.MomentsAlike.{Begins, given_once, left_once, moments_begin}
@@ -312,9 +313,11 @@ pub record ServedOnce (a b : Result Ending ServeFault) (line after other later :
 module _ {M : Type 0} (gives : M → ℤ → M → Type 0) (once : (m x y : M) (t u : ℤ) → gives m t x → gives m u y → (t ≡ u) × (x ≡ y))
     (limits : Limits) (channel : ℕ) (first : State) (before last other_last : M) (a b : Result Ending ServeFault) (now then : State)
     (asked also : List AnsweredRequest)
-    (line after other later : Option Traffic) (coming : List ℕ) (lines : LinesAlike line other coming) (had : HadMemory fault.OutOfMemory a b)
-    (p : WasTold (ServedSo limits channel gives first before a now last asked) lines.first after)
-    (q : WasTold (ServedSo limits channel gives first before b then other_last also) lines.second later) where
+    (line after other later : Option Traffic) (one two : Traffic) (one_is : line ≡ Some one) (two_is : other ≡ Some two) (had : HadMemory fault.OutOfMemory a b)
+    (p : WasTold (ServedSo limits channel gives first before a now last asked) one after)
+    (q : WasTold (ServedSo limits channel gives first before b then other_last also) two later) (coming : List ℕ)
+    (parts : p.holds.read ++ p.after.coming [] ≡ coming) (parts_too : q.holds.read ++ q.after.coming [] ≡ coming)
+    (few : length coming < 0xFFFF_FFFF_FFFF_FFFF) where
   abbrev Served : Type 0
   Served = ServedOnce a b line after other later now then × (asked ≡ also) × (last ≡ other_last)
 
@@ -333,24 +336,17 @@ module _ {M : Type 0} (gives : M → ℤ → M → Type 0) (once : (m x y : M) (
       left_once gives once before last other_last p.holds.ticks q.holds.ticks (sym (length-map p.holds.ticks moment_of)
       ∙ (e ∙ length-map q.holds.ticks moment_of)) p.holds.given q.holds.given
 
-  parts : p.holds.read ++ p.after.coming [] ≡ coming
-  parts = sym (p.holds.moved.0 []) ∙ lines.brings (p.holds.written ++ [])
-
-  parts_too : q.holds.read ++ q.after.coming [] ≡ coming
-  parts_too = sym (q.holds.moved.0 []) ∙ lines.brings_too (q.holds.written ++ [])
-
   wrote_alike : p.holds.written ≡ q.holds.written → WroteAlike line after other later
   wrote_alike e = record {
     sent = p.holds.written;
-    first = wrote line after lines.first p.after p.holds.written lines.first_is p.is p.holds.moved.1;
-    second = wrote other later lines.second q.after p.holds.written lines.second_is q.is (q.holds.moved.1
-        ∙ ap (λ (t : List ℕ). lines.second.written ++ t) (sym e));
+    first = wrote line after one p.after p.holds.written one_is p.is p.holds.moved.1;
+    second = wrote other later two q.after p.holds.written two_is q.is (q.holds.moved.1 ∙ ap (λ (t : List ℕ). two.written ++ t) (sym e));
   }
 
   unfailed : line_failed_serving a ≡ false → line_failed_serving b ≡ false → Served
   unfailed f g =
-      let x = came limits channel first p.holds.read (p.after.coming []) coming p.holds.written ms now asked a parts p.holds.comes f had.first lines.few in
-      let y = came limits channel first q.holds.read (q.after.coming []) coming q.holds.written ns then also b parts_too q.holds.comes g had.second lines.few in
+      let x = came limits channel first p.holds.read (p.after.coming []) coming p.holds.written ms now asked a parts p.holds.comes f had.first few in
+      let y = came limits channel first q.holds.read (q.after.coming []) coming q.holds.written ns then also b parts_too q.holds.comes g had.second few in
       let o = both limits channel first coming ms ns p.holds.written q.holds.written now then asked also begin a b x y in
       (record { answers = o.answers; written = wrote_alike o.same.says; state = o.same.leaves }, o.same.asks, left_alike o.counts)
 
@@ -387,8 +383,8 @@ module _ {M : Type 0} (gives : M → ℤ → M → Type 0) (once : (m x y : M) (
   at_write f g w =
       let e = write_is a f in
       let d = write_is b g in
-      let mine : p.holds.written ≡ w.sent = wrote_same line after lines.first p.after w.sent p.holds.written lines.first_is p.is p.holds.moved.1 w.first in
-      let theirs : q.holds.written ≡ w.sent = wrote_same other later lines.second q.after w.sent q.holds.written lines.second_is q.is q.holds.moved.1 w.second
+      let mine : p.holds.written ≡ w.sent = wrote_same line after one p.after w.sent p.holds.written one_is p.is p.holds.moved.1 w.first in
+      let theirs : q.holds.written ≡ w.sent = wrote_same other later two q.after w.sent q.holds.written two_is q.is q.holds.moved.1 w.second
       in
       let x = comes_by (Err (fault.Write e.0)) e.1 in
       let y = comes_too (Err (fault.Write d.0)) q.holds.read p.holds.written d.1 refl (theirs ∙ sym mine) in
@@ -403,6 +399,65 @@ module _ {M : Type 0} (gives : M → ℤ → M → Type 0) (once : (m x y : M) (
   by_faults (NoFault f g) = unfailed f g
   by_faults (AtRead f g c) = at_read f g c
   by_faults (AtWrite f g w) = at_write f g w
+
+-- ---- what comes to both
+
+-- what was read of a line, and is still to come, is what comes to what was written
+comes_to : (before after : Traffic) (coming : List ℕ → List ℕ) (read written : List ℕ) → Responds before coming → MovesTraffic read written before after
+    → read ++ after.coming [] ≡ coming written
+comes_to before after coming read written responds moved =
+    sym (moved.0 []) ∙ (responds (written ++ []) ∙ ap coming (append-nil written))
+
+write_failed : (a : Result Ending ServeFault) → IsWriteFault a → line_failed_serving a ≡ false → ⊥
+write_failed (Ok end) h e = h
+write_failed (Err fault.Read) h e = h
+write_failed (Err (fault.Write n)) h e = cc
+write_failed (Err fault.OutOfMemory) h e = h
+write_failed (Err fault.TooLong) h e = h
+
+no_read : (a : Result Ending ServeFault) → IsWriteFault a → IsErrOf a fault.Read → ⊥
+no_read a h e = subst IsWriteFault e h
+
+-- where a write of both failed the same was written to both
+same_written : (a b : Result Ending ServeFault) (line after other later : Option Traffic) → IsWriteFault a → ServesAlike a b line after other later
+    → WroteAlike line after other later
+same_written a b line after other later h (NoFault f g) = absurd (write_failed a h f)
+same_written a b line after other later h (AtRead f g c) = absurd (no_read a h f)
+same_written a b line after other later h (AtWrite f g w) = w
+
+module _ {M : Type 0} (gives : M → ℤ → M → Type 0) (once : (m x y : M) (t u : ℤ) → gives m t x → gives m u y → (t ≡ u) × (x ≡ y))
+    (limits : Limits) (channel : ℕ) (first : State) (before last other_last : M) (a b : Result Ending ServeFault) (now then : State)
+    (asked also : List AnsweredRequest)
+    (line after other later : Option Traffic) (coming : List ℕ → List ℕ) (lines : ServedInStages a b line after other later coming)
+    (p : WasTold (ServedSo limits channel gives first before a now last asked) lines.respond.first after)
+    (q : WasTold (ServedSo limits channel gives first before b then other_last also) lines.respond.second later) where
+  abbrev ServedBoth : Type 0
+  ServedBoth = ServedOnce a b line after other later now then × (asked ≡ also) × (last ≡ other_last)
+
+  -- these octets come to both
+  by_octets : (octets : List ℕ) → coming p.holds.written ≡ octets → coming q.holds.written ≡ octets → ServedBoth
+  by_octets octets is too =
+      by_faults gives once limits channel first before last other_last a b now then asked also line after other later lines.respond.first lines.respond.second
+      lines.respond.first_is lines.respond.second_is lines.had p q octets
+      (comes_to lines.respond.first p.after coming p.holds.read p.holds.written lines.respond.responds p.holds.moved ∙ is)
+      (comes_to lines.respond.second q.after coming q.holds.read q.holds.written lines.respond.responds_too q.holds.moved ∙ too)
+      (subst (λ (o : List ℕ). length o < 0xFFFF_FFFF_FFFF_FFFF) is
+      (lines.few p.holds.written (wrote line after lines.respond.first p.after p.holds.written lines.respond.first_is p.is p.holds.moved.1)))
+      lines.fails
+
+  by_written : WroteAlike line after other later → ServedBoth
+  by_written w =
+      by_octets (coming w.sent)
+      (ap coming (wrote_same line after lines.respond.first p.after w.sent p.holds.written lines.respond.first_is p.is p.holds.moved.1 w.first))
+      (ap coming (wrote_same other later lines.respond.second q.after w.sent q.holds.written lines.respond.second_is q.is q.holds.moved.1 w.second))
+
+  by_coming : ComesAsOne (IsWriteFault a) coming line after other later → ServedBoth
+  by_coming (Known k) = by_written (same_written a b line after other later k lines.fails)
+  by_coming (Steady s) = by_octets (coming []) (s p.holds.written []) (s q.holds.written [])
+  by_coming (SameWritten w) = by_written w
+
+  both_served : ServedBoth
+  both_served = by_coming lines.as_one
 
 -- ---- with a watch, and without
 
@@ -482,17 +537,16 @@ module _ {M : Type 0} (gives : M → ℤ → M → Type 0) (limits : Limits) (ch
 
 module _ {M : Type 0} (gives : M → ℤ → M → Type 0) (once : (m x y : M) (t u : ℤ) → gives m t x → gives m u y → (t ≡ u) × (x ≡ y))
     (limits : Limits) (channel : ℕ) (one two : State) (before again last other_last : M) (a b : Result Ending ServeFault) (now then : State)
-    (line after other later : Option Traffic) (coming : List ℕ) (same : one ≡ two) (alike : before ≡ again) (lines : LinesAlike line other coming)
-    (had : HadMemory fault.OutOfMemory a b) (faults : ServesAlike a b line after other later) where
+    (line after other later : Option Traffic) (coming : List ℕ → List ℕ) (same : one ≡ two) (alike : before ≡ again)
+    (lines : ServedInStages a b line after other later coming) where
   pub served_alike : Serves limits channel gives (begun one) before a now last line after
       → Serves limits channel gives (begun two) again b then other_last other later → ServedOnce a b line after other later now then × (last ≡ other_last)
   served_alike h k =
-      let p = served_so gives limits channel (begun one) a now line after lines.first lines.first_is before last had.first h in
-      let q = served_so gives limits channel (begun one) b then other later lines.second lines.second_is before other_last had.second
+      let p = served_so gives limits channel (begun one) a now line after lines.respond.first lines.respond.first_is before last lines.had.first h in
+      let q = served_so gives limits channel (begun one) b then other later lines.respond.second lines.respond.second_is before other_last lines.had.second
       (subst (λ (s : State). Serves limits channel gives (begun s) before b then other_last other later) (sym same)
       (subst (λ (m : M). Serves limits channel gives (begun two) m b then other_last other later) (sym alike) k)) in
-      let o = by_faults gives once limits channel (begun one) before last other_last a b now then p.0 q.0 line after other later coming lines had p.1 q.1 faults
-      in
+      let o = both_served gives once limits channel (begun one) before last other_last a b now then p.0 q.0 line after other later coming lines p.1 q.1 in
       (o.0, o.2)
 
   pub watched_alike : {W V : Type 0} (notes : W → AnsweredRequest → W → Type 0) (others : V → AnsweredRequest → V → Type 0) (w x : W) (v y : V)
@@ -500,10 +554,9 @@ module _ {M : Type 0} (gives : M → ℤ → M → Type 0) (once : (m x y : M) (
       → ServesTelling limits channel gives others (begun two) (again, v) b then (other_last, y) other later → ServedOnce a b line after other later now then
       × (last ≡ other_last) × ToldAlike notes others w x v y
   watched_alike {V = V} notes others w x v y h k =
-      let p = watched_so gives limits channel (begun one) a now line after lines.first lines.first_is notes (before, w) (last, x) h in
-      let q = watched_so gives limits channel (begun one) b then other later lines.second lines.second_is others (before, v) (other_last, y)
+      let p = watched_so gives limits channel (begun one) a now line after lines.respond.first lines.respond.first_is notes (before, w) (last, x) h in
+      let q = watched_so gives limits channel (begun one) b then other later lines.respond.second lines.respond.second_is others (before, v) (other_last, y)
       (subst (λ (s : State). ServesTelling limits channel gives others (begun s) (before, v) b then (other_last, y) other later) (sym same)
       (subst (λ (m : M). ServesTelling limits channel gives others (begun two) (m, v) b then (other_last, y) other later) (sym alike) k)) in
-      let o = by_faults gives once limits channel (begun one) before last other_last a b now then p.0 q.0 line after other later coming lines had p.1 q.1 faults
-      in
+      let o = both_served gives once limits channel (begun one) before last other_last a b now then p.0 q.0 line after other later coming lines p.1 q.1 in
       (o.0, o.2, record { requests = p.0; first = p.2; second = subst (λ (rs : List AnsweredRequest). Leads others v rs y) (sym o.1) q.2 })
