@@ -1,5 +1,6 @@
 pub mod PlainFits
 mod Ahead
+mod ValueAlone
 mod Thinned
 pub mod AttributeLawful
 pub mod AttributeSound

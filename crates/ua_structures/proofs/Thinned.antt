@@ -6,7 +6,7 @@ use Rattle.ua_wire.specs.declared.fault.ReadFault.TheVariants.{NoValue, OutOfMem
 use Rattle.ua_wire.proofs.Readers.{some_is}
 use Rattle.ua_builtin.specs.Counted.{first_negative}
 use Rattle.ua_builtin.specs.Exact.{◌>>=◌, image_read, pair_read, skipped}
-use Rattle.ua_builtin.specs.Format.{Gives}
+use Rattle.ua_builtin.specs.Format.{Gives, GivesBy}
 use Rattle.ua_builtin.specs.Number.{number_at}
 use Rattle.ua_builtin.specs.declared.node_id.NodeId.{NodeId}
 use Rattle.ua_variant.specs.Formats.{data_value_format}
@@ -63,13 +63,13 @@ kept_found : (takes : ValueType → Bool) (levels : ℕ) (old new : List ℕ) (d
 kept_found takes levels old new d e =
     image_found (kept_value takes) (data_value_format.decode levels) old new d e ∙ ap (λ (k : DataValue). Some (k, new)) (kept_is takes levels old d new e)
 
--- it is kept whole
-pub kept_whole : (takes : ValueType → Bool) (levels : ℕ) (old new : List ℕ) (r : Result DataValue ReadFault) → is_kept_at takes old ≡ true
-    → Gives (data_value_format.decode levels) old new r
-    → Gives (image_read (kept_value takes) (data_value_format.decode levels)) old new r
-kept_whole takes levels old new (Ok d) is e = kept_found takes levels old new d e ∙ ap (λ (b : Bool). Some (cond b d null_value, new)) is
-kept_whole takes levels old new (Err NoValue) is e = image_none (kept_value takes) (data_value_format.decode levels) old e
-kept_whole takes levels old new (Err OutOfMemory) is e = tt
+-- it is kept whole, read into its place
+pub kept_placed : (takes : ValueType → Bool) (levels : ℕ) (old new : List ℕ) (d : DataValue) (r : Result (Unit {0}) ReadFault) → is_kept_at takes old ≡ true
+    → GivesBy {X = Unit {0}} (λ _. d) (data_value_format.decode levels) old new r
+    → GivesBy {X = Unit {0}} (λ _. d) (image_read (kept_value takes) (data_value_format.decode levels)) old new r
+kept_placed takes levels old new d (Ok u) is e = kept_found takes levels old new d e ∙ ap (λ (b : Bool). Some (cond b d null_value, new)) is
+kept_placed takes levels old new d (Err NoValue) is e = image_none (kept_value takes) (data_value_format.decode levels) old e
+kept_placed takes levels old new d (Err OutOfMemory) is e = tt
 
 null_by : (takes : ValueType → Bool) (levels : ℕ) (old new : List ℕ) (found : Option (DataValue × List ℕ)) → data_value_format.decode levels old ≡ found
     → is_kept_at takes old ≡ false
@@ -197,3 +197,10 @@ request_fails takes levels old behind new header NoValue front e =
     (none_imaged (option_map (map (thinned takes))) (array_at (write_value.decode levels) behind)
     (sym (array_image (thinned takes) (write_value.decode levels) behind) ∙ e)))
 request_fails takes levels old behind new header OutOfMemory front e = tt
+
+-- the same of a Write that is read into its place
+pub placed_fails : (takes : NodeId → ValueType → Bool) (levels : ℕ) (old behind new : List ℕ) (header : RequestHeader) (message : WriteRequest) (e : ReadFault)
+    → request_header.decode levels old ≡ Some (header, behind) → Gives (array_at (image_read (thinned takes) (write_value.decode levels))) behind new (Err e)
+    → GivesBy {X = Unit {0}} (λ _. message) (image_read (thinned_request takes) (write_request.decode levels)) old new (Err e)
+placed_fails takes levels old behind new header message NoValue front e = request_fails takes levels old behind new header NoValue front e
+placed_fails takes levels old behind new header message OutOfMemory front e = tt

@@ -40,9 +40,12 @@ read_of header items = record { request_header = header; max_age = record { bits
 abbrev pub write_of : RequestHeader → List WriteValue → WriteRequest
 write_of header items = record { request_header = header; nodes_to_write = Some items }
 
--- a Read of nothing, and the values of no items
+-- a Read of nothing, a Write of nothing, and the values of no items
 abbrev pub empty_read : ReadRequest
 empty_read = record { request_header = empty_request_header; max_age = record { bits = 0 }; timestamps_to_return = pos 0; nodes_to_read = None }
+
+abbrev pub empty_write : WriteRequest
+empty_write = record { request_header = empty_request_header; nodes_to_write = None }
 
 abbrev pub empty_read_response : ReadResponse
 empty_read_response = record { response_header = empty_response_header; results = None; diagnostic_infos = None }

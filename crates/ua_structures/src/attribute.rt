@@ -12,7 +12,7 @@ ghost use Rattle.ua_structures.specs.Results.{AddsResponse};
 ghost use Rattle.ua_structures.specs.Attribute.{read_value_id, read_request, read_response};
 ghost use Rattle.ua_structures.specs.Attribute.{write_value, write_request, write_response};
 ghost use Rattle.ua_opening.specs.Header.{request_header as header_format, response_header as answer_format};
-ghost use Rattle.ua_structures.specs.Plain.{empty_read, empty_read_response, value_of_node};
+ghost use Rattle.ua_structures.specs.Plain.{empty_read, empty_read_response, empty_write, value_of_node};
 ghost use Rattle.ua_structures.specs.Plain.{value_for_node, read_of, write_of, read_response_of, write_response_of};
 
 use crate::data_values::read_data_values;
@@ -338,6 +338,16 @@ impl WriteRequest {
         WriteRequest {
             request_header,
             nodes_to_write: UaArray::new(Some(items)),
+        }
+    }
+
+    /// A Write of no items with an empty header, to decode one into. Allocates nothing.
+    pub fn empty() -> WriteRequest
+        ensures { result ≡ empty_write }
+    {
+        WriteRequest {
+            request_header: RequestHeader::empty(),
+            nodes_to_write: UaArray::null(),
         }
     }
 

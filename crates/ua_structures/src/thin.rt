@@ -1,21 +1,24 @@
 //! Writes that are decoded without the values that their nodes could not take.
 
-ghost use Rattle.std.specs.Prelude.{◌≡◌, ◌≤◌, Bool};
+ghost use Rattle.std.specs.Prelude.{◌≡◌, ◌≤◌, Bool, false, true, Some};
 ghost use Rattle.ua_builtin.specs.Exact.{image_read};
 ghost use Rattle.ua_builtin.specs.Format.{most_levels, Gives, GivesBy, StaysBehind};
 ghost use Rattle.ua_variant.specs.Formats.{data_value_format};
 ghost use Rattle.ua_opening.specs.Array.{array_at, items_at};
 ghost use Rattle.ua_structures.specs.Attribute.{write_value, write_request};
+ghost use Rattle.ua_builtin.specs.Number.{number_at};
 ghost use Rattle.ua_structures.specs.Thin.{kept_value, null_value as null_value_is, thinned, thinned_request};
 ghost use Rattle.ua_structures.specs.inside.Ahead.{is_kept_at, type_at};
+ghost use Rattle.ua_structures.specs.inside.Onto.{no_fields as no_fields_is, with_last};
 
 use crate::attribute::{WriteRequest, WriteValue};
 use std::alloc::Global;
 use ua_builtin::{FIRST_NEGATIVE, NodeId, ReadFault, Skip, Source, UaString, Wire};
-use ua_opening::{RequestHeader, UaArray};
+use ua_opening::UaArray;
 use ua_variant::{DataValue, HeldVariant, Variant};
 
-/// The flag of a value in the mask of a DataValue (OPC 10000-6, 5.2.2.17).
+/// The flag of a value in the mask of a DataValue, and the mask of a value alone (OPC 10000-6,
+/// 5.2.2.17).
 const VALUE: u8 = 0x01;
 
 /// The flag of an array in the first byte of a Variant (OPC 10000-6, 5.2.2.16).
@@ -99,30 +102,91 @@ fn null_value() -> DataValue
     }
 }
 
-/// Reads what is kept of the DataValue at the start of the source, in an item for this node.
-fn read_kept<S: Source, T: TakesTypes>(
+/// A DataValue without fields. Allocates nothing.
+fn no_fields() -> DataValue
+    ensures { result ≡ no_fields_is }
+{
+    DataValue {
+        value: None,
+        status: None,
+        source_timestamp: None,
+        source_picoseconds: None,
+        server_timestamp: None,
+        server_picoseconds: None,
+    }
+}
+
+/// Takes the mask of a DataValue that has a value and no other field, as most in a Write. Where it
+/// is another one, nothing is taken.
+#[inline(always)]
+fn take_value_alone<S: Source>(alloc: Global, src: &mut S) -> bool
+    ensures taken { result ≡ true → number_at 1 (S.octets src.old) ≡ Some (1, S.octets src.new) }
+    ensures same { result ≡ false → S.octets src.new ≡ S.octets src.old }
+    ensures behind { StaysBehind (S.octets src.old) (S.octets src.new) }
+{
+    let mut ahead = src.fork();
+    let Ok(VALUE) = u8::read_value(alloc, &mut ahead, 0) else {
+        return false;
+    };
+    *src = ahead;
+    true
+}
+
+/// Reads the DataValue at the start of the source into a place that has no fields: one that is
+/// returned is moved at each step.
+#[inline(always)]
+fn read_value_into<S: Source>(
+    alloc: Global,
+    src: &mut S,
+    depth: u32,
+    place: &mut DataValue,
+) -> Result<(), ReadFault>
+    requires levels { depth ≤ most_levels }
+    requires empty { place.old ≡ no_fields_is }
+    ensures exact { GivesBy (λ _. place.new) (data_value_format.decode depth) (S.octets src.old)
+        (S.octets src.new) result }
+    ensures behind { StaysBehind (S.octets src.old) (S.octets src.new) }
+{
+    if depth > 0 && take_value_alone(alloc, src) {
+        let value = Variant::read_value(alloc, src, depth - 1)?;
+        place.value = Some(HeldVariant::new(value));
+        return Ok(());
+    }
+    *place = DataValue::read_value(alloc, src, depth)?;
+    Ok(())
+}
+
+/// Reads what is kept of the DataValue at the start of the source, in an item for this node, into a
+/// place that has no fields.
+#[inline(always)]
+fn read_kept_into<S: Source, T: TakesTypes>(
     alloc: Global,
     src: &mut S,
     depth: u32,
     types: &T,
     id: &NodeId,
-) -> Result<DataValue, ReadFault>
+    place: &mut DataValue,
+) -> Result<(), ReadFault>
     requires levels { depth ≤ most_levels }
-    ensures exact { Gives (image_read (kept_value (T.takes types.now id.now)) (data_value_format.decode depth))
+    requires empty { place.old ≡ no_fields_is }
+    ensures exact { GivesBy (λ _. place.new)
+        (image_read (kept_value (T.takes types.now id.now)) (data_value_format.decode depth))
         (S.octets src.old) (S.octets src.new) result }
     ensures behind { StaysBehind (S.octets src.old) (S.octets src.new) }
 {
     if is_kept(src, types, id) {
-        return DataValue::read_value(alloc, src, depth);
+        return read_value_into(alloc, src, depth, place);
     }
     DataValue::skip_value(alloc, src, depth)?;
-    Ok(null_value())
+    *place = null_value();
+    Ok(())
 }
 
 impl WriteValue {
     /// Decodes the item at the start of the source, as `read_value` does, but skips a value that
     /// its node could not take, and puts a null Variant in its place. After an error, discard the
     /// source.
+    #[inline(always)]
     #[tactic(auto, unfolding(crate::specs::Attribute::write_value))]
     pub fn read_thinned<S: Source, T: TakesTypes>(
         alloc: Global,
@@ -138,13 +202,46 @@ impl WriteValue {
         let node_id = NodeId::read_value(alloc, src, depth)?;
         let attribute_id = u32::read_value(alloc, src, depth)?;
         let index_range = UaString::read_value(alloc, src, depth)?;
-        let value = read_kept(alloc, src, depth, types, &node_id)?;
+        let mut value = no_fields();
+        read_kept_into(alloc, src, depth, types, &node_id, &mut value)?;
         Ok(WriteValue {
             node_id,
             attribute_id,
             index_range,
             value,
         })
+    }
+
+    /// Decodes the item at the start of the source, as [`read_thinned`](WriteValue::read_thinned)
+    /// does, to the end of the vector.
+    #[inline(always)]
+    #[tactic(auto, unfolding(crate::specs::Attribute::write_value))]
+    fn read_onto<S: Source, T: TakesTypes>(
+        alloc: Global,
+        src: &mut S,
+        depth: u32,
+        types: &T,
+        items: &mut Vec<WriteValue>,
+    ) -> Result<(), ReadFault>
+        requires levels { depth ≤ most_levels }
+        ensures exact { GivesBy (λ _. items.new.items) (image_read (with_last items.old.items)
+            (image_read (thinned (T.takes types.now)) (write_value.decode depth))) (S.octets src.old)
+            (S.octets src.new) result }
+        ensures behind { StaysBehind (S.octets src.old) (S.octets src.new) }
+    {
+        items.reserve(1)?;
+        let node_id = NodeId::read_value(alloc, src, depth)?;
+        let attribute_id = u32::read_value(alloc, src, depth)?;
+        let index_range = UaString::read_value(alloc, src, depth)?;
+        let mut value = no_fields();
+        read_kept_into(alloc, src, depth, types, &node_id, &mut value)?;
+        items.push_reserved(WriteValue {
+            node_id,
+            attribute_id,
+            index_range,
+            value,
+        });
+        Ok(())
     }
 }
 
@@ -164,8 +261,7 @@ fn read_items<S: Source, T: TakesTypes>(
 {
     let mut items = Vec::new(alloc);
     for _ in 0..count {
-        let item = WriteValue::read_thinned(alloc, src, depth, types)?;
-        items.push(item)?;
+        WriteValue::read_onto(alloc, src, depth, types, &mut items)?;
     }
     Ok(items)
 }
@@ -211,11 +307,35 @@ impl WriteRequest {
             (S.octets src.old) (S.octets src.new) result }
         ensures behind { StaysBehind (S.octets src.old) (S.octets src.new) }
     {
-        let request_header = RequestHeader::read_value(alloc, src, depth)?;
-        let nodes_to_write = read_array(alloc, src, depth, types)?;
-        Ok(WriteRequest {
-            request_header,
-            nodes_to_write,
-        })
+        let mut message = WriteRequest::empty();
+        match message.read_thinned_into(alloc, src, depth, types) {
+            Ok(()) => Ok(message),
+            Err(fault) => {
+                drop(message);
+                Err(fault)
+            }
+        }
+    }
+
+    /// Decodes the Write at the start of the source into this one, as
+    /// [`read_thinned`](WriteRequest::read_thinned) does. After an error, discard the source.
+    #[inline(never)]
+    #[tactic(auto, unfolding(crate::specs::Attribute::write_request))]
+    pub fn read_thinned_into<S: Source, T: TakesTypes>(
+        &mut self,
+        alloc: Global,
+        src: &mut S,
+        depth: u32,
+        types: &T,
+    ) -> Result<(), ReadFault>
+        requires levels { depth ≤ most_levels }
+        ensures exact { GivesBy (λ _. self.new)
+            (image_read (thinned_request (T.takes types.now)) (write_request.decode depth)) (S.octets src.old)
+            (S.octets src.new) result }
+        ensures behind { StaysBehind (S.octets src.old) (S.octets src.new) }
+    {
+        self.request_header.read_into(alloc, src, depth)?;
+        self.nodes_to_write = read_array(alloc, src, depth, types)?;
+        Ok(())
     }
 }

@@ -5,26 +5,27 @@ use Rattle.ua_opening.specs.Array.{items_at}
 use Rattle.ua_structures.specs.Attribute.{write_value}
 use Rattle.ua_structures.specs.Thin.{thinned}
 use Rattle.ua_structures.specs.declared.attribute.WriteValue.{WriteValue}
-use Rattle.ua_opening.proofs.ItemsRead.{goes_on, is_done, fault_ends}
+use Rattle.ua_opening.proofs.ItemsRead.{goes_on_behind, is_done, fault_behind, fault_ends}
 use Rattle.ua_structures.proofs.thin.read_items.Goals as goal
 
-pub returns-in_err-item-clause-exact : goal.returns-in_err-item-clause-exact
-returns-in_err-item-clause-exact g c =
+pub returns-in_err-read_onto-clause-exact : goal.returns-in_err-read_onto-clause-exact
+returns-in_err-read_onto-clause-exact g c =
     let p = err_from_is_err_and c.from_residual.result c.from_residual.ensures.1 in
     let read = image_read (thinned (g.T.TakesTypes.takes c.args.types.now)) (write_value.decode c.args.depth) in
-    rw (p.1, p.2) (fault_ends (λ (v : Vec WriteValue Global). v.items) read c.in_err-item.field-0.0 c.loop.items.items c.args.count c.loop.counter
-    (g.S.Source.octets c.args.src.now) (g.S.Source.octets c.loop.src) (g.S.Source.octets c.read_thinned.new.src) c.loop-test.true
-    c.in_err-item.ensures.exact c.loop.invariant.so_far)
+    let old = g.S.Source.octets c.loop.src in
+    let new = g.S.Source.octets c.read_onto.new.src in
+    rw (p.1, p.2) (fault_ends (λ (v : Vec WriteValue Global). v.items) read c.in_err-read_onto.field-0.0 c.loop.items.items c.args.count c.loop.counter
+    (g.S.Source.octets c.args.src.now) old new c.loop-test.true
+    (fault_behind read c.loop.items.items c.read_onto.new.items.items c.in_err-read_onto.field-0.0 old new c.in_err-read_onto.ensures.exact)
+    c.loop.invariant.so_far)
 
 pub loop-preserved : goal.loop-preserved
 loop-preserved g c =
     let read = image_read (thinned (g.T.TakesTypes.takes c.args.types.now)) (write_value.decode c.args.depth) in
     record {
-      so_far =
-          rw c.in_ok-push.ensures.items (goes_on read c.loop.items.items c.args.count c.loop.counter (g.S.Source.octets c.loop.src) c.in_ok-item.item
-          (g.S.Source.octets c.read_thinned.new.src) (items_at read c.args.count (g.S.Source.octets c.args.src.now)) c.loop-test.true c.in_ok-item.ensures.exact
-          c.loop.invariant.so_far);
-      behind = λ start h. c.in_ok-item.ensures.behind start (c.loop.invariant.behind start h);
+      so_far = goes_on_behind read c.loop.items.items c.read_onto.new.items.items c.args.count c.loop.counter
+          (g.S.Source.octets c.loop.src) (g.S.Source.octets c.read_onto.new.src) _ c.loop-test.true c.in_ok-read_onto.ensures.exact c.loop.invariant.so_far;
+      behind = λ start h. c.in_ok-read_onto.ensures.behind start (c.loop.invariant.behind start h);
     }
 
 pub returns-clause-exact : goal.returns-clause-exact

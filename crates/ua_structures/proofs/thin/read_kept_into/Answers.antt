@@ -1,13 +1,12 @@
 use Rattle.std.proofs.Common.{sym, ◌∙◌, ap, Some}
 use Rattle.ua_variant.specs.declared.values.DataValue.{DataValue}
-use Rattle.ua_structures.proofs.Thinned.{kept_whole, null_kept}
-use Rattle.ua_structures.proofs.thin.read_kept.Goals as goal
+use Rattle.ua_structures.proofs.Thinned.{kept_placed, null_kept}
+use Rattle.ua_structures.proofs.thin.read_kept_into.Goals as goal
 
 pub returns-then-is_kept-clause-exact : goal.returns-then-is_kept-clause-exact
 returns-then-is_kept-clause-exact g c =
-    kept_whole (g.T.TakesTypes.takes c.args.types.now c.args.id.now) c.args.depth (g.S.Source.octets c.args.src.now) (g.S.Source.octets c.read_value.new.src)
-    c.read_value.result
-    (sym c.if-is_kept.ensures) c.read_value.ensures.exact
+    kept_placed (g.T.TakesTypes.takes c.args.types.now c.args.id.now) c.args.depth (g.S.Source.octets c.args.src.now)
+    (g.S.Source.octets c.read_value_into.new.src) _ c.read_value_into.result (sym c.if-is_kept.ensures) c.read_value_into.ensures.exact
 
 pub returns-clause-exact : goal.returns-clause-exact
 returns-clause-exact g c =
