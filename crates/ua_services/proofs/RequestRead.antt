@@ -102,6 +102,11 @@ pub refused_by : (fault : RequestFault) (r : Result Request RequestFault) → Re
 refused_by fault r (inl h) = inl (sym h)
 refused_by fault r (inr h) = inr (err_is fault OutOfMemory h)
 
+-- of a body that is read whole
+pub read_whole : (m : Request) (r : Result Request RequestFault) → Reads (Ok m) r → r ≡ Ok m
+read_whole m r (inl h) = sym h
+read_whole m r (inr h) = absurd cc
+
 pub failed : (fault : RequestFault) (r : Result Request RequestFault) → (r ≡ Err fault) ⊎ (fault ≡ OutOfMemory) → Reads (Err fault) r
 failed fault r (inl h) = inl (sym h)
 failed fault r (inr h) = inr (ap Err h)

@@ -36,7 +36,7 @@ read-by old = refl
 abbrev read_kind : List ℕ → Option ResponseKind → Result Response ResponseFault
 read_kind rest o = found_or (kind_at responses most_levels o rest >>= λ x. if_last x.0 x.1) (misread_response_kind o)
 
-read-kind : (old rest : List ℕ) (id : NodeId) (o : Option ResponseKind) → node_id.decode old ≡ Some (id, rest) → response_kind id ≡ o
+pub read-kind : (old rest : List ℕ) (id : NodeId) (o : Option ResponseKind) → node_id.decode old ≡ Some (id, rest) → response_kind id ≡ o
     → response_read old ≡ read_kind rest o
 read-kind old rest id o found is = read-by old ∙ ap read_by found ∙ ap (read_kind rest) is
 
@@ -71,6 +71,20 @@ pub kind_found : (k : ResponseKind) (old rest : List ℕ) (id : NodeId) (r : Res
     → Reads r (response_read old)
 kind_found k old rest id r found is (inl h) = inl (h ∙ sym (read-kind old rest id (Some k) found is))
 kind_found k old rest id r found is (inr h) = inr h
+
+-- of a body that is read behind its NodeId
+pub read_behind : (r all here : Result Response ResponseFault) → all ≡ here → Reads r here → Reads r all
+read_behind r all here e (inl h) = inl (h ∙ sym e)
+read_behind r all here e (inr h) = inr h
+
+-- of a body that is not read behind its NodeId
+pub refused_by : (fault : ResponseFault) (r : Result Response ResponseFault) → Reads (Err fault) r → (r ≡ Err fault) ⊎ (fault ≡ OutOfMemory)
+refused_by fault r (inl h) = inl (sym h)
+refused_by fault r (inr h) = inr (err_is fault OutOfMemory h)
+
+pub failed : (fault : ResponseFault) (r : Result Response ResponseFault) → (r ≡ Err fault) ⊎ (fault ≡ OutOfMemory) → Reads (Err fault) r
+failed fault r (inl h) = inl (sym h)
+failed fault r (inr h) = inr (ap Err h)
 
 -- ---- what was read, by the relations
 

@@ -241,26 +241,43 @@ fn unsupported<S: Source>(alloc: Global, src: &mut S) -> RequestFault
     }
 }
 
-// Reads a ReadRequest after its NodeId, and nothing after it: where it stands, so that it is moved
-// once. Its header is read again for the handle where it is refused, from a fork.
-#[inline(never)]
-fn read_last<S: Source>(alloc: Global, src: &mut S) -> Result<Request, RequestFault>
-    ensures { (result ≡ read_as_request RequestKind.Read (S.octets src.old)) ⊎ (result ≡ Err RequestFault.OutOfMemory) }
+/// Decodes a body that is one Read, after the NodeId that announces it, into this one. After an
+/// error, discard the source.
+#[inline(always)]
+pub fn read_read_request<S: Source>(
+    alloc: Global,
+    src: &mut S,
+    message: &mut ReadRequest,
+) -> Result<(), RequestFault>
+    ensures read { IfOk result (λ _. read_as_request RequestKind.Read (S.octets src.old)
+        ≡ Ok (Request.Read message.new)) }
+    ensures refused { IfErr result (λ fault. (read_as_request RequestKind.Read (S.octets src.old) ≡ Err fault)
+        ⊎ (fault ≡ RequestFault.OutOfMemory)) }
 {
     let mut head = src.fork();
-    let mut message = ReadRequest::empty();
     if let Err(fault) = message.read_into(alloc, src, MOST_LEVELS) {
         return Err(unreadable(alloc, &mut head, fault));
     }
     if src.left() > 0 {
         return Err(unreadable(alloc, &mut head, ReadFault::NoValue));
     }
+    Ok(())
+}
+
+// Reads a ReadRequest after its NodeId, and nothing after it.
+#[inline(never)]
+fn read_last<S: Source>(alloc: Global, src: &mut S) -> Result<Request, RequestFault>
+    ensures { (result ≡ read_as_request RequestKind.Read (S.octets src.old)) ⊎ (result ≡ Err RequestFault.OutOfMemory) }
+{
+    let mut message = ReadRequest::empty();
+    read_read_request(alloc, src, &mut message)?;
     Ok(Request::Read(message))
 }
 
-// Reads a request of another kind after its NodeId, and nothing after it.
+/// Decodes a body that is one request of this kind, after the NodeId that announces it. After an
+/// error, discard the source.
 #[inline(never)]
-fn read_other<S: Source>(
+pub fn read_request_of_kind<S: Source>(
     alloc: Global,
     src: &mut S,
     kind: RequestKind,
@@ -279,10 +296,10 @@ fn read_other<S: Source>(
     Ok(request)
 }
 
-// The kind of request that a body is to be, by the NodeId that it begins with. The source is left
-// after that.
+/// The kind of request that a body is to be, by the NodeId that it begins with. The source is left
+/// after that; after an error, discard it.
 #[inline(always)]
-fn body_kind<S: Source>(alloc: Global, src: &mut S) -> Result<RequestKind, RequestFault>
+pub fn read_request_kind<S: Source>(alloc: Global, src: &mut S) -> Result<RequestKind, RequestFault>
     ensures found { IfOk result (λ k. request_read (S.octets src.old) ≡ read_as_request k (S.octets src.new)) }
     ensures refused { IfErr result (λ fault. (request_read (S.octets src.old) ≡ Err fault)
         ⊎ (fault ≡ RequestFault.OutOfMemory)) }
@@ -297,17 +314,6 @@ fn body_kind<S: Source>(alloc: Global, src: &mut S) -> Result<RequestKind, Reque
     }
 }
 
-// Reads a body, as reading on lists does.
-fn read_body<S: Source>(alloc: Global, src: &mut S) -> Result<Request, RequestFault>
-    ensures { (result ≡ request_read (S.octets src.old)) ⊎ (result ≡ Err RequestFault.OutOfMemory) }
-{
-    let kind = body_kind(alloc, src)?;
-    match kind {
-        RequestKind::Read => read_last(alloc, src),
-        _ => read_other(alloc, src, kind),
-    }
-}
-
 /// Decodes a body that is one request, of at most nesting depth 100, with nothing after it. After
 /// an error, discard the source.
 #[tactic(auto, using(crate::proofs::RequestRead::request_found, crate::proofs::RequestRead::request_refused, crate::proofs::RequestRead::request_counted))]
@@ -317,7 +323,37 @@ pub fn read_request<S: Source>(alloc: Global, src: &mut S) -> Result<Request, Re
     ensures counted { IfOk result (λ m. request.count m ≤ length (S.octets src.old)) }
     ensures refused { IfErr result (λ fault. MisreadRequest (S.octets src.old) fault) }
 {
-    read_body(alloc, src)
+    let kind = read_request_kind(alloc, src)?;
+    match kind {
+        RequestKind::Read => read_last(alloc, src),
+        _ => read_request_of_kind(alloc, src, kind),
+    }
+}
+
+/// Decodes a body that is one Write, after the NodeId that announces it, into this one, without the
+/// values that nodes could not take. After an error, discard the source.
+#[inline(always)]
+pub fn read_write_request_for<S: Source, T: TakesTypes>(
+    alloc: Global,
+    src: &mut S,
+    types: &T,
+    message: &mut WriteRequest,
+) -> Result<(), RequestFault>
+    ensures read { IfOk result (λ _.
+        thin_read (T.takes types.now) (read_as_request RequestKind.Write (S.octets src.old))
+        ≡ Ok (Request.Write message.new)) }
+    ensures refused { IfErr result (λ fault.
+        (thin_read (T.takes types.now) (read_as_request RequestKind.Write (S.octets src.old)) ≡ Err fault)
+        ⊎ (fault ≡ RequestFault.OutOfMemory)) }
+{
+    let mut head = src.fork();
+    if let Err(fault) = message.read_thinned_into(alloc, src, MOST_LEVELS, types) {
+        return Err(unreadable(alloc, &mut head, fault));
+    }
+    if src.left() > 0 {
+        return Err(unreadable(alloc, &mut head, ReadFault::NoValue));
+    }
+    Ok(())
 }
 
 // Reads a Write after its NodeId, and nothing after it, without the values that nodes could not
@@ -331,15 +367,8 @@ fn read_thinned<S: Source, T: TakesTypes>(
     ensures { (result ≡ thin_read (T.takes types.now) (read_as_request RequestKind.Write (S.octets src.old)))
         ⊎ (result ≡ Err RequestFault.OutOfMemory) }
 {
-    let mut head = src.fork();
-    let message = match WriteRequest::read_thinned(alloc, src, MOST_LEVELS, types) {
-        Ok(message) => message,
-        Err(fault) => return Err(unreadable(alloc, &mut head, fault)),
-    };
-    if src.left() > 0 {
-        drop(message);
-        return Err(unreadable(alloc, &mut head, ReadFault::NoValue));
-    }
+    let mut message = WriteRequest::empty();
+    read_write_request_for(alloc, src, types, &mut message)?;
     Ok(Request::Write(message))
 }
 
@@ -356,11 +385,11 @@ pub fn read_request_for<S: Source, T: TakesTypes>(
         ⊎ (result ≡ Err RequestFault.OutOfMemory) }
     ensures counted { IfOk result (λ m. request.count m ≤ length (S.octets src.old)) }
 {
-    let kind = body_kind(alloc, src)?;
+    let kind = read_request_kind(alloc, src)?;
     match kind {
         RequestKind::Read => read_last(alloc, src),
         RequestKind::Write => read_thinned(alloc, src, types),
-        _ => read_other(alloc, src, kind),
+        _ => read_request_of_kind(alloc, src, kind),
     }
 }
 
@@ -413,7 +442,7 @@ fn skip_last<S: Source>(
 pub fn skip_request<S: Source>(alloc: Global, src: &mut S) -> Result<RequestKind, RequestFault>
     ensures kind { (result ≡ kind_alone (request_read (S.octets src.old))) ⊎ (result ≡ Err RequestFault.OutOfMemory) }
 {
-    let kind = body_kind(alloc, src)?;
+    let kind = read_request_kind(alloc, src)?;
     skip_last(alloc, src, kind)
 }
 

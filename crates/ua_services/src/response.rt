@@ -281,17 +281,20 @@ fn read_other<S: Source>(
     Ok(response)
 }
 
-// Reads a body, as reading on lists does.
-fn read_body<S: Source>(alloc: Global, src: &mut S) -> Result<Response, ResponseFault>
-    ensures { (result ≡ response_read (S.octets src.old)) ⊎ (result ≡ Err ResponseFault.OutOfMemory) }
+// The kind of response that a body is to be, by the NodeId that it begins with. The source is left
+// after that.
+#[inline(always)]
+fn body_kind<S: Source>(alloc: Global, src: &mut S) -> Result<ResponseKind, ResponseFault>
+    ensures found { IfOk result (λ k. response_read (S.octets src.old) ≡ read_as_response k (S.octets src.new)) }
+    ensures refused { IfErr result (λ fault. (response_read (S.octets src.old) ≡ Err fault)
+        ⊎ (fault ≡ ResponseFault.OutOfMemory)) }
 {
     let id = match NodeId::read_value(alloc, src, MOST_LEVELS) {
         Ok(id) => id,
         Err(fault) => return Err(unreadable(fault)),
     };
     match announced_kind(&id) {
-        Some(ResponseKind::Read) => read_last(alloc, src),
-        Some(kind) => read_other(alloc, src, kind),
+        Some(kind) => Ok(kind),
         None => Err(ResponseFault::Unknown),
     }
 }
@@ -305,7 +308,11 @@ pub fn read_response<S: Source>(alloc: Global, src: &mut S) -> Result<Response, 
     ensures counted { IfOk result (λ m. response.count m ≤ length (S.octets src.old)) }
     ensures refused { IfErr result (λ fault. MisreadResponse (S.octets src.old) fault) }
 {
-    read_body(alloc, src)
+    let kind = body_kind(alloc, src)?;
+    match kind {
+        ResponseKind::Read => read_last(alloc, src),
+        _ => read_other(alloc, src, kind),
+    }
 }
 
 // Skips the structure of a response of that kind. Of a Read no result is kept.

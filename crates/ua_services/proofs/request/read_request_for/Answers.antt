@@ -22,7 +22,7 @@ pub returns-in-Read : goal.returns-in-Read
 returns-in-Read g c =
     let takes = g.T.TakesTypes.takes c.args.types.now in
     let octets = g.S.Source.octets c.args.src.now in
-    let rest = g.S.Source.octets c.body_kind.new.src in
+    let rest = g.S.Source.octets c.read_request_kind.new.src in
     let is = c.in_ok-kind.ensures.found ∙ ap (λ (k : RequestKind). read_as_request k rest) c.in-Read.is in
     let read = whole_is takes Read octets rest c.read_last.result is (λ e. absurd cc) c.read_last.ensures in
     record { read = read; counted = thin_counted takes octets c.read_last.result read }
@@ -31,7 +31,7 @@ pub returns-in-Write : goal.returns-in-Write
 returns-in-Write g c =
     let takes = g.T.TakesTypes.takes c.args.types.now in
     let octets = g.S.Source.octets c.args.src.now in
-    let rest = g.S.Source.octets c.body_kind.new.src in
+    let rest = g.S.Source.octets c.read_request_kind.new.src in
     let is = c.in_ok-kind.ensures.found ∙ ap (λ (k : RequestKind). read_as_request k rest) c.in-Write.is in
     let read = thin_is takes octets rest c.read_thinned.result is c.read_thinned.ensures in
     record { read = read; counted = thin_counted takes octets c.read_thinned.result read }
@@ -40,6 +40,6 @@ pub returns-in_default : goal.returns-in_default
 returns-in_default g c =
     let takes = g.T.TakesTypes.takes c.args.types.now in
     let octets = g.S.Source.octets c.args.src.now in
-    let read = whole_is takes c.in_ok-kind.kind octets (g.S.Source.octets c.body_kind.new.src) c.read_other.result c.in_ok-kind.ensures.found
-    c.in_default.not-Write c.read_other.ensures in
-    record { read = read; counted = thin_counted takes octets c.read_other.result read }
+    let read = whole_is takes c.in_ok-kind.kind octets (g.S.Source.octets c.read_request_kind.new.src) c.read_request_of_kind.result c.in_ok-kind.ensures.found
+    c.in_default.not-Write c.read_request_of_kind.ensures in
+    record { read = read; counted = thin_counted takes octets c.read_request_of_kind.result read }

@@ -1,16 +1,16 @@
-use Rattle.std.proofs.Common.{arith}
-use Rattle.ua_services.proofs.RequestThinned.{write_fails, write_left, write_whole}
+use Rattle.std.proofs.Common.{sym, inl}
+use Rattle.std.proofs.lemmas.Result.{err_from_is_err_and}
+use Rattle.ua_services.specs.Request.{read_as_request, thin_read}
+use Rattle.ua_services.specs.declared.request.RequestKind.TheVariants.{Write}
+use Rattle.ua_services.proofs.RequestRead.{failed}
 use Rattle.ua_services.proofs.request.read_thinned.Goals as goal
 
-pub returns-in-Err : goal.returns-in-Err
-returns-in-Err g c = write_fails (g.T.TakesTypes.takes c.args.types.now) (g.S.Source.octets c.fork-head.result) (g.S.Source.octets c.args.src.now)
-    (g.S.Source.octets c.read_thinned.new.src) c.in-Err.fault c.unreadable.result c.fork-head.ensures c.in-Err.ensures.exact c.unreadable.ensures
-
-pub returns-then-left-gt0 : goal.returns-then-left-gt0
-returns-then-left-gt0 g c = write_left (g.T.TakesTypes.takes c.args.types.now) (g.S.Source.octets c.fork-head.result) (g.S.Source.octets c.args.src.now)
-    (g.S.Source.octets c.read_thinned.new.src) c.in-Ok.message c.unreadable-then-left-gt0.result c.fork-head.ensures c.in-Ok.ensures.exact
-    (omega (arith, c.if-left-gt0.true, c.left.ensures)) c.unreadable-then-left-gt0.ensures
+pub returns-in_err-read_write_request_for : goal.returns-in_err-read_write_request_for
+returns-in_err-read_write_request_for g c =
+    let p = err_from_is_err_and c.from_residual.result c.from_residual.ensures.1 in
+    rw (p.1, p.2) (failed c.in_err-read_write_request_for.field-0.0
+    (thin_read (g.T.TakesTypes.takes c.args.types.now) (read_as_request Write (g.S.Source.octets c.args.src.now)))
+    c.in_err-read_write_request_for.ensures.refused)
 
 pub returns : goal.returns
-returns g c = write_whole (g.T.TakesTypes.takes c.args.types.now) (g.S.Source.octets c.args.src.now) (g.S.Source.octets c.read_thinned.new.src) c.in-Ok.message
-    c.in-Ok.ensures.exact (omega (arith, c.if-left-gt0.false, c.left.ensures))
+returns g c = inl (sym c.in_ok-read_write_request_for.ensures.read)

@@ -14,6 +14,6 @@ returns-in_err-kind g c =
 pub returns : goal.returns
 returns g c = record {
   kind = body_skipped c.skip_last.result (request_read (g.S.Source.octets c.args.src.now))
-      (read_as_request c.in_ok-kind.kind (g.S.Source.octets c.body_kind.new.src))
+      (read_as_request c.in_ok-kind.kind (g.S.Source.octets c.read_request_kind.new.src))
       c.in_ok-kind.ensures.found c.skip_last.ensures;
 }

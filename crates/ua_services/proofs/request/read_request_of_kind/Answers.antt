@@ -1,7 +1,7 @@
 use Rattle.std.proofs.Common.{arith}
 use Rattle.ua_services.specs.Request.{request_of_kind}
 use Rattle.ua_services.proofs.RequestRead.{kind_fails, kind_left, kind_whole}
-use Rattle.ua_services.proofs.request.read_other.Goals as goal
+use Rattle.ua_services.proofs.request.read_request_of_kind.Goals as goal
 
 pub returns-in-Err : goal.returns-in-Err
 unfolding request_of_kind
