@@ -1,7 +1,9 @@
 -- Which reply a message is to which request.
-use Rattle.std.specs.Prelude.{◌≡◌, ◌+◌, ◌<◌, ◌++◌, ℕ, zero, suc, false, List, [], ◌∷◌, length, Option, Some, None, Result, Ok, Err, OnOk, OnErr, IfErr}
+use Rattle.std.specs.Prelude.{◌≡◌, ◌⊎◌, ◌+◌, ◌<◌, ◌++◌, ℕ, zero, suc, true, false, List, [], ◌∷◌}
+use Rattle.std.specs.Prelude.{length, Option, Some, None, Result, Ok, Err, OnOk, OnErr, IfErr}
 use Rattle.std.specs.List.{concat}
-use Rattle.std.proofs.Common.{refl, sym, ◌∙◌, ap, subst, eqb, get_or, set, arith}
+use Rattle.std.proofs.Common.{refl, sym, ◌∙◌, ap, subst, inl, inr, eqb, get_or, set, arith}
+use Rattle.std.proofs.lemmas.List.{length-set}
 use Rattle.ua_builtin.specs.declared.date_time.DateTime.{DateTime}
 use Rattle.ua_builtin.specs.declared.status_code.StatusCode.{StatusCode}
 use Rattle.ua_channel.specs.ClientTold.{ClientTold}
@@ -17,6 +19,7 @@ use Rattle.ua_services.specs.declared.request.RequestKind.{RequestKind}
 use Rattle.ua_services.specs.declared.response.Response.{Response}
 use Rattle.ua_client.specs.Hearing.{Says}
 use Rattle.ua_client.specs.Replies.{IsAnswer, IsNoAnswer, ReadsAnswer, PutsAnswer, IsPlace, IsRequestAt, PlacesReply, AreSlots, FillsSlots}
+use Rattle.ua_client.specs.Replies.{is_reading_fault}
 use Rattle.ua_client.specs.Told.{is_told_of, IsFirstOf}
 use Rattle.ua_client.specs.declared.fault.ClientFault.{ClientFault}
 use Rattle.ua_client.specs.declared.fault.ClientFault.TheVariants as fault
@@ -156,14 +159,49 @@ pub says_aborted : (id : ℕ) (code : StatusCode) (e : ClientEvent) → e ≡ ev
     → t ≡ GaveUp id code
 says_aborted id code e is m t says = subst (λ (x : ClientEvent). Says m x t) is says
 
--- a response that was read is put there, or is no answer
+-- a response that was read is put there, or is no answer; or memory for it is lacking
 pub puts_response : (kind : RequestKind) (octets : List ℕ) (m : Response) (n : ℕ) (old new : List (Option Reply)) (result : Result (Unit {0}) ClientFault)
     → OneMessage response → IsBody response m octets → OnOk result (Answers (kind_of_response m) kind × (new ≡ set old n (Some (Responds m))))
-    → IfErr result (λ f. (f ≡ fault.UnknownResponse) × (Answers (kind_of_response m) kind → ⊥)) → OnErr result (new ≡ old)
+    → IfErr result (λ f. (f ≡ fault.OutOfMemory) ⊎ ((f ≡ fault.UnknownResponse) × (Answers (kind_of_response m) kind → ⊥))) → OnErr result (new ≡ old)
     → PutsAnswer kind octets n old new result
 puts_response kind octets m n old new (Ok done) one body put refused same = (m, (body, put.0), put.1)
-puts_response kind octets m n old new (Err f) one body put refused same = (
-  same,
-  subst (λ (x : ClientFault). ReadsAnswer kind octets (Err x)) (sym refused.0)
-      (λ k a. refused.1 (subst (λ (q : Response). Answers (kind_of_response q) kind) (one k m octets a.0 body) a.1)),
-)
+puts_response kind octets m n old new (Err f) one body put refused same = (same, by refused)
+  where
+    by : (f ≡ fault.OutOfMemory) ⊎ ((f ≡ fault.UnknownResponse) × (Answers (kind_of_response m) kind → ⊥)) → ReadsAnswer kind octets (Err f)
+    by (inl e) = subst (λ (x : ClientFault). ReadsAnswer kind octets (Err x)) (sym e) tt
+    by (inr r) = subst (λ (x : ClientFault). ReadsAnswer kind octets (Err x)) (sym r.0)
+        (λ k a. r.1 (subst (λ (q : Response). Answers (kind_of_response q) kind) (one k m octets a.0 body) a.1))
+
+pub response_faults : (Q : Type 0) (result : Result (Unit {0}) ClientFault)
+    → IfErr result (λ f. (f ≡ fault.OutOfMemory) ⊎ ((f ≡ fault.UnknownResponse) × Q)) → IfErr result (λ f. is_reading_fault f ≡ true)
+response_faults Q (Ok done) h = tt
+response_faults Q (Err f) (inl e) = ap is_reading_fault e
+response_faults Q (Err f) (inr r) = ap is_reading_fault r.0
+
+-- a reply is put, where memory for it is not lacking
+pub put_answered : (A B : Type 0) (result : Result (Unit {0}) ClientFault) → A → OnOk result B → OnOk result (A × B)
+put_answered A B (Ok done) a b = (a, b)
+put_answered A B (Err f) a b = tt
+
+pub put_unrefused : (Q : Type 0) (result : Result (Unit {0}) ClientFault) → IfErr result (λ f. f ≡ fault.OutOfMemory)
+    → IfErr result (λ f. (f ≡ fault.OutOfMemory) ⊎ ((f ≡ fault.UnknownResponse) × Q))
+put_unrefused Q (Ok done) h = tt
+put_unrefused Q (Err f) h = inl h
+
+pub put_faults : (result : Result (Unit {0}) ClientFault) → IfErr result (λ f. f ≡ fault.OutOfMemory) → IfErr result (λ f. is_reading_fault f ≡ true)
+put_faults (Ok done) h = tt
+put_faults (Err f) h = ap is_reading_fault h
+
+pub put_count : (old new : List (Option Reply)) (n : ℕ) (reply : Reply) (result : Result (Unit {0}) ClientFault) → OnOk result (new ≡ set old n (Some reply))
+    → OnErr result (new ≡ old) → length new ≡ length old
+put_count old new n reply (Ok done) put same = ap length put ∙ length-set old n (Some reply)
+put_count old new n reply (Err f) put same = ap length same
+
+pub put_fills : (requests : List Request) (first : ℕ) (told : List ClientTold) (t : ClientTold) (old new : List (Option Reply)) (n : ℕ) (reply : Reply)
+    (result : Result (Unit {0}) ClientFault)
+    → PlacesReply requests first t (Ok (Some (n, reply))) → OnOk result (new ≡ set old n (Some reply)) → IfErr result (λ f. f ≡ fault.OutOfMemory)
+    → IsFirstOf told t → AreSlots requests first told old → FillsSlots requests first (told ++ t ∷ []) new result
+put_fills requests first told t old new n reply (Ok done) at put memory once s =
+    subst (λ (ss : List (Option Reply)). AreSlots requests first (told ++ t ∷ []) ss) (sym put) (fills_some requests first told t old n reply at once s)
+put_fills requests first told t old new n reply (Err f) at put memory once s =
+    subst (λ (x : ClientFault). FillsSlots requests first (told ++ t ∷ []) new (Err x)) (sym memory) tt

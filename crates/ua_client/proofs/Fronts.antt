@@ -5,7 +5,6 @@ use Rattle.std.proofs.Common.{refl, sym, ◌∙◌, ap, subst, inl, inr, eqb, ru
 use Rattle.ua_channel.specs.ClientTold.{ClientTold}
 use Rattle.ua_services.specs.Request.{kind_of_request}
 use Rattle.ua_services.specs.declared.request.Request.{Request}
-use Rattle.ua_client.specs.Calls.{AreUntold, none_for}
 use Rattle.ua_client.specs.Replies.{IsReplyTo, IsMisanswer, AreSlots, AreReplies, IsRequestAt, IsFront, IsUntold, IsUntoldBefore, LacksAnswer, front_of}
 use Rattle.ua_client.specs.Told.{is_told_of, IsFirstOf}
 use Rattle.ua_client.specs.declared.reply.Reply.{Reply}
@@ -26,12 +25,6 @@ pub front-before : (requests : List Request) (id : ℕ) (told : List ClientTold)
 front-before [] id told kept h = absurd h
 front-before (r ∷ rs) id told [] h = inl h
 front-before (r ∷ rs) id told (reply ∷ kept) h = (h.0, front-before rs (id + 1) told kept h.1)
-
--- before anything was told of the calls
-pub front-first : (requests : List Request) (id : ℕ) (told : List ClientTold) → 0 < length requests → AreUntold requests id told
-    → IsFront IsUntoldBefore (front_of (none_for requests)) requests id told
-front-first [] id told some h = absurd (omega (arith, some))
-front-first (r ∷ rs) id told some h = inl h.0
 
 -- ---- one thing more that was told
 

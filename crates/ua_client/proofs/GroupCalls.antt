@@ -18,7 +18,7 @@ use Rattle.ua_channel.specs.declared.client.fault.AskFault.{AskFault}
 use Rattle.ua_channel.specs.declared.client.fault.AskFault.TheVariants as ask_fault
 use Rattle.ua_channel.specs.declared.client.phase.Phase.{Phase}
 use Rattle.ua_client.specs.ClientPlace.{ClientPlace, StandsAt, id_at, lane_behind}
-use Rattle.ua_client.specs.Calls.{asked_at, sent_at, refusal_at, AreUntold, Collects, CollectsAfter, BreaksAt, IsSentAt, none_for}
+use Rattle.ua_client.specs.Calls.{asked_at, sent_at, refusal_at, AreUntold, Collects, CollectsAfter, BreaksAt, IsSentAt}
 use Rattle.ua_client.specs.Carried.{Carries, WritesFront}
 use Rattle.ua_client.specs.Hearing.{channel_of_connection, untaken_of, MovesConnection, StopsByTraffic, is_line_fault}
 use Rattle.ua_client.specs.Kept.{CallsGroup, IsGroupRefusedFor, KeepsRepliesAt, naming_request}
@@ -34,7 +34,7 @@ use Rattle.ua_client.specs.declared.reply.Reply.{Reply}
 use Rattle.ua_client.proofs.Carrying.{carried-nothing, carried-then, carried-as, sends-front}
 use Rattle.ua_client.proofs.Hearings.{moves-from, moves-writing}
 use Rattle.ua_client.proofs.Fronts.{front-all, front-fewer, front-untold, front-whole}
-use Rattle.ua_client.proofs.Incoming.{collects-none, told-whole}
+use Rattle.ua_client.proofs.Incoming.{told-whole}
 use Rattle.ua_client.proofs.Judging.{group-judged, is_reason, refused-for}
 
 -- ---- refusals to ask
@@ -484,21 +484,6 @@ module _ (requests : List Request) (old mid : Connection) (first : ℕ) (out : L
           → CallsGroup requests old new before after reads left (naming_request (length have - length had) result) had have
       group-kept (Ok done) c = group-answered done c
       group-kept (Err f) c = group-broken f c
-
--- no memory for the slots of the replies
-pub group-unslotted : {A : Type 0} (requests : List Request) (old mid : Connection) (first : ℕ) (out : List ℕ) → IsAsked requests old mid first out → ToldBehind
-    → (before after : Option Traffic) (reads : ℕ)
-    → IfTrafficKnown (Carries [] out) before after → (f : ClientFault) (had have : List Reply) → have ≡ had → f ≡ fault.OutOfMemory
-    → CallsGroup {A = A} requests old mid before after reads reads (Err (first_unkept f had have)) had have
-group-unslotted {A} requests old mid first out q law before after reads w f had have none e =
-    subst (λ (x : ClientFault). CallsGroup {A = A} requests old mid before after reads reads (Err (first_unkept x had have)) had have) (sym e)
-    (group-broken requests old mid first out q law mid before after after reads reads w (none_for requests) had have
-    (none ∙ (sym (append-nil had) ∙ ap (λ (rs : List Reply). had ++ rs) (sym (no-front requests))))
-    fault.OutOfMemory (collects-none {A = Unit {0}} requests first mid after reads q.some))
-  where
-    no-front : (ms : List Request) → front_of (none_for ms) ≡ []
-    no-front [] = refl
-    no-front (m ∷ ms) = refl
 
 -- so many replies more
 pub kept-count : (result : Result (Unit {0}) ClientFault) (had have : List Reply) (slots : List (Option Reply)) (n : ℕ) → have ≡ had ++ front_of slots

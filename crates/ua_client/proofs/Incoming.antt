@@ -1,6 +1,6 @@
 -- How the replies of a group of calls come in.
-use Rattle.std.specs.Prelude.{◌≡◌, ◌⊎◌, ℕ, ◌+◌, ◌≤◌, ◌<◌, true, false, cond, is_none, List, [], ◌∷◌, ◌++◌, length, take, Option, None, Ok, Err}
-use Rattle.std.proofs.Common.{refl, sym, ◌∙◌, ap, subst, inl, inr, append_assoc, append-nil, arith, zero, suc}
+use Rattle.std.specs.Prelude.{◌≡◌, ◌⊎◌, ℕ, ◌+◌, ◌≤◌, ◌<◌, true, false, cond, is_none, List, [], ◌∷◌, ◌++◌, length, Option, Ok, Err}
+use Rattle.std.proofs.Common.{refl, sym, ◌∙◌, ap, subst, inl, inr, append_assoc, append-nil, arith, suc}
 use Rattle.std.proofs.lemmas.List.{length-append}
 use Rattle.std.specs.List.{AllByRecursion, list_any}
 use Rattle.ua_builtin.specs.declared.date_time.DateTime.{DateTime}
@@ -24,7 +24,7 @@ use Rattle.ua_client.specs.declared.fault.ClientFault.{ClientFault}
 use Rattle.ua_client.specs.declared.fault.ClientFault.TheVariants as fault
 use Rattle.ua_client.specs.declared.reply.Reply.{Reply}
 use Rattle.ua_client.proofs.Carrying.{carried-nothing}
-use Rattle.ua_client.proofs.Fronts.{front-untold, front-before, front-first, front-unread}
+use Rattle.ua_client.proofs.Fronts.{front-untold, front-before, front-unread}
 use Rattle.ua_client.proofs.Hearings.{keeps-all, keeps-then, moves-behind, moves-writing, GoesOnBehind}
 
 -- ---- slots
@@ -32,23 +32,6 @@ use Rattle.ua_client.proofs.Hearings.{keeps-all, keeps-then, moves-behind, moves
 untold-slots : (requests : List Request) (first : ℕ) (told : List ClientTold) → AreUntold requests first told → AreSlots requests first told (none_for requests)
 untold-slots [] first told h = tt
 untold-slots (r ∷ rs) first told h = (h.0, untold-slots rs (first + 1) told h.1)
-
--- one slot more
-pub none-more : (requests : List Request) (n : ℕ) → n < length requests → none_for (take n requests) ++ None ∷ [] ≡ none_for (take (n + 1) requests)
-none-more [] n few = absurd (omega (arith, few))
-none-more (r ∷ rs) zero few = refl
-none-more (r ∷ rs) (suc n) few = ap (λ (slots : List (Option Reply)). None ∷ slots) (none-more rs n (omega (arith, few)))
-    ∙ ap (λ (k : ℕ). none_for (take k (r ∷ rs))) (on n)
-  where
-    on : (a : ℕ) → suc (a + 1) ≡ suc a + 1
-    on a = omega arith
-
-pub slot-more : (requests : List Request) (slots : List (Option Reply)) → slots ≡ none_for (take (length slots) requests) → length slots < length requests
-    → slots ++ None ∷ [] ≡ none_for (take (length (slots ++ None ∷ [])) requests)
-slot-more requests slots e few =
-    ap (λ (ss : List (Option Reply)). ss ++ None ∷ []) e
-    ∙ (none-more requests (length slots) few
-    ∙ ap (λ (k : ℕ). none_for (take k requests)) (sym (length-append slots (None ∷ []))))
 
 -- a fault of reading an answer is none of the line
 pub reading-failures : (x : ClientFault) → is_reading_fault x ≡ true → (n : ℕ) → cond (is_line_fault x) (one_more n) n ≡ n
@@ -330,18 +313,3 @@ module _ (requests : List Request) (first : ℕ) (old now new : Connection) (bef
         (on.0, on.1, (on.2.0, none, last-came requests first now asks (octets ++ w.moves.taken) slots (told ++ on.0) some none on.2.1));
     stops = w.spent;
   }
-
--- no memory to wait for any reply
-pub collects-none : {A : Type 0} (requests : List Request) (first : ℕ) (x : Connection) (t : Option Traffic) (reads : ℕ) → 0 < length requests
-    → Collects {A = A} (none_for requests) requests first x x t t reads reads (Err fault.OutOfMemory)
-collects-none requests first x t reads some = record {
-  moves = moves-writing x x [] t t refl (carried-nothing t);
-  keeps = keeps-all x;
-  answers = λ asks octets told g n. (
-    [],
-    inr (subst (λ (o : List ℕ). ClientGoes (channel_of_connection x) asks o (told ++ [])) (sym (append-nil octets))
-        (subst (λ (h : List ClientTold). ClientGoes (channel_of_connection x) asks octets h) (sym (append-nil told)) g)),
-    subst (IsFront IsUntoldBefore (front_of (none_for requests)) requests first) (sym (append-nil told)) (front-first requests first told some n),
-  );
-  stops = tt;
-}

@@ -1,5 +1,5 @@
 -- Why a group of calls is not asked, by where the client stands.
-use Rattle.std.specs.Prelude.{◌≡◌, ℕ, ◌+◌, ◌≤◌, ◌<◌, nat_le, Bool, true, false, not, ◌++◌, List, [], ◌∷◌, length, take, drop, Option, Some, None, Err}
+use Rattle.std.specs.Prelude.{◌≡◌, ℕ, ◌+◌, ◌≤◌, ◌<◌, nat_le, Bool, true, false, not, ◌++◌, List, [], ◌∷◌, length, take, drop, Option, Some, None, Result, Err}
 use Rattle.std.proofs.Common.{refl, sym, ◌∙◌, ap, subst, get_or, arith, zero, suc, add-zero}
 use Rattle.std.specs.List.{AllByRecursion}
 use Rattle.std.proofs.lemmas.Bool.{lt-leb}
@@ -139,6 +139,16 @@ group-first p ms m e = group-push p 0 ms m e ∙ ap (λ (n : ℕ). request_refus
   where
     none-before : (n : ℕ) → 0 + n ≡ n
     none-before n = omega arith
+
+pub only-one : (requests : List Request) (m d : Request) → 1 ≤ length requests → length requests < 2 → m ≡ get_or requests 0 d → requests ≡ m ∷ []
+only-one [] m d some few e = absurd (omega (arith, some))
+only-one (r ∷ []) m d some few e = ap (λ (q : Request). q ∷ []) (sym e)
+only-one (r ∷ n ∷ rs) m d some few e = absurd (omega (arith, few))
+
+-- a request that is a group by itself
+pub one-judged : {A : Type 0} (p : Phase) (m : Request) (result : Result A ClientFault) → AnswersBy (request_refusal p 0 m) result
+    → AnswersBy (group_refusal p 0 (m ∷ [])) result
+one-judged {A} p m result h = subst (λ (o : Option ClientFault). AnswersBy {A = A} o result) (sym (group-first p [] m refl)) h
 
 -- the requests up to the next place
 pub take-next : (requests : List Request) (n : ℕ) (m d : Request) → n < length requests → m ≡ get_or requests n d

@@ -16,6 +16,7 @@ mod Followed
 pub mod Fronts
 pub mod Answering
 pub mod Incoming
+pub mod SlotsFilled
 pub mod Judging
 pub mod GroupCalls
 pub mod Grouping

@@ -10,6 +10,7 @@ pub mod Client
 pub mod Renewing
 pub mod Sent
 pub mod Replies
+pub mod Slots
 pub mod Calls
 pub mod Kept
 pub mod Session

@@ -121,7 +121,12 @@ abbrev pub asked_len : List AskedCall → ℕ
 asked_len [] = 0
 asked_len (call ∷ calls) = call.len + asked_len calls
 
--- the same, and this is the RequestId of the first
+-- that of a call, if there is one
+abbrev pub last_len : Option AskedCall → ℕ
+last_len None = 0
+last_len (Some call) = call.len
+
+-- a group of calls was made so, and this is the RequestId of the first
 abbrev pub AsksFrom : List (List ℕ) → ClientChannel → ClientChannel → List Placed → List ℕ → List Frame → List ℕ → ℕ × List ℕ → Type 0
 AsksFrom bodies old new asks octets frames rest found = (0 < length bodies → found.0 ≡ next_id (asked_in asks))
     × AsksGroup bodies old new asks octets frames rest found.1

@@ -7,13 +7,15 @@ ghost use Rattle.ua_client.specs.Kept.{CallsGroup, CallsInto, naming_request};
 ghost use Rattle.ua_client.specs.Renewing.{StandsSettled};
 ghost use Rattle.ua_client.specs.Sent.{bodies_of, group_refusal};
 
-use crate::collecting::{append_front, empty_slots, make_room};
+use crate::collecting::make_room;
 use crate::connection::Connection;
 use crate::fault::{CallsFault, ClientFault};
-use crate::group::{JudgedGroup, ask_group, judge_group};
+use crate::group::{Body, ask_group, judge_group, judge_one};
 use crate::laws::{calls_are_told_behind, clients_are_settled};
 use crate::reply::Reply;
 use crate::sending::write_calls;
+use crate::slots::Slots;
+use std::{mem, slice};
 use ua_builtin::DateTime;
 use ua_channel::Line;
 use ua_services::Request;
@@ -42,34 +44,67 @@ impl Connection {
         &mut self,
         line: &mut L,
         reads: &mut u64,
-        group: &JudgedGroup<'_>,
+        requests: &[Request],
+        bodies: &[Body],
         moment: DateTime,
         replies: &mut Vec<Reply>,
     ) -> Result<(), ClientFault>
-        requires some { 0 < length group.now.requests.now }
-        requires few { length group.now.requests.now ≤ 64 }
-        requires bodies { group.now.bodies.items ≡ bodies_of group.now.requests.now }
-        requires judged { group_refusal (phase_of (channel_of_connection self.old)) 0 group.now.requests.now ≡ None }
-        ensures calls { CallsGroup group.now.requests.now self.old self.new (L.traffic line.old) (L.traffic line.new)
+        requires some { 0 < length requests.now }
+        requires few { length requests.now ≤ 64 }
+        requires bodies { bodies.now ≡ bodies_of requests.now }
+        requires judged { group_refusal (phase_of (channel_of_connection self.old)) 0 requests.now ≡ None }
+        ensures calls { CallsGroup requests.now self.old self.new (L.traffic line.old) (L.traffic line.new)
             reads.old reads.new (naming_request (length replies.new.items - length replies.old.items) result)
             replies.old.items replies.new.items }
         ensures more { length replies.old.items ≤ length replies.new.items }
         ensures count { OnOk result
-            (length replies.new.items ≡ length replies.old.items + length group.now.requests.now) }
+            (length replies.new.items ≡ length replies.old.items + length requests.now) }
         ensures missing { OnErr result
-            (length replies.new.items < length replies.old.items + length group.now.requests.now) }
+            (length replies.new.items < length replies.old.items + length requests.now) }
         ensures failed { L.failures line.new ≡ failures_behind (L.failures line.old) result }
     {
         calls_are_told_behind();
-        make_room(replies, group.requests.len())?;
-        let asked = ask_group(self.alloc, &mut self.channel, group)?;
-        let Ok(()) = write_calls(line, &asked.octets, &asked.calls) else {
+        make_room(replies, requests.len())?;
+        let asked = ask_group(self.alloc, &mut self.channel, requests, bodies)?;
+        let Ok(()) = write_calls(line, &asked.octets, &asked.calls, asked.frame_len) else {
             return Err(ClientFault::Write);
         };
-        let mut slots = empty_slots(self.alloc, asked.requests)?;
+        let had = mem::replace(replies, Vec::new(self.alloc));
+        let mut slots = Slots::behind(self.alloc, had, requests.len());
         let waited = self.collect(line, reads, &asked, moment, &mut slots);
-        append_front(slots, replies);
+        drop(mem::replace(replies, slots.into_replies()));
         waited
+    }
+
+    /// Calls a group, none of whose requests is refused, and names the first request whose reply is
+    /// missing.
+    fn call_bodies<L: Line>(
+        &mut self,
+        line: &mut L,
+        reads: &mut u64,
+        requests: &[Request],
+        bodies: &[Body],
+        moment: DateTime,
+        replies: &mut Vec<Reply>,
+    ) -> Result<(), CallsFault>
+        requires some { 0 < length requests.now }
+        requires few { length requests.now ≤ 64 }
+        requires bodies { bodies.now ≡ bodies_of requests.now }
+        requires judged { group_refusal (phase_of (channel_of_connection self.old)) 0 requests.now ≡ None }
+        ensures calls { CallsGroup requests.now self.old self.new (L.traffic line.old) (L.traffic line.new) reads.old
+            reads.new result replies.old.items replies.new.items }
+        ensures count { OnOk result (length replies.new.items ≡ length replies.old.items + length requests.now) }
+        ensures names { IfErr result (λ calls. calls.request < length requests.now) }
+        ensures failed { L.failures line.new ≡ failures_behind (L.failures line.old) (fault_alone result) }
+    {
+        let had = replies.len();
+        match self.call_judged(line, reads, requests, bodies, moment, replies) {
+            Ok(()) => Ok(()),
+            Err(fault) => Err(CallsFault {
+                request: replies.len() - had,
+                fault,
+            }),
+        }
     }
 
     /// Checks a group of calls as a whole, writes its frames, waits for its replies and appends
@@ -90,17 +125,18 @@ impl Connection {
         ensures names { IfErr result (λ calls. calls.request < length requests.now) }
         ensures failed { L.failures line.new ≡ failures_behind (L.failures line.old) (fault_alone result) }
     {
-        let had = replies.len();
-        let group = match judge_group(self.alloc, &self.channel, requests) {
-            Ok(group) => group,
-            Err(calls) => return Err(calls),
-        };
-        match self.call_judged(line, reads, &group, moment, replies) {
-            Ok(()) => Ok(()),
-            Err(fault) => Err(CallsFault {
-                request: replies.len() - had,
-                fault,
-            }),
+        if let [request] = requests {
+            return match judge_one(self.alloc, &self.channel, request) {
+                Ok(body) => {
+                    let bodies = slice::from_ref(&body);
+                    self.call_bodies(line, reads, requests, bodies, moment, replies)
+                }
+                Err(calls) => Err(calls),
+            };
+        }
+        match judge_group(self.alloc, &self.channel, requests) {
+            Ok(bodies) => self.call_bodies(line, reads, requests, &bodies, moment, replies),
+            Err(calls) => Err(calls),
         }
     }
 

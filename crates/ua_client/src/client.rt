@@ -226,8 +226,8 @@ impl Client {
     /// a missing one is dropped. After `TooLarge`, `NotWritable` and `Exhausted` the fault names
     /// the first request of its group to which a reason applies, after any other fault the first
     /// one that has no reply in the vector. Memory for the replies of a group is reserved before
-    /// the group is sent, so that no reply that arrives is lost; where that allocation fails, the
-    /// group is not sent.
+    /// the group is sent, so that no reply that arrives in order is lost; where that allocation
+    /// fails, the group is not sent.
     pub fn call_into<L: Line>(
         &mut self,
         line: &mut L,

@@ -1,11 +1,11 @@
 //! Groups of calls: checked as a whole, and then sent.
 
-ghost use Rattle.std.specs.Prelude.{◌≡◌, ◌<◌, ◌++◌, ◌↔◌, ℕ, List, Some, None, length};
+ghost use Rattle.std.specs.Prelude.{◌≡◌, ◌<◌, ◌≤◌, ◌+◌, ◌∷◌, [], ◌↔◌, ℕ, List, Some, None, length};
 ghost use Rattle.std.specs.Prelude.{map, IfOk, IfErr, OnOk, IsTrue, IsFalse, IsErrOf};
 ghost use Rattle.ua_wire.specs.declared.fault.WriteFault.TheVariants.{NotWritable};
 ghost use Rattle.ua_services.specs.Request.{request};
 ghost use Rattle.ua_channel.specs.Client.{SameClient, phase_of, ask_refusal, WhateverPassed};
-ghost use Rattle.ua_client.specs.Sent.{asked_len, of_ask, AnswersBy, request_refusal, group_refusal};
+ghost use Rattle.ua_client.specs.Sent.{asked_len, last_len, of_ask, AnswersBy, request_refusal, group_refusal};
 ghost use Rattle.ua_client.specs.Sent.{bodies_of, AsksFrom, AsksOr, RefusesBy, place_by};
 ghost use Rattle.ua_client.specs.Hearing.{fault_alone};
 ghost use Rattle.ua_client.specs.declared.fault.ClientFault.TheVariants.{OutOfMemory};
@@ -110,6 +110,7 @@ fn judge_request(
 fn fault_at(place: usize, fault: ClientFault) -> CallsFault
     ensures fault { result.fault ≡ fault }
     ensures request { result.request ≡ place_by fault place }
+    ensures within { result.request ≤ place }
 {
     match fault {
         ClientFault::OutOfMemory => CallsFault { request: 0, fault },
@@ -120,27 +121,35 @@ fn fault_at(place: usize, fault: ClientFault) -> CallsFault
     }
 }
 
-/// A group of requests that a channel would send.
-#[derive(Debug, Drop)]
-pub struct JudgedGroup<'a> {
-    /// The requests, in order.
-    pub requests: &'a [Request],
-    /// The body of each.
-    pub bodies: Vec<Body>,
-}
-
-/// A group of requests with their bodies, where a channel would send all of them; else the first of
-/// them that it would not send.
-pub fn judge_group<'a>(
+/// The body of a request that is a group by itself, where a channel would send it.
+pub fn judge_one(
     alloc: Global,
     channel: &ClientChannel,
-    requests: &'a [Request],
-) -> Result<JudgedGroup<'a>, CallsFault>
+    message: &Request,
+) -> Result<Body, CallsFault>
+    ensures judged { AnswersBy (group_refusal (phase_of channel.now) 0 (message.now ∷ [])) (fault_alone result) }
+    ensures place { IfErr result
+        (λ calls. RefusesBy (phase_of channel.now) (message.now ∷ []) calls.request calls.fault) }
+    ensures within { IfErr result (λ calls. calls.request < 1) }
+    ensures body { IfOk result (λ b. b ≡ request.canonical message.now) }
+{
+    match judge_request(alloc, channel, 0, message) {
+        Ok(body) => Ok(body),
+        Err(fault) => Err(fault_at(0, fault)),
+    }
+}
+
+/// The bodies of a group of requests, where a channel would send all of them; else the first of them
+/// that it would not send.
+pub fn judge_group(
+    alloc: Global,
+    channel: &ClientChannel,
+    requests: &[Request],
+) -> Result<Vec<Body>, CallsFault>
     ensures judged { AnswersBy (group_refusal (phase_of channel.now) 0 requests.now) (fault_alone result) }
     ensures place { IfErr result (λ calls. RefusesBy (phase_of channel.now) requests.now calls.request calls.fault) }
     ensures within { IfErr result (λ calls. calls.request < length requests.now) }
-    ensures requests { IfOk result (λ group. group.requests.now ≡ requests.now) }
-    ensures bodies { IfOk result (λ group. group.bodies.items ≡ bodies_of requests.now) }
+    ensures bodies { IfOk result (λ bodies. bodies.items ≡ bodies_of requests.now) }
 {
     let mut bodies = Vec::new(alloc);
     // without the reservation, memory is allocated as it is needed
@@ -155,7 +164,7 @@ pub fn judge_group<'a>(
             return Err(fault_at(place, ClientFault::OutOfMemory));
         };
     }
-    Ok(JudgedGroup { requests, bodies })
+    Ok(bodies)
 }
 
 /// A group of requests with the call of each.
@@ -167,8 +176,11 @@ pub struct AskedGroup<'a> {
     pub first: u32,
     /// The frames of the calls, one after the other.
     pub octets: Vec<u8>,
-    /// The calls, in order.
+    /// The calls but the last, in order.
     pub calls: Vec<AskedCall>,
+    /// The length in bytes of each of the last call's frames but the last one, whose length is at
+    /// most this.
+    pub frame_len: usize,
 }
 
 /// The number of bytes of the frames of calls with these bodies, where each has one chunk.
@@ -182,40 +194,69 @@ fn frames_len(bodies: &[Body]) -> usize {
     len
 }
 
+/// Adds a call to others, if there is one.
+fn add_call(calls: &mut Vec<AskedCall>, call: Option<AskedCall>) -> Result<(), ClientFault>
+    ensures len { OnOk result (asked_len calls.new.items ≡ asked_len calls.old.items + last_len call) }
+    ensures memory { IfErr result (λ fault. fault ≡ OutOfMemory) }
+{
+    let Some(call) = call else {
+        return Ok(());
+    };
+    match calls.push(call) {
+        Ok(()) => Ok(()),
+        Err(_) => Err(ClientFault::OutOfMemory),
+    }
+}
+
+/// The length in bytes of each frame of a call but its last one; any length where there is no call.
+fn frame_len_of(call: Option<AskedCall>) -> usize
+    ensures { 0 < result }
+{
+    match call {
+        Some(call) => call.frame_len,
+        None => CHUNK_HEADERS,
+    }
+}
+
 /// Sends a call of each request of a group, in order.
 pub fn ask_group<'a>(
     alloc: Global,
     channel: &mut ClientChannel,
-    group: &JudgedGroup<'a>,
+    requests: &'a [Request],
+    bodies: &[Body],
 ) -> Result<AskedGroup<'a>, ClientFault>
     ensures asks { WhateverPassed channel.old
         (λ asks octets frames rest.
-        AsksOr (λ found. AsksFrom group.now.bodies.items channel.old channel.new asks octets frames rest
+        AsksOr (λ found. AsksFrom bodies.now channel.old channel.new asks octets frames rest
         (found.first, found.octets.items)) result) }
-    ensures len { IfOk result (λ found. asked_len found.calls.items ≡ length found.octets.items) }
-    ensures requests { IfOk result (λ found. found.requests.now ≡ group.now.requests.now) }
+    ensures len { IfOk result (λ found. asked_len found.calls.items ≤ length found.octets.items) }
+    ensures frame { IfOk result (λ found. 0 < found.frame_len) }
+    ensures requests { IfOk result (λ found. found.requests.now ≡ requests.now) }
     ensures same { SameClient channel.old channel.new }
     ensures memory { IfErr result (λ fault. fault ≡ OutOfMemory) }
 {
     let mut octets = Vec::new(alloc);
     let mut calls = Vec::new(alloc);
     // without the reservations, memory is allocated as it is needed
-    let _has_room = octets.reserve_exact(frames_len(&group.bodies)).is_ok();
-    let _has_room = calls.reserve_exact(group.bodies.len()).is_ok();
+    let _has_room = octets.reserve_exact(frames_len(bodies)).is_ok();
+    let _has_room = calls.reserve_exact(bodies.len().saturating_sub(1)).is_ok();
     let mut first = None;
-    for body in &group.bodies {
+    let mut last = None;
+    for body in bodies {
         let Ok(call) = channel.call(body.octets(), &mut octets) else {
             return Err(ClientFault::OutOfMemory);
         };
         first = Some(first.unwrap_or(call.id));
-        let Ok(()) = calls.push(call) else {
-            return Err(ClientFault::OutOfMemory);
-        };
+        match add_call(&mut calls, last) {
+            Ok(()) => last = Some(call),
+            Err(fault) => return Err(fault),
+        }
     }
     Ok(AskedGroup {
-        requests: group.requests,
+        requests,
         first: first.unwrap_or(0),
         octets,
         calls,
+        frame_len: frame_len_of(last),
     })
 }

@@ -28,6 +28,7 @@ mod renewing;
 mod reply;
 mod sending;
 mod session;
+mod slots;
 
 pub use client::Client;
 pub use fault::{CallsFault, ClientFault, SessionFault};

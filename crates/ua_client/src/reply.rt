@@ -1,12 +1,12 @@
 //! Replies to requests.
 
-ghost use Rattle.std.specs.Prelude.{◌≡◌, ◌<◌, ◌++◌, ◌∷◌, [], List, length, slice_set};
+ghost use Rattle.std.specs.Prelude.{◌≡◌, ◌<◌, ◌⊎◌, ◌++◌, ◌∷◌, [], List, length, slice_set};
 ghost use Rattle.std.specs.Prelude.{true, Some, IfErr, OnOk, OnErr};
 ghost use Rattle.std.specs.List.{concat};
 ghost use Rattle.ua_channel.specs.ClientTold.{ClientTold};
 ghost use Rattle.ua_channel.specs.ClientTold.ClientTold.{Answered};
 ghost use Rattle.ua_services.specs.Response.{Answers, kind_of_response};
-ghost use Rattle.ua_client.specs.declared.fault.ClientFault.TheVariants.{UnknownResponse};
+ghost use Rattle.ua_client.specs.declared.fault.ClientFault.TheVariants.{OutOfMemory, UnknownResponse};
 ghost use Rattle.ua_client.specs.Replies.{PutsAnswer, IsPlace, AreSlots, FillsSlots, is_reading_fault};
 ghost use Rattle.ua_client.specs.declared.reply.Reply.TheVariants.{Response as Responds};
 ghost use Rattle.ua_client.specs.Told.{IsFirstOf};
@@ -14,8 +14,8 @@ ghost use Rattle.ua_client.specs.Hearing.{Says};
 ghost use Rattle.ua_builtin.specs.declared.date_time.DateTime.{DateTime};
 
 use crate::fault::ClientFault;
+use crate::slots::Slots;
 use std::alloc::Global;
-use std::mem;
 use ua_builtin::{Octets, Source, StatusCode};
 use ua_channel::ClientEvent;
 use ua_chunk::Message;
@@ -31,26 +31,27 @@ pub enum Reply {
     Aborted(StatusCode),
 }
 
-// A reply has more than 500 bytes: it is put into its slot as soon as it is read, and handed through
+// A reply has more than 500 bytes: it is put into its place as soon as it is read, and handed through
 // no results.
 
 /// Puts a response at an index, where it answers a request of this kind.
+#[inline(always)]
 fn put_answer(
     kind: RequestKind,
     response: Response,
-    slots: &mut Vec<Option<Reply>>,
+    slots: &mut Slots,
     place: usize,
 ) -> Result<(), ClientFault>
-    requires { place < length slots.old.items }
+    requires { place < length slots.old.slots }
     ensures put { OnOk result (Answers (kind_of_response response) kind
-        × (slots.new.items ≡ slice_set slots.old.items place (Some (Responds response)))) }
-    ensures refused { IfErr result (λ fault. (fault ≡ UnknownResponse)
-        × (Answers (kind_of_response response) kind → ⊥)) }
-    ensures err { OnErr result (slots.new.items ≡ slots.old.items) }
+        × (slots.new.slots ≡ slice_set slots.old.slots place (Some (Responds response)))) }
+    ensures refused { IfErr result (λ fault. (fault ≡ OutOfMemory) ⊎ ((fault ≡ UnknownResponse)
+        × (Answers (kind_of_response response) kind → ⊥))) }
+    ensures err { OnErr result (slots.new.slots ≡ slots.old.slots) }
+    ensures had { slots.new.had ≡ slots.old.had }
 {
     if response.answers(kind) {
-        drop(mem::replace(&mut slots[place], Some(Reply::Response(response))));
-        return Ok(());
+        return slots.put(place, Reply::Response(response));
     }
     drop(response);
     Err(ClientFault::UnknownResponse)
@@ -61,12 +62,13 @@ fn put_answer_from<S: Source>(
     alloc: Global,
     kind: RequestKind,
     src: &mut S,
-    slots: &mut Vec<Option<Reply>>,
+    slots: &mut Slots,
     place: usize,
 ) -> Result<(), ClientFault>
-    requires { place < length slots.old.items }
-    ensures puts { PutsAnswer kind (S.octets src.old) place slots.old.items slots.new.items result }
+    requires { place < length slots.old.slots }
+    ensures puts { PutsAnswer kind (S.octets src.old) place slots.old.slots slots.new.slots result }
     ensures faults { IfErr result (λ fault. is_reading_fault fault ≡ true) }
+    ensures had { slots.new.had ≡ slots.old.had }
 {
     bodies_of_responses_differ();
     match read_response(alloc, src) {
@@ -84,12 +86,13 @@ fn put_answer_of(
     alloc: Global,
     kind: RequestKind,
     message: &Message,
-    slots: &mut Vec<Option<Reply>>,
+    slots: &mut Slots,
     place: usize,
 ) -> Result<(), ClientFault>
-    requires { place < length slots.old.items }
-    ensures puts { PutsAnswer kind (concat message.now) place slots.old.items slots.new.items result }
+    requires { place < length slots.old.slots }
+    ensures puts { PutsAnswer kind (concat message.now) place slots.old.slots slots.new.slots result }
     ensures faults { IfErr result (λ fault. is_reading_fault fault ≡ true) }
+    ensures had { slots.new.had ≡ slots.old.had }
 {
     match message.parts() {
         [part] => {
@@ -114,14 +117,6 @@ fn place_of(first: u32, id: u32, count: usize) -> Option<usize>
     Some(place)
 }
 
-/// Puts a reply at an index.
-fn set_reply(slots: &mut Vec<Option<Reply>>, place: usize, reply: Reply)
-    requires { place < length slots.old.items }
-    ensures { slots.new.items ≡ slice_set slots.old.items place (Some reply) }
-{
-    drop(mem::replace(&mut slots[place], Some(reply)));
-}
-
 /// Puts the reply that a message under a RequestId is at the index of its request; the calls have
 /// RequestIds counted from the first.
 fn put_by(
@@ -130,15 +125,16 @@ fn put_by(
     first: u32,
     id: u32,
     message: &Message,
-    slots: &mut Vec<Option<Reply>>,
+    slots: &mut Slots,
 ) -> Result<(), ClientFault>
-    requires { length slots.old.items ≡ length requests.now }
+    requires { length slots.old.slots ≡ length requests.now }
     ensures fills { (told : List ClientTold) → IsFirstOf told (Answered id (concat message.now))
-        → AreSlots requests.now first told slots.old.items
-        → FillsSlots requests.now first (told ++ Answered id (concat message.now) ∷ []) slots.new.items result }
+        → AreSlots requests.now first told slots.old.slots
+        → FillsSlots requests.now first (told ++ Answered id (concat message.now) ∷ []) slots.new.slots result }
     ensures faults { IfErr result (λ fault. is_reading_fault fault ≡ true) }
-    ensures count { length slots.new.items ≡ length slots.old.items }
-    ensures err { OnErr result (slots.new.items ≡ slots.old.items) }
+    ensures had { slots.new.had ≡ slots.old.had }
+    ensures count { length slots.new.slots ≡ length slots.old.slots }
+    ensures err { OnErr result (slots.new.slots ≡ slots.old.slots) }
 {
     let Some(place) = place_of(first, id, requests.len()) else {
         return Ok(());
@@ -153,24 +149,22 @@ fn put_reply(
     requests: &[Request],
     first: u32,
     event: &ClientEvent,
-    slots: &mut Vec<Option<Reply>>,
+    slots: &mut Slots,
 ) -> Result<(), ClientFault>
-    requires { length slots.old.items ≡ length requests.now }
+    requires { length slots.old.slots ≡ length requests.now }
     ensures fills { (moment : DateTime) (told : List ClientTold) (t : ClientTold) → Says moment event.now t
-        → IsFirstOf told t → AreSlots requests.now first told slots.old.items
-        → FillsSlots requests.now first (told ++ t ∷ []) slots.new.items result }
+        → IsFirstOf told t → AreSlots requests.now first told slots.old.slots
+        → FillsSlots requests.now first (told ++ t ∷ []) slots.new.slots result }
     ensures faults { IfErr result (λ fault. is_reading_fault fault ≡ true) }
-    ensures count { length slots.new.items ≡ length slots.old.items }
-    ensures err { OnErr result (slots.new.items ≡ slots.old.items) }
+    ensures had { slots.new.had ≡ slots.old.had }
+    ensures count { length slots.new.slots ≡ length slots.old.slots }
+    ensures err { OnErr result (slots.new.slots ≡ slots.old.slots) }
 {
     match event {
         ClientEvent::Answered(id, message) => put_by(alloc, requests, first, *id, message, slots),
         ClientEvent::Aborted(id, code) => match place_of(first, *id, requests.len()) {
             None => Ok(()),
-            Some(place) => {
-                set_reply(slots, place, Reply::Aborted(*code));
-                Ok(())
-            }
+            Some(place) => slots.put(place, Reply::Aborted(*code)),
         },
         _ => Ok(()),
     }
@@ -182,15 +176,16 @@ pub fn place_reply(
     requests: &[Request],
     first: u32,
     event: ClientEvent,
-    slots: &mut Vec<Option<Reply>>,
+    slots: &mut Slots,
 ) -> Result<(), ClientFault>
-    requires { length slots.old.items ≡ length requests.now }
+    requires { length slots.old.slots ≡ length requests.now }
     ensures fills { (moment : DateTime) (told : List ClientTold) (t : ClientTold) → Says moment event t
-        → IsFirstOf told t → AreSlots requests.now first told slots.old.items
-        → FillsSlots requests.now first (told ++ t ∷ []) slots.new.items result }
+        → IsFirstOf told t → AreSlots requests.now first told slots.old.slots
+        → FillsSlots requests.now first (told ++ t ∷ []) slots.new.slots result }
     ensures faults { IfErr result (λ fault. is_reading_fault fault ≡ true) }
-    ensures count { length slots.new.items ≡ length slots.old.items }
-    ensures err { OnErr result (slots.new.items ≡ slots.old.items) }
+    ensures had { slots.new.had ≡ slots.old.had }
+    ensures count { length slots.new.slots ≡ length slots.old.slots }
+    ensures err { OnErr result (slots.new.slots ≡ slots.old.slots) }
 {
     let put = put_reply(alloc, requests, first, &event, slots);
     drop(event);

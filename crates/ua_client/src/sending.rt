@@ -63,13 +63,16 @@ fn call_end(octets: &[u8], at: usize, call: &AskedCall) -> usize
 }
 
 /// Writes the frames of calls completely, each by one write where the transport takes it so.
-/// `octets` are the frames of all the calls, in order.
+/// `octets` are the frames of all the calls, in order, `calls` all but the last of them, and
+/// `frame_len` is the length in bytes of each frame of the last call but its last one.
 pub fn write_calls<L: Line>(
     line: &mut L,
     octets: &[u8],
     calls: &[AskedCall],
+    frame_len: usize,
 ) -> Result<(), LineFault>
-    requires { asked_len calls.now ≡ length octets.now }
+    requires len { asked_len calls.now ≤ length octets.now }
+    requires frame { 0 < frame_len }
     ensures written { IfTrafficKnown (Writes result octets.now) (L.traffic line.old) (L.traffic line.new) }
     ensures some { OnErr result (0 < length octets.now) }
     ensures failed { L.failures line.new ≡ failures_after (L.failures line.old) result }
@@ -82,5 +85,9 @@ pub fn write_calls<L: Line>(
             Err(fault) => return Err(fault),
         }
     }
-    Ok(())
+    let end = octets.len();
+    match write_frames(line, &octets[at..end], frame_len) {
+        Ok(()) => Ok(()),
+        Err(fault) => Err(fault),
+    }
 }

@@ -1,27 +1,24 @@
-use Rattle.std.proofs.Common.{rules, ◌≡◌, ◌++◌, ◌∷◌, [], Some, length, length-append, take, arith, sym, ◌∙◌, ap}
+use Rattle.std.proofs.Common.{rules, ◌≡◌, Some, length, length-append, take, arith, sym, ◌∙◌, ap}
 use Rattle.std.specs.Prelude.{ℕ, unwrap_or}
 use Rattle.ua_channel.specs.ClientSends.{appended}
-use Rattle.ua_client.specs.Sent.{asked_len}
-use Rattle.ua_client.proofs.Askings.{asked-more, asked-all, asked-as, asked-len-push, take-push, take-whole}
+use Rattle.ua_client.proofs.Askings.{asked-more, asked-all, asked-as, take-push, take-whole}
 use Rattle.ua_client.proofs.group.ask_group.Goals as goal
 
 pub loop-body-preserved : goal.loop-body-preserved
 loop-body-preserved c =
     let more = appended c.loop-body.octets.items c.call.new.out.items in
-    let pushed : c.push.new.self.items ≡ c.loop-body.calls.items ++ c.in-Ok.call ∷ [] = search rules in
     let first : c.unwrap_or.result ≡ unwrap_or c.loop-body.first c.in-Ok.call.id = search rules in
     record {
       asked = asked-as _ _ c.args.channel.now c.call.new.self _ _ _ _
-          (asked-more (take c.loop-body.body-index c.deref-body-items.result.now) c.octets.result.now c.args.channel.now c.loop-body.channel c.call.new.self
+          (asked-more (take c.loop-body.body-index c.args.bodies.now) c.octets.result.now c.args.channel.now c.loop-body.channel c.call.new.self
           c.loop-body.octets.items c.loop-body.first c.in-Ok.call.id more
           c.loop-body.invariant.asked c.in-Ok.ensures.stands c.in-Ok.ensures.sent c.in-Ok.ensures.same)
-          (take-push c.deref-body-items.result.now c.loop-body.body-index c.octets.result.now c.body-item.result c.loop-body-test.true (c.octets.ensures.value
+          (take-push c.args.bodies.now c.loop-body.body-index c.octets.result.now c.body-item.result c.loop-body-test.true (c.octets.ensures.value
           ∙ c.body-item.is))
           (sym c.in-Ok.ensures.behind) (ap (λ (n : ℕ). Some n) (sym first));
       len = omega (
         arith,
-        ap asked_len pushed,
-        asked-len-push c.loop-body.calls.items c.in-Ok.call,
+        c.in-Ok-add_call.ensures.len,
         c.loop-body.invariant.len,
         c.in-Ok.ensures.len,
         ap length c.in-Ok.ensures.behind,
@@ -31,8 +28,8 @@ loop-body-preserved c =
 
 pub returns-clause-asks : goal.returns-clause-asks
 returns-clause-asks c = λ asks octets frames rest s.
-    let r = asked-all (take c.loop-body.body-index c.deref-body-items.result.now) c.args.group.now.bodies.items c.args.channel.now c.loop-body.channel
+    let r = asked-all (take c.loop-body.body-index c.args.bodies.now) c.args.bodies.now c.args.channel.now c.loop-body.channel
     c.loop-body.octets.items c.loop-body.first c.loop-body.invariant.asked
-    (take-whole c.deref-body-items.result.now c.loop-body.body-index c.loop-body-test.false ∙ c.deref-body-items.ensures.value) asks octets frames rest s in
+    (take-whole c.args.bodies.now c.loop-body.body-index c.loop-body-test.false) asks octets frames rest s in
     let first : c.unwrap_or-2.result ≡ unwrap_or c.loop-body.first 0 = search rules in
     (λ some. first ∙ r.0 some, r.1)

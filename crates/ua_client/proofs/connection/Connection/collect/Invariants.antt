@@ -5,7 +5,8 @@ use Rattle.ua_client.proofs.connection.Connection.collect.Given as goal
 
 abbrev pub invariant-loop-moment : goal.invariant-loop-moment
 invariant-loop-moment g l = record {
-  waits : Waiting l.asked.requests.now l.asked.first l.fn.self l.self (g.L.Line.traffic l.fn.line) (g.L.Line.traffic l.line) l.fn.reads l.reads l.slots.items;
+  waits : Waiting l.asked.requests.now l.asked.first l.fn.self l.self (g.L.Line.traffic l.fn.line) (g.L.Line.traffic l.line) l.fn.reads l.reads l.slots.slots;
+  had : l.slots.had ≡ l.fn.slots.had;
   same : g.L.Line.failures l.line ≡ g.L.Line.failures l.fn.line;
 }
 

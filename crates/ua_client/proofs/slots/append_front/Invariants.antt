@@ -2,7 +2,7 @@ use Rattle.std.proofs.Common.{◌≡◌, ◌≤◌, ◌+◌, ◌++◌, length}
 use Rattle.std.specs.Vec.{vec_len, vec_capacity}
 use Rattle.std.specs.Vec.Iter.{into_iter_items, into_iter_len}
 use Rattle.ua_client.specs.Replies.{front_of}
-use Rattle.ua_client.proofs.collecting.append_front.Given as goal
+use Rattle.ua_client.proofs.slots.append_front.Given as goal
 
 -- the replies so far, and those in front of the slots that are left, are those in front of all slots
 abbrev pub invariant-loop-slot : goal.invariant-loop-slot
