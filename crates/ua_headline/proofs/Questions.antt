@@ -2,7 +2,7 @@
 use Rattle.std.proofs.Common.{◌≡◌, ◌⊎◌, inl, inr, ℕ, ℤ, List, [], ◌∷◌, Option, Some, None, refl, sym, ◌∙◌, ap, subst}
 use Rattle.std.specs.Prelude.{◌+◌, IsTrue, map, MatchResult, Result, Ok, Err, IfOk, OnOk}
 use Rattle.ua_wire.specs.Counted.{text}
-use Rattle.ua_builtin.specs.DateTime.{date_time, of_ticks}
+use Rattle.ua_builtin.specs.DateTime.{date_time}
 use Rattle.ua_builtin.specs.Reasons.{first_reason}
 use Rattle.ua_builtin.specs.declared.date_time.DateTime.{DateTime}
 use Rattle.ua_builtin.specs.declared.node_id.NodeId.{NodeId}
@@ -336,12 +336,12 @@ module _ (stays : CallsStay) (begins : SessionsStay) (are : RepliesAre) where
 
   module _ (b : Beginning) (limits : Limits) (url : Option (List ℕ)) (opens : OpeningsBegin limits) (can : CanBegin b) (sound : IsSoundState b.first)
       (fits : IsTrue (text.encodable url)) where
-    opened_talk : (moment : DateTime) (before after : LineState) (client : Client) → IsTrue (date_time.encodable moment) → IsLineTo b [] [] before.traffic
+    opened_talk : (moment : DateTime) (before after : LineState) (client : Client) → IsLineTo b [] [] before.traffic
         → OpensServer limits url moment before after (Ok client) → IsTalking (opening b limits url moment) client after.traffic
-    opened_talk moment before after client dated line (inl nothing) = ok_err (Ok client) client NoMemory refl nothing.0
-    opened_talk moment before after client dated line (inr o) =
+    opened_talk moment before after client line (inl nothing) = ok_err (Ok client) client NoMemory refl nothing.0
+    opened_talk moment before after client line (inr o) =
         subst (λ (r : Result Client ClientFault). IfOk r (λ x. IsTalking (opening b limits url moment) x after.traffic)) (told_ok o.answer client o.told_is)
-        (opens b url moment before.traffic after.traffic o.answer dated fits can line o.opens)
+        (opens b url moment before.traffic after.traffic o.answer o.dated fits can line o.opens)
 
     -- a session is two requests that keep the nodes
     session_keeps : (s : State) (x y : DateTime) (policy_id : Option (List ℕ)) (token : NodeId) (at : DateTime) (id : ℕ)
@@ -365,15 +365,14 @@ module _ (stays : CallsStay) (begins : SessionsStay) (are : RepliesAre) where
 
     pub answered_lines : {M O : Type 0} (gives : M → ℤ → M → Type 0) (contents : O → Option (List ℕ)) (policy : TokenPolicy) (style : AnswerStyle)
         (question : Question) (start last : M) (before after : LineState) (had have : O) (verdict : Verdict) → IsLineTo b [] [] before.traffic
-        → ((ticks : ℤ) (next : M) → gives start ticks next → IsTrue (date_time.encodable (of_ticks ticks)))
         → RunsQuestion gives contents limits url policy style question start last before after had have (Ok verdict)
         → HasAdded (AreLinesGiven style question b.first (time_of_answer b policy)) (contents had) (contents have)
-    answered_lines gives contents policy style question start last before after had have verdict line dated r =
+    answered_lines gives contents policy style question start last before after had have verdict line r =
         by_result r.opened _ _ r.further
         (λ client e used. by_policy gives contents style question b.first (time_of_answer b policy) had have verdict used.1.printed
         (first_ok used.1.printed used.1.closed verdict used.1.result_is) policy (opening b limits url r.opened_at) url r.behind used.1.behind client
         used.1.asked
         r.once_open used.1.answered (are_asking policy r.opened_at)
-        (opened_talk r.opened_at before r.once_open client (dated r.opened_at.ticks r.behind r.given) line (subst (OpensServer limits url r.opened_at
+        (opened_talk r.opened_at before r.once_open client line (subst (OpensServer limits url r.opened_at
         before r.once_open) e r.opens)) used.1.asks)
         (λ f h. ok_err (Ok verdict) verdict f refl h.0)

@@ -2,9 +2,8 @@
 //! to a server: the lines of what the nodes of the server give. Each is the contract of a function
 //! that does nothing.
 
-ghost use Rattle.std.specs.Prelude.{[], ℕ, ℤ, IsTrue, List, Ok, Option};
+ghost use Rattle.std.specs.Prelude.{[], ℕ, IsTrue, List, Ok, Option};
 ghost use Rattle.ua_wire.specs.Counted.{text};
-ghost use Rattle.ua_builtin.specs.DateTime.{date_time, of_ticks};
 ghost use Rattle.ua_server.specs.Sound.{IsSoundState};
 ghost use Rattle.ua_loopback.specs.Beginning.{Beginning};
 ghost use Rattle.ua_loopback.specs.Talking.{CanBegin, IsLineTo};
@@ -25,14 +24,12 @@ use ua_frame::Limits;
 use ua_loopback::talking_laws::{calls_go_on, dated_openings_begin_talks, sessions_go_on};
 
 /// Where `ask_over` succeeds over any transport to a server with sound services, as every `Services`
-/// is, whatever the limits of both: just the lines of what the nodes of that server give were
-/// written. The last premise is its clause `runs`; the one before, that the first timestamp has 64
-/// bits.
+/// is, whatever the limits of both and the timestamps that it is given: just the lines of what the
+/// nodes of that server give were written. The last premise is its clause `runs`.
 pub fn questions_are_answered_by_the_nodes<M: Moments, O: Write>(limits: Limits)
     ensures lines { (b : Beginning) (url : Option (List ℕ)) (policy : TokenPolicy) (style : AnswerStyle)
         (question : Question) (first last : M) (before after : LineState) (had have : O) (verdict : Verdict) →
         CanBegin b → IsSoundState b.first → IsLineTo b [] [] before.traffic → IsTrue (text.encodable url) →
-        ((ticks : ℤ) (next : M) → M.gives first ticks next → IsTrue (date_time.encodable (of_ticks ticks))) →
         RunsQuestion M.gives O.contents limits url policy style question first last before after had have (Ok verdict) →
         HasAdded (AreLinesGiven style question b.first (time_of_answer b policy)) (O.contents had) (O.contents have) }
 {

@@ -1,6 +1,7 @@
 -- The steps of a conversation with a server, each a call of its client (`ua_client`), whose fault
 -- is told.
-use Rattle.std.specs.Prelude.{◌≡◌, ◌⊎◌, ℕ, ℤ, List, [], ◌∷◌, Option, Result, Ok, Err, MatchResult}
+use Rattle.std.specs.Prelude.{◌≡◌, ◌⊎◌, ℕ, ℤ, IsTrue, List, [], ◌∷◌, Option, Result, Ok, Err, MatchResult}
+use Rattle.ua_builtin.specs.DateTime.{date_time}
 use Rattle.ua_builtin.specs.declared.date_time.DateTime.{DateTime}
 use Rattle.ua_builtin.specs.declared.node_id.NodeId.{NodeId}
 use Rattle.ua_client.specs.Calls.{CallsAll}
@@ -38,9 +39,11 @@ first_fault_of (Err fault) other = Err fault
 
 -- ---- opening
 
--- an opening of a client to a server, by this URL, and its outcome
+-- an opening of a client to a server, by this URL, at this time, which can be encoded, and its
+-- outcome
 pub record OpensAt (limits : Limits) (url : Option (List ℕ)) (moment : DateTime) (before after : LineState)
     (result : Result Client QuestionFault) : Type 0 where
+  pub dated : IsTrue (date_time.encodable moment)
   pub answer : Result Client ClientFault
   pub opens : OpensNothing before.traffic after.traffic answer ⊎ OpensClient limits url moment before.traffic after.traffic answer
   pub fails : FailsAsTold answer before after

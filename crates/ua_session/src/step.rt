@@ -8,6 +8,7 @@ ghost use Rattle.ua_session.specs.Steps.{OpensServer, first_fault_of, told};
 
 use crate::fault::{NotBegun, QuestionFault};
 use std::alloc::Global;
+use ua_builtin::laws::moment_is_encodable;
 use ua_builtin::{DateTime, NodeId, UaString};
 use ua_channel::{Line, Moments};
 use ua_client::{Client, ClientFault, Reply, SessionFault};
@@ -67,6 +68,7 @@ pub fn open<L: Line>(
     let Ok(url) = url.try_clone() else {
         return Err(QuestionFault::NoMemory);
     };
+    moment_is_encodable(&moment);
     told(Client::open(alloc, line, limits, url, moment))
 }
 
