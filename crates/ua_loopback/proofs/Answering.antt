@@ -63,7 +63,7 @@ or_true : (b : Bool) → (b || true) ≡ true
 or_true true = refl
 or_true false = refl
 
-in_last : (n m : ℕ) (ms : List ℕ) → m ≡ n → is_in n (ms ++ m ∷ []) ≡ true
+pub in_last : (n m : ℕ) (ms : List ℕ) → m ≡ n → is_in n (ms ++ m ∷ []) ≡ true
 in_last n m ms e = list_any-append (λ (k : ℕ). eqb k n) ms (m ∷ []) ∙ (ap (λ (b : Bool). is_in n ms || (b || false)) (eq-eqb m n e) ∙ or_true (is_in n ms))
 
 stays_waiting : (c : AtClient) (id : ℕ) (bodies : List (List ℕ)) (k : ℕ) → is_in k c.pending ≡ true → is_in k (with_calls c id bodies).pending ≡ true
@@ -151,7 +151,7 @@ one_from true n m is e = ap (λ (k : ℕ). k ∷ []) is
 one_from false n m is e = let no : false ≡ true = e in absurd cc
 
 -- from the last of a list on there is just that
-from_latest : (n : ℕ) (ms : List ℕ) → latest ms ≡ Some n → from_last n ms ≡ n ∷ []
+pub from_latest : (n : ℕ) (ms : List ℕ) → latest ms ≡ Some n → from_last n ms ≡ n ∷ []
 from_latest n [] e = absurd cc
 from_latest n (m ∷ []) e = let is = some_is m n e in one_from (eqb m n) n m is (eq-eqb m n is)
 from_latest n (m ∷ (k ∷ ks)) e = from_by (eqb m n) (is_in n (k ∷ ks)) n m (k ∷ ks) (latest_in n k ks e) (from_latest n (k ∷ ks) e)

@@ -3,6 +3,7 @@ pub mod Stepped
 mod Pieces
 mod Lines
 pub mod Reaching
+mod OneCall
 mod Ending
 mod Untaken
 pub mod Opened
@@ -19,6 +20,7 @@ mod Sounds
 mod Refused
 mod Begun
 mod Openings
+mod Called
 pub mod Pushes
 pub mod Conversing
 mod Courses

@@ -44,7 +44,7 @@ use Rattle.ua_loopback.specs.Turns.{calls_told}
 -- ---- where a client stands
 
 module _ (x : ClientChannel) (s : ClientPlace) (c : AtClient) (at : StandsAt x s) (r : ClientReads (client_limits x) s.asks s.octets s.told c) where
-  before_is : s.before ≡ received r.frames
+  pub before_is : s.before ≡ received r.frames
   before_is = sym at.before_is
       ∙ ap received (unique (client_rules_of x s.asks) s.octets at.goes.frames r.frames at.goes.rest [] Going Going at.goes.stands.run r.run).frames
 

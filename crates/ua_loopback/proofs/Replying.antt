@@ -199,7 +199,7 @@ replies_are back state moments id (msg ∷ ms) f j rest before all (r ∷ rs) fi
 -- ---- answers that are none
 
 -- the first that is told of a call
-picks : (k : ℕ) (us : List Heard) (t : Heard) (ws : List Heard) → told_of k us ≡ [] → is_told_of k t ≡ true → told_of k (us ++ t ∷ ws) ≡ t ∷ told_of k ws
+pub picks : (k : ℕ) (us : List Heard) (t : Heard) (ws : List Heard) → told_of k us ≡ [] → is_told_of k t ≡ true → told_of k (us ++ t ∷ ws) ≡ t ∷ told_of k ws
 picks k us t ws none is =
     filter_append (is_told_of k) us (t ∷ ws)
     ∙ (ap (λ (ts : List Heard). ts ++ told_of k (t ∷ ws)) none ∙ ap (λ (b : Bool). cond b (t ∷ told_of k ws) (told_of k ws)) is)

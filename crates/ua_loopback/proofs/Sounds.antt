@@ -11,7 +11,7 @@ use Rattle.ua_server.specs.Answer.{answer}
 use Rattle.ua_server.specs.Sound.{IsSoundState}
 use Rattle.ua_server.specs.State.{State}
 use Rattle.ua_server.proofs.SoundServices.{answer_fits, answer_kind_is, answer_sound}
-use Rattle.ua_client.specs.Replies.{IsNoAnswer}
+use Rattle.ua_client.specs.Replies.{IsAnswer, IsNoAnswer}
 use Rattle.ua_client.specs.declared.fault.ClientFault.{ClientFault}
 use Rattle.ua_client.specs.declared.fault.ClientFault.TheVariants as fault
 use Rattle.ua_loopback.specs.Faults.{FailsBehind}
@@ -43,13 +43,16 @@ sound_turns s f n (t ∷ turns) h dated = sound_turns (turn_state s f n t) f (id
 
 -- ---- each request has its answer
 
+pub is_answer : (s : State) (moment : DateTime) (m : Request) → IsSoundState s → IsTrue (date_time.encodable moment) → IsTrue (request.encodable m)
+    → IsAnswer (kind_of_request m) (response.canonical (answer s moment m).1) (answer s moment m).1
+is_answer s moment m h dated fits = (
+  (body_reads_back response lawful_response (answer s moment m).1 (answer_fits s moment m h dated fits)).0,
+  answer_kind_is s moment m,
+)
+
 has_answer : (s : State) (moment : DateTime) (m : Request) → IsSoundState s → IsTrue (date_time.encodable moment) → IsTrue (request.encodable m)
     → IsNoAnswer (kind_of_request m) (response.canonical (answer s moment m).1) → ⊥
-has_answer s moment m h dated fits none =
-    none (answer s moment m).1 (
-      (body_reads_back response lawful_response (answer s moment m).1 (answer_fits s moment m h dated fits)).0,
-      answer_kind_is s moment m,
-    )
+has_answer s moment m h dated fits none = none (answer s moment m).1 (is_answer s moment m h dated fits)
 
 pub none_misanswered : (s : State) (f : ℕ → DateTime) (n : ℕ) (ms : List Request) → IsSoundState s → AreDated f → HaveMisanswer s f n ms → ⊥
 none_misanswered s f n [] h dated bad = bad

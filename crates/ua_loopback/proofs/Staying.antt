@@ -104,10 +104,10 @@ module _ (b : Beginning) (url : Option (List ℕ)) (octets : List ℕ) (told : L
   server_then : ServerReads b.limits b.channel (octets ++ sent_at site requests) (told ++ calls) then_at
   server_then = requests_read b.limits url b.channel octets told s x site c on t.together requests judged
 
-  step_then : AreInStep b.limits (client_limits x) url b.channel then_at (with_calls c (id_at site) bodies)
+  pub step_then : AreInStep b.limits (client_limits x) url b.channel then_at (with_calls c (id_at site) bodies)
   step_then = calls_in_step b.limits (client_limits x) url b.channel s c (id_at site) t.together.in_step t.together.client_reads.newest_is bodies
 
-  few_used : then_at.used < 2 ^ 32
+  pub few_used : then_at.used < 2 ^ 32
   few_used = omega (arith, step_then.taken.not_before, step_then.taken.issued, server_then.few_issued)
 
   agreed_before : before.agreement ≡ Some g
@@ -142,7 +142,8 @@ module _ (b : Beginning) (url : Option (List ℕ)) (octets : List ℕ) (told : L
       next_stays d id [] = refl
       next_stays d id (body ∷ bs) = next_stays (record d { pending = d.pending ++ id ∷ [] }) (id + 1) bs
 
-  said_then : server_output b (octets ++ sent_at site requests) ≡ site.octets ++ said_of b.channel (course before.state before.number moments (Some g)) calls
+  pub said_then : server_output b (octets ++ sent_at site requests) ≡ site.octets ++ said_of b.channel (course before.state before.number moments (Some g))
+      calls
   said_then =
       said_more b octets told s t.together.server_reads (octets ++ sent_at site requests) calls then_at server_then
       ∙ (ap (λ (o : List ℕ). o ++ said_of b.channel (behind_told b octets told s t.together.server_reads calls) calls) (sym t.taken)

@@ -8,7 +8,7 @@
 //! it left; and the talk goes on with this operation more, so that the laws apply to the next call
 //! again. Where it fails, the server's output is not the cause. `Client::open` begins a talk.
 
-ghost use Rattle.std.specs.Prelude.{◌≡◌, ◌⊎◌, ◌≤◌, ◌∷◌, ◌++◌, [], ℕ, List, Option, None, Some, Result};
+ghost use Rattle.std.specs.Prelude.{◌≡◌, ◌⊎◌, ◌≤◌, ◌∷◌, ◌++◌, [], ℕ, List, Ok, Option, None, Some, Result};
 ghost use Rattle.std.specs.Prelude.{IfErr, IfOk, IsTrue, OnOk, map};
 ghost use Rattle.ua_wire.specs.Counted.{text};
 ghost use Rattle.ua_builtin.specs.DateTime.{date_time};
@@ -32,7 +32,7 @@ ghost use Rattle.ua_client.specs.declared.fault.ClientFault.{ClientFault};
 ghost use Rattle.ua_client.specs.declared.fault.ClientFault.TheVariants.{UnknownResponse};
 ghost use Rattle.ua_client.specs.declared.reply.Reply.{Reply};
 ghost use Rattle.ua_server.specs.Sound.{IsSoundState};
-ghost use Rattle.ua_loopback.specs.Accepted.{IsTurnFault, turn_refusal_under};
+ghost use Rattle.ua_loopback.specs.Accepted.{IsAcceptedUnder, IsTurnFault, turn_refusal_under};
 ghost use Rattle.ua_loopback.specs.Beginning.{Beginning};
 ghost use Rattle.ua_loopback.specs.Faults.{FailsBehind, IsOutside};
 ghost use Rattle.ua_loopback.specs.Replies.{HaveMisanswer, lane_back_by_token, requests_replies, turn_state};
@@ -93,6 +93,20 @@ pub fn there_are_talks(alloc: Global, limits: Limits, moment: DateTime)
         url_length url ≤ 4095 →
         (x : Client) × (now : Option Traffic) × IsTalking (opening b limits url moment) x now }
 {}
+
+/// A call can be what `calls_go_on` supposes: after any talk with a server with sound services, as
+/// those of each server are, there are a reply, a client and its transport behind a call of any
+/// request that is accepted. The talk then goes on, so there are such talks of any length.
+pub fn there_are_calls()
+    ensures answered { (t : SoFar) (request : Request) (x : Client) (before : Option Traffic) → IsTalking t x before →
+        IsSoundState t.server.first → IsAcceptedUnder (acked_in t) t.turns (Some (request ∷ [])) →
+        (y : Client) × (after : Option Traffic) × (reply : Reply)
+        × CallsAll (λ (found : Reply). found ∷ []) (request ∷ []) (connection_of x) (connection_of y) before after
+        (Ok reply) × IsLeft {A = Reply} (Ok reply) y }
+{
+    clients_are_settled();
+    calls_are_told_behind();
+}
 
 /// In a talk that goes on with an operation, the server reads just this operation more.
 pub fn talks_reach_the_server()
