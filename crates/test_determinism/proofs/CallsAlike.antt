@@ -21,9 +21,10 @@ use Rattle.ua_client.specs.declared.fault.ClientFault.TheVariants as fault
 use Rattle.test_determinism.specs.Calling.{ComesTo}
 use Rattle.test_determinism.specs.Lines.{AreFew, ComeAlike, ComesAsOne, WroteExactly, WroteAlike}
 use Rattle.test_determinism.specs.Lines.ComesAsOne.{Known, Steady, SameWritten}
-use Rattle.test_determinism.proofs.FrontsAlike.{ReadsAll, ReadsFront, stopped_all}
+use Rattle.test_determinism.proofs.FrontsAlike.{ReadsFront}
 use Rattle.test_determinism.proofs.ServedAlike.{come, where_told, wrote, wrote_at}
 use Rattle.test_determinism.proofs.ServersAlike.{same_code}
+use Rattle.test_determinism.proofs.StreamsAlike.{ReadsAll, stopped_all}
 
 -- ---- what a call read and wrote
 

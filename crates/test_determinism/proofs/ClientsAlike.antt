@@ -26,7 +26,7 @@ use Rattle.test_determinism.specs.Clients.{ClientsAlike, ClientsDone, ClientSeen
 use Rattle.test_determinism.specs.Clients.{ClientSeen as seen}
 use Rattle.test_determinism.specs.Pinned.{HadMemory}
 use Rattle.test_determinism.proofs.EndsAlike.{Comes, bound_stopped, comes_as, one_at_both, same_parts, tells_by, tells_goes, whole_taken}
-use Rattle.test_determinism.proofs.StreamsAlike.{Outcome, Tells}
+use Rattle.test_determinism.proofs.StreamsAlike.{Outcome, Tells, behind_none}
 use Rattle.test_determinism.proofs.StreamsAlike.Outcome.{Quietly, Telling, Lasting, Stopping}
 
 abbrev pub Answer : Type 0
@@ -35,9 +35,9 @@ Answer = Result (ℕ × ClientEvent) ClientTakeFault
 abbrev Came : Type 0
 Came = Outcome ClientTold Why
 
--- no frame is the last
-abbrev is_last : ClientTold → Bool
-is_last e = false
+-- all that is told counts, for no frame is the last
+abbrev counts : ClientTold → Bool
+counts e = true
 
 pub to_tells : (R : Rules ClientTold Why) (x : ClientChannel) (asks : List Placed) (octets piece : List ℕ) (before : List ClientTold) (n : ℕ) (e : ClientTold)
     → client_rules_of x asks ≡ R → n ≤ length piece → ClientGoesTelling x asks (octets ++ take n piece) before e → Tells R octets piece before n e
@@ -83,7 +83,7 @@ Left x y asks octets before (Stopping why) = ClientsDone x y
 record Heard (moment : DateTime) (piece octets : List ℕ) (asks : List Placed) (before : List ClientTold) (a : Answer) (x : ClientChannel) : Type 0 where
   count : ℕ
   came : Came
-  comes : Comes client_side is_last x.end asks octets piece before count came
+  comes : Comes client_side counts x.end asks octets piece before count came
   parts : Option (List (List ℕ))
   handed : HandsOutParts client_side parts x.end asks (octets ++ take count piece)
   some : is_some parts ≡ hands came
@@ -91,38 +91,24 @@ record Heard (moment : DateTime) (piece octets : List ℕ) (asks : List Placed) 
   left : (y : ClientChannel) → Left x y asks (octets ++ take count piece) before came → LeftClients a x y asks octets before piece
 
 module _ (moment : DateTime) (piece octets : List ℕ) (asks : List Placed) (before : List ClientTold) (x : ClientChannel) where
+  -- where no message is handed out
+  without : (a : Answer) (n : ℕ) (o : Came) → hands o ≡ false → Comes client_side counts x.end asks octets piece before n o
+      → client_answer_seen a ≡ Ok (n, said moment None o)
+      → ((y : ClientChannel) → Left x y asks (octets ++ take n piece) before o → LeftClients a x y asks octets before piece)
+      → Heard moment piece octets asks before a x
+  without a n o none comes answer left =
+      record { count = n; came = o; comes = comes; parts = None; handed = tt; some = sym none; answer = answer; left = left }
+
   heard : (a : Answer) → ClientAnswers moment piece a x asks octets before → ClientProgress piece a → ¬ (IsErrOf a OutOfMemory)
       → Heard moment piece octets asks before a x
-  heard (Ok (n, NeedMore)) h within had = record {
-    count = n;
-    came = Quietly;
-    parts = None;
-    handed = tt;
-    some = refl;
-    answer = refl;
-    comes = (h.0, subst (λ (t : List ℕ). ClientGoes x asks t before) (sym (whole_taken octets piece n h.0)) h.1);
-    left = λ y s. ([], subst (λ (t : List ClientTold). ClientsAlike x y asks (octets ++ take n piece) t) (sym (append-nil before)) s);
-  }
-  heard (Ok (n, Send out)) h within had = record {
-    count = n;
-    came = Telling (told.Agreed h.ack);
-    parts = None;
-    handed = tt;
-    some = refl;
-    answer = ap (λ (o : List ℕ). Ok (n, seen.Sends o)) h.sent_is;
-    comes = (within.0, refl, h.goes);
-    left = λ y s. (told.Agreed h.ack ∷ [], s);
-  }
-  heard (Ok (n, Open)) h within had = record {
-    count = n;
-    came = Telling (told.Opened h.channel h.token);
-    parts = None;
-    handed = tt;
-    some = refl;
-    answer = refl;
-    comes = (within.0, refl, h.goes);
-    left = λ y s. (told.Opened h.channel h.token ∷ [], s);
-  }
+  heard (Ok (n, NeedMore)) h within had =
+      without _ n Quietly refl (h.0, subst (λ (t : List ℕ). ClientGoes x asks t before) (sym (whole_taken octets piece n h.0)) h.1) refl
+      (λ y s. ([], subst (λ (t : List ClientTold). ClientsAlike x y asks (octets ++ take n piece) t) (sym (append-nil before)) s))
+  heard (Ok (n, Send out)) h within had =
+      without _ n (Telling (told.Agreed h.ack)) refl (within.0, refl, h.goes) (ap (λ (o : List ℕ). Ok (n, seen.Sends o)) h.sent_is)
+      (λ y s. (told.Agreed h.ack ∷ [], s))
+  heard (Ok (n, Open)) h within had =
+      without _ n (Telling (told.Opened h.channel h.token)) refl (within.0, refl, h.goes) refl (λ y s. (told.Opened h.channel h.token ∷ [], s))
   heard (Ok (n, Answered id message)) h within had = record {
     count = n;
     came = Telling (told.Answered id (concat message));
@@ -133,36 +119,12 @@ module _ (moment : DateTime) (piece octets : List ℕ) (asks : List Placed) (bef
     comes = (within.0, refl, h.0);
     left = λ y s. (told.Answered id (concat message) ∷ [], s);
   }
-  heard (Ok (n, Aborted id code)) h within had = record {
-    count = n;
-    came = Telling (told.GaveUp id code);
-    parts = None;
-    handed = tt;
-    some = refl;
-    answer = refl;
-    comes = (within.0, refl, h);
-    left = λ y s. (told.GaveUp id code ∷ [], s);
-  }
-  heard (Ok (n, Failed code peer)) h within had = record {
-    count = n;
-    came = Stopping (record { code = code.code; peer = peer });
-    parts = None;
-    handed = tt;
-    some = refl;
-    answer = refl;
-    comes = (within.0, h);
-    left = λ y d. d;
-  }
-  heard (Ok (n, Renewed token)) h within had = record {
-    count = n;
-    came = Telling (told.Renewed token);
-    parts = None;
-    handed = tt;
-    some = refl;
-    answer = refl;
-    comes = (within.0, refl, h);
-    left = λ y s. (told.Renewed token ∷ [], s);
-  }
+  heard (Ok (n, Aborted id code)) h within had =
+      without _ n (Telling (told.GaveUp id code)) refl (within.0, refl, h) refl (λ y s. (told.GaveUp id code ∷ [], s))
+  heard (Ok (n, Failed code peer)) h within had =
+      without _ n (Stopping (record { code = code.code; peer = peer })) refl (within.0, h) refl (λ y d. d)
+  heard (Ok (n, Renewed token)) h within had =
+      without _ n (Telling (told.Renewed token)) refl (within.0, refl, h) refl (λ y s. (told.Renewed token ∷ [], s))
   heard (Err OutOfMemory) h within had = absurd (had refl)
   heard (Err Closed) h within had = absurd h
 
@@ -184,7 +146,7 @@ module _ (moment : DateTime) (piece octets : List ℕ) (asks : List Placed) (bef
   stand : (told : List ClientTold) (o : List ℕ) → ClientGoes x asks o told → ClientGoes y asks o told → ClientsAlike x y asks o told
   stand told o p q = record { first = p; second = q; limits = limits; next = nexts }
 
-  leaves : (n : ℕ) (o : Came) → Comes client_side is_last x.end asks octets piece before n o → Comes client_side is_last y.end asks octets piece before n o
+  leaves : (n : ℕ) (o : Came) → Comes client_side counts x.end asks octets piece before n o → Comes client_side counts y.end asks octets piece before n o
       → Left x y asks (octets ++ take n piece) before o
   leaves n Quietly c d = stand before (octets ++ take n piece) c.1 d.1
   leaves n (Telling e) c d = stand (before ++ e ∷ []) (octets ++ take n piece) (tells_goes client_side asks x.end (octets ++ take n piece) before e c.2)
@@ -194,21 +156,24 @@ module _ (moment : DateTime) (piece octets : List ℕ) (asks : List Placed) (bef
       record {
         first = c.1.done;
         second = d.1.done;
-        bound = bound_stopped client_side asks is_last octets piece before x.end y.end rules bounds
+        bound = bound_stopped client_side asks counts octets piece x.end y.end rules bounds
             (octets ++ take n piece) before before why c.1 d.1;
       }
 
   both : (a b : Answer) → Heard moment piece octets asks before a x → Heard moment piece octets asks before b y → Both a b x y asks octets piece before
   both a b p q =
-      let one = one_at_both client_side asks is_last octets piece before x.end y.end rules p.count q.count p.came q.came p.comes q.comes in
+      let none = behind_none counts before in
+      let one = one_at_both client_side asks counts octets piece x.end y.end rules before before before none none p.count q.count p.came q.came p.comes
+      q.comes in
       let handed = subst (λ (j : ℕ). HandsOutParts client_side q.parts y.end asks (octets ++ take j piece)) (sym one.0) q.handed in
-      let parts = same_parts client_side asks x.end y.end (octets ++ take p.count piece) p.parts q.parts rules (p.some ∙ (ap hands one.1 ∙ sym q.some)) p.handed
+      let parts = same_parts client_side asks x.end y.end (octets ++ take p.count piece) p.parts q.parts rules (p.some ∙ (ap hands one.2 ∙ sym q.some)) p.handed
       handed in
-      let other = comes_as client_side asks is_last octets piece before x.end y.end rules p.count q.count p.came q.came one.0 one.1 q.comes in record {
+      let other = comes_as client_side asks counts octets piece x.end y.end rules before before p.count q.count p.came q.came refl one.0 one.2 q.comes in
+      record {
         answers = p.answer
             ∙ (ap (λ (k : ℕ). Ok (k, said moment p.parts p.came)) one.0
             ∙ (ap (λ (ps : Option (List (List ℕ))). Ok (q.count, said moment ps p.came)) parts
-            ∙ (ap (λ (z : Came). Ok (q.count, said moment q.parts z)) one.1 ∙ sym q.answer)));
+            ∙ (ap (λ (z : Came). Ok (q.count, said moment q.parts z)) one.2 ∙ sym q.answer)));
         left = p.left y (leaves p.count p.came p.comes other);
       }
 

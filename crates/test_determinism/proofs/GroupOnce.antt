@@ -35,13 +35,14 @@ use Rattle.ua_client.specs.declared.fault.ClientFault.TheVariants as fault
 use Rattle.ua_client.specs.declared.reply.Reply.{Reply}
 use Rattle.ua_client.specs.declared.reply.Reply.TheVariants.{Response as Responds, Aborted}
 use Rattle.ua_server.proofs.LeftOver.{front_or_whole}
+use Rattle.ua_channel_laws.proofs.Lists.{meets}
 use Rattle.test_determinism.proofs.CallsAlike.{EndsBy, behind_parts, goes_front, one_fault}
 use Rattle.test_determinism.proofs.CallsAlike.EndsBy.{ByPeer, ByOurs, ByEnd}
 use Rattle.test_determinism.proofs.ClientsAlike.{to_tells}
-use Rattle.test_determinism.proofs.FrontsAlike.{ReadsAll, ReadsFront, all_once, either_first, front_first, fronts_first}
+use Rattle.test_determinism.proofs.FrontsAlike.{ReadsFront, front_first, fronts_first}
 use Rattle.test_determinism.proofs.RenewalsAlike.{site_once}
 use Rattle.test_determinism.proofs.ServedAlike.{same_some}
-use Rattle.test_determinism.proofs.StreamsAlike.{AsOne, Around, Meets, Tells, Within, tells_tells}
+use Rattle.test_determinism.proofs.StreamsAlike.{Around, AsOne, Meets, ReadsAll, Tells, Within, all_once, tells_tells}
 
 -- ---- what is told of one call
 
@@ -179,7 +180,7 @@ slots_misanswered requests id all told more slots e h m = by (slot_at requests i
 -- two fronts of what is told that end at such a message are one
 misanswers_once : (requests : List Request) (id : ℕ) (all told other more rest : List ClientTold) → all ≡ told ++ more → all ≡ other ++ rest
     → IsMisanswered requests id told → IsMisanswered requests id other → told ≡ other
-misanswers_once requests id all told other more rest e d p q = by (either_first told other more rest (sym e ∙ d))
+misanswers_once requests id all told other more rest e d p q = by (meets told other more rest (sym e ∙ d))
   where
     further : (a b xs : List ClientTold) → b ≡ a ++ xs → IsMisanswered requests id a → IsMisanswered requests id b → a ≡ b
     further a b [] f m n = sym (f ∙ append-nil a)

@@ -21,12 +21,13 @@ use Rattle.ua_client.specs.declared.fault.ClientFault.{ClientFault}
 use Rattle.ua_client.specs.declared.fault.ClientFault.TheVariants as fault
 use Rattle.ua_client.specs.declared.reply.Reply.{Reply}
 use Rattle.ua_client.proofs.Grouping.{concat-push}
+use Rattle.ua_channel_laws.proofs.Lists.{meets}
 use Rattle.test_determinism.proofs.CallsAlike.{EndsBy, ended_reads, goes_front, goes_reads}
 use Rattle.test_determinism.proofs.CallsAlike.EndsBy.{ByPeer, ByOurs, ByEnd}
-use Rattle.test_determinism.proofs.FrontsAlike.{ReadsAll, all_once, either_first}
 use Rattle.test_determinism.proofs.GroupOnce.{Broke, FailAlike, IsDone, Keeps, OneBody, WaitsBy, broke_once, done_once, not_broken, rules_at}
 use Rattle.test_determinism.proofs.GroupOnce.Broke.{Waited, Missed, Judged, Unwritten}
 use Rattle.test_determinism.proofs.GroupOnce.WaitsBy.{ByFault, ByRead}
+use Rattle.test_determinism.proofs.StreamsAlike.{ReadsAll, all_once}
 
 -- ---- the first group of requests
 
@@ -45,7 +46,7 @@ group_first g h others more (x ∷ m) e p q is =
 
 pub group_once : (g h others more : List Request) → g ++ others ≡ h ++ more → IsGroup g others → IsGroup h more → (g ≡ h) × (others ≡ more)
 group_once g h others more e p q =
-    let same = by (either_first g h others more e) in
+    let same = by (meets g h others more e) in
     (same, append_cancel_left g others more (e ∙ ap (λ (k : List Request). k ++ more) (sym same)))
   where
     by : ((m : List Request) × (h ≡ g ++ m)) ⊎ ((m : List Request) × (g ≡ h ++ m)) → g ≡ h

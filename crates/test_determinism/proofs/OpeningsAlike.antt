@@ -29,10 +29,10 @@ use Rattle.test_determinism.proofs.CallsAlike.{Ahead, EndsBy, OneComing, Ran, ah
 use Rattle.test_determinism.proofs.CallsAlike.{goes_front, goes_reads, one_by, one_fault, ran, ran_comes, ran_wrote, read_same}
 use Rattle.test_determinism.proofs.CallsAlike.EndsBy.{ByPeer, ByOurs, ByEnd}
 use Rattle.test_determinism.proofs.ClientsAlike.{to_tells}
-use Rattle.test_determinism.proofs.FrontsAlike.{ReadsAll, all_once, front_first}
+use Rattle.test_determinism.proofs.FrontsAlike.{front_first}
 use Rattle.test_determinism.proofs.RenewalsAlike.{site_once}
 use Rattle.test_determinism.proofs.SentAlike.{WroteOf, not_stopped, one_written, wrote_all, wrote_part}
-use Rattle.test_determinism.proofs.StreamsAlike.{AsOne, Around, Meets, Tells, Within, tells_tells}
+use Rattle.test_determinism.proofs.StreamsAlike.{Around, AsOne, Meets, ReadsAll, Tells, Within, all_once, tells_tells}
 
 true_false : true ≡ false → ⊥
 true_false e = cc

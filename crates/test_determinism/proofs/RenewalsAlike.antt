@@ -32,9 +32,9 @@ use Rattle.test_determinism.proofs.CallsAlike.{Ahead, EndsBy, Ran, ahead_same, a
 use Rattle.test_determinism.proofs.CallsAlike.{goes_front, goes_reads, one_fault, ran, ran_comes, ran_wrote, same_rules}
 use Rattle.test_determinism.proofs.CallsAlike.EndsBy.{ByPeer, ByOurs, ByEnd}
 use Rattle.test_determinism.proofs.ClientsAlike.{to_tells}
-use Rattle.test_determinism.proofs.FrontsAlike.{ReadsAll, ReadsFront, all_once, front_first}
+use Rattle.test_determinism.proofs.FrontsAlike.{ReadsFront, front_first}
 use Rattle.test_determinism.proofs.ServedAlike.{WasTold, same_some, where_told, wrote}
-use Rattle.test_determinism.proofs.StreamsAlike.{AsOne, Around, Meets, Tells, Within, tells_tells}
+use Rattle.test_determinism.proofs.StreamsAlike.{Around, AsOne, Meets, ReadsAll, Tells, Within, all_once, tells_tells}
 
 -- what two calls come to
 pub record CalledOnce {A : Type 0} (a b : Result A ClientFault) (one two : Client) (line after other later : Option Traffic) (octets : List ℕ)

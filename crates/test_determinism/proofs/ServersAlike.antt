@@ -1,12 +1,11 @@
 -- Octets that come twice to a server's channel.
-use Rattle.std.specs.Prelude.{◌≡◌, ℕ, ◌≤◌, List, [], ◌∷◌, ◌++◌, length, take, Bool, true, false, is_some, Option, Some, None, Result, Ok, Err, IsErrOf}
+use Rattle.std.specs.Prelude.{◌≡◌, ℕ, List, [], ◌∷◌, ◌++◌, take, Bool, true, false, is_some, Option, Some, None, Result, Ok, Err, IsErrOf}
 use Rattle.std.specs.List.{concat}
 use Rattle.std.proofs.Common.{refl, sym, ◌∙◌, ap, subst, append-nil}
 use Rattle.ua_builtin.specs.declared.date_time.DateTime.{DateTime}
 use Rattle.ua_builtin.specs.declared.status_code.StatusCode.{StatusCode}
 use Rattle.ua_frame.specs.Frames.{frame_octets}
 use Rattle.ua_frame.specs.Messages.{ack_frame, err_frame}
-use Rattle.ua_frame.specs.Run.{Rules}
 use Rattle.ua_frame.specs.declared.frame.Frame.{Frame}
 use Rattle.ua_frame.specs.declared.limits.Limits.{Limits}
 use Rattle.ua_channel.specs.Ends.{HandsOutParts}
@@ -14,7 +13,7 @@ use Rattle.ua_channel.specs.Received.{received}
 use Rattle.ua_channel.specs.ServerAnswers.{AnswersAt, ServerAnswers}
 use Rattle.ua_channel.specs.ServerRules.{server_rules}
 use Rattle.ua_channel.specs.ServerSends.{AreSent, counted_by, opened_frame}
-use Rattle.ua_channel.specs.ServerStands.{limits_of, channel_of, next_of, bound_after, rules_of, server_side, Goes, GoesTelling, ClosedAt}
+use Rattle.ua_channel.specs.ServerStands.{limits_of, channel_of, next_of, bound_after, rules_of, server_side, Goes}
 use Rattle.ua_channel.specs.ServerTold.{Told, Agreed, Opened}
 use Rattle.ua_channel.specs.ServerTold.{Told as told}
 use Rattle.ua_channel.specs.declared.server.ServerChannel.{ServerChannel}
@@ -27,8 +26,8 @@ use Rattle.test_determinism.specs.Pinned.{HadMemory}
 use Rattle.test_determinism.specs.Servers.{ServersAlike, ServersDone, ServerSeen, SameServerAnswer, SameServerOutcome}
 use Rattle.test_determinism.specs.Servers.{LeftServers, server_answer_seen, counted_with, outcome_seen}
 use Rattle.test_determinism.specs.Servers.{ServerSeen as seen}
-use Rattle.test_determinism.proofs.EndsAlike.{Comes, bound_over, bound_stopped, comes_as, one_at_both, same_parts, tells_by, tells_goes}
-use Rattle.test_determinism.proofs.StreamsAlike.{Lasts, Outcome, Quiet, Tells}
+use Rattle.test_determinism.proofs.EndsAlike.{Comes, bound_over, bound_stopped, comes_as, one_at_both, same_parts, tells_goes}
+use Rattle.test_determinism.proofs.StreamsAlike.{Outcome, behind_none}
 use Rattle.test_determinism.proofs.StreamsAlike.Outcome.{Quietly, Telling, Lasting, Stopping}
 
 abbrev pub Answer : Type 0
@@ -40,31 +39,15 @@ Came = Outcome Told ℕ
 pub same_code : (code other : StatusCode) → code.code ≡ other.code → code ≡ other
 same_code code other e = ap (λ (n : ℕ). let c : StatusCode = record { code = n } in c) e
 
--- ---- by the rules of both
-
-pub to_quiet : (R : Rules Told ℕ) (x : ServerChannel) (octets piece : List ℕ) (before : List Told) (n : ℕ) → rules_of x ≡ R → n ≡ length piece
-    → Goes x (octets ++ piece) before → Quiet R octets piece before n
-to_quiet R x octets piece before n same all goes = subst (λ (Z : Rules Told ℕ). Quiet Z octets piece before n) same
-    (record { all = all; frames = goes.frames; rest = goes.rest; run = goes.stands.run; told_is = goes.told_is })
-
-pub to_tells : (R : Rules Told ℕ) (x : ServerChannel) (octets piece : List ℕ) (before : List Told) (n : ℕ) (e : Told) → rules_of x ≡ R → n ≤ length piece
-    → GoesTelling x (octets ++ take n piece) before e → Tells R octets piece before n e
-to_tells R x = tells_by server_side tt R x.end
-
-pub to_lasts : (R : Rules Told ℕ) (x : ServerChannel) (octets piece : List ℕ) (before : List Told) (n : ℕ) (e : Told) → rules_of x ≡ R → n ≤ length piece
-    → ClosedAt x (octets ++ take n piece) (before ++ e ∷ []) → Lasts R octets piece before n e
-to_lasts R x octets piece before n e same within c = subst (λ (Z : Rules Told ℕ). Lasts Z octets piece before n e) same
-    (record { within = within; frames = c.frames; run = c.run; told_is = c.told_is })
-
 -- ---- what a piece comes to
 
--- a close is told by the last frame alone
-abbrev is_last : Told → Bool
-is_last (Agreed a) = false
-is_last (Opened id handle token lifetime) = false
-is_last (told.Asked id token octets) = false
-is_last (told.GaveUp id) = false
-is_last told.Closed = true
+-- all that is told counts but a close, which the last frame alone tells
+abbrev counts : Told → Bool
+counts (Agreed a) = true
+counts (Opened id handle token lifetime) = true
+counts (told.Asked id token octets) = true
+counts (told.GaveUp id) = true
+counts told.Closed = false
 
 abbrev refused : ℕ → Result ServerSeen ChannelFault
 refused why = let code : StatusCode = record { code = why } in Err (Refused code (frame_octets (err_frame code)))
@@ -113,7 +96,7 @@ Left x y octets before (Stopping why) = ServersDone x y
 -- what a channel answers, where memory was had, by what the piece comes to
 record Heard (channel number : ℕ) (moment : DateTime) (piece octets : List ℕ) (before : List Told) (n : ℕ) (a : Answer) (x : ServerChannel) : Type 0 where
   came : Came
-  comes : Comes server_side is_last x.end tt octets piece before n came
+  comes : Comes server_side counts x.end tt octets piece before n came
   parts : Option (List (List ℕ))
   handed : HandsOutParts server_side parts x.end tt (octets ++ take n piece)
   some : is_some parts ≡ hands came
@@ -121,43 +104,36 @@ record Heard (channel number : ℕ) (moment : DateTime) (piece octets : List ℕ
   next : NextIs x number came
   left : (y : ServerChannel) → Left x y (octets ++ take n piece) before came → LeftServers (counted_with n a) x y octets before piece
 
--- what is sent is not the last, and no message
+-- what is sent counts, and is no message
 record IsSent (channel number : ℕ) (moment : DateTime) (e : Told) (out : List ℕ) : Type 0 where
-  last : is_last e ≡ false
+  goes_on : counts e ≡ true
   some : false ≡ hands (Telling e)
   answer : Ok (seen.Sends out) ≡ said channel number moment None (Telling e)
 
 is_sent : (channel number : ℕ) (moment : DateTime) (e : Told) (out : List ℕ) → AreSent channel number moment e out → IsSent channel number moment e out
-is_sent channel number moment (Agreed a) out p = record { last = refl; some = refl; answer = ap (λ (o : List ℕ). Ok (seen.Sends o)) p }
-is_sent channel number moment (Opened id handle token lifetime) out p = record { last = refl; some = refl; answer = ap (λ (o : List ℕ). Ok (seen.Sends o)) p }
+is_sent channel number moment (Agreed a) out p = record { goes_on = refl; some = refl; answer = ap (λ (o : List ℕ). Ok (seen.Sends o)) p }
+is_sent channel number moment (Opened id handle token lifetime) out p =
+    record { goes_on = refl; some = refl; answer = ap (λ (o : List ℕ). Ok (seen.Sends o)) p }
 is_sent channel number moment (told.Asked id token octets) out p = absurd p
 is_sent channel number moment (told.GaveUp id) out p = absurd p
 is_sent channel number moment told.Closed out p = absurd p
 
 module _ (channel number : ℕ) (moment : DateTime) (piece octets : List ℕ) (before : List Told) (x : ServerChannel) where
+  -- where no message is handed out
+  without : (n : ℕ) (a : Answer) (o : Came) → hands o ≡ false → Comes server_side counts x.end tt octets piece before n o
+      → outcome_seen a ≡ said channel number moment None o → NextIs x number o
+      → ((y : ServerChannel) → Left x y (octets ++ take n piece) before o → LeftServers (counted_with n a) x y octets before piece)
+      → Heard channel number moment piece octets before n a x
+  without n a o none comes answer next left =
+      record { came = o; comes = comes; parts = None; handed = tt; some = sym none; answer = answer; next = next; left = left }
+
   heard : (n : ℕ) (a : Answer) → AnswersAt channel number moment piece n a x octets before → ¬ (IsErrOf a OutOfMemory)
       → Heard channel number moment piece octets before n a x
-  heard n (Ok NeedMore) h had = record {
-    came = Quietly;
-    comes = (h.0, h.1.0);
-    parts = None;
-    handed = tt;
-    some = refl;
-    answer = refl;
-    next = h.1.1;
-    left = λ y s. ([], subst (λ (t : List Told). ServersAlike x y (octets ++ take n piece) t) (sym (append-nil before)) s);
-  }
+  heard n (Ok NeedMore) h had = without n _ Quietly refl (h.0, h.1.0) refl h.1.1
+      (λ y s. ([], subst (λ (t : List Told). ServersAlike x y (octets ++ take n piece) t) (sym (append-nil before)) s))
   heard n (Ok (Send out)) h had =
-      let s = is_sent channel number moment h.1.said out.items h.1.are_sent in record {
-        came = Telling h.1.said;
-        comes = (h.0.1, s.last, h.1.goes);
-        parts = None;
-        handed = tt;
-        some = s.some;
-        answer = s.answer;
-        next = h.1.counted;
-        left = λ y l. (h.1.said ∷ [], l);
-      }
+      let s = is_sent channel number moment h.1.said out.items h.1.are_sent in
+      without n _ (Telling h.1.said) (sym s.some) (h.0.1, s.goes_on, h.1.goes) s.answer h.1.counted (λ y l. (h.1.said ∷ [], l))
   heard n (Ok (Asked id message)) h had = record {
     came = Telling (told.Asked id h.1.0.token (concat message));
     comes = (h.0.1, refl, h.1.0.goes);
@@ -168,36 +144,10 @@ module _ (channel number : ℕ) (moment : DateTime) (piece octets : List ℕ) (b
     next = h.1.1;
     left = λ y s. (told.Asked id h.1.0.token (concat message) ∷ [], s);
   }
-  heard n (Ok (Aborted id)) h had = record {
-    came = Telling (told.GaveUp id);
-    comes = (h.0.1, refl, h.1.0);
-    parts = None;
-    handed = tt;
-    some = refl;
-    answer = refl;
-    next = h.1.1;
-    left = λ y s. (told.GaveUp id ∷ [], s);
-  }
-  heard n (Ok event.Closed) h had = record {
-    came = Lasting told.Closed;
-    comes = (h.0.1, refl, h.1);
-    parts = None;
-    handed = tt;
-    some = refl;
-    answer = refl;
-    next = tt;
-    left = λ y d. d;
-  }
-  heard n (Err (Refused code err)) h had = record {
-    came = Stopping code.code;
-    comes = (h.0, h.1);
-    parts = None;
-    handed = tt;
-    some = refl;
-    answer = ap (λ (o : List ℕ). Err (Refused code o)) h.2;
-    next = tt;
-    left = λ y d. d;
-  }
+  heard n (Ok (Aborted id)) h had = without n _ (Telling (told.GaveUp id)) refl (h.0.1, refl, h.1.0) refl h.1.1 (λ y s. (told.GaveUp id ∷ [], s))
+  heard n (Ok event.Closed) h had = without n _ (Lasting told.Closed) refl (h.0.1, refl, h.1) refl tt (λ y d. d)
+  heard n (Err (Refused code err)) h had =
+      without n _ (Stopping code.code) refl (h.0, h.1) (ap (λ (o : List ℕ). Err (Refused code o)) h.2) tt (λ y d. d)
   heard n (Err OutOfMemory) h had = absurd (had refl)
   heard n (Err Closed) h had = absurd h
 
@@ -220,7 +170,7 @@ module _ (channel number : ℕ) (moment : DateTime) (piece octets : List ℕ) (b
   stand : (told : List Told) (o : List ℕ) → Goes x o told → Goes y o told → next_of x ≡ next_of y → ServersAlike x y o told
   stand told o p q next = record { first = p; second = q; limits = limits; channel = ids; next = next }
 
-  leaves : (n : ℕ) (o : Came) → Comes server_side is_last x.end tt octets piece before n o → Comes server_side is_last y.end tt octets piece before n o
+  leaves : (n : ℕ) (o : Came) → Comes server_side counts x.end tt octets piece before n o → Comes server_side counts y.end tt octets piece before n o
       → NextIs x number o → NextIs y number o → Left x y (octets ++ take n piece) before o
   leaves n Quietly c d p q = stand before (octets ++ take n piece) c.1 d.1 (p ∙ sym q)
   leaves n (Telling e) c d p q = stand (before ++ e ∷ []) (octets ++ take n piece) (tells_goes server_side tt x.end (octets ++ take n piece) before e c.2)
@@ -229,30 +179,31 @@ module _ (channel number : ℕ) (moment : DateTime) (piece octets : List ℕ) (b
       record {
         first = c.2.done;
         second = d.2.done;
-        bound = bound_over server_side tt is_last octets piece before x.end y.end rules bounds
+        bound = bound_over server_side tt counts octets piece x.end y.end rules bounds
             (octets ++ take n piece) (before ++ e ∷ []) (before ++ e ∷ []) c.2 d.2;
       }
   leaves n (Stopping why) c d p q =
       record {
         first = c.1.done;
         second = d.1.done;
-        bound = bound_stopped server_side tt is_last octets piece before x.end y.end rules bounds
+        bound = bound_stopped server_side tt counts octets piece x.end y.end rules bounds
             (octets ++ take n piece) before before why c.1 d.1;
       }
 
   both : (n m : ℕ) (a b : Answer) → Heard channel number moment piece octets before n a x → Heard channel number moment piece octets before m b y
       → Both n m a b x y octets piece before
   both n m a b p q =
-      let one = one_at_both server_side tt is_last octets piece before x.end y.end rules n m p.came q.came p.comes q.comes in
+      let none = behind_none counts before in
+      let one = one_at_both server_side tt counts octets piece x.end y.end rules before before before none none n m p.came q.came p.comes q.comes in
       let handed = subst (λ (j : ℕ). HandsOutParts server_side q.parts y.end tt (octets ++ take j piece)) (sym one.0) q.handed in
-      let parts = same_parts server_side tt x.end y.end (octets ++ take n piece) p.parts q.parts rules (p.some ∙ (ap hands one.1 ∙ sym q.some)) p.handed handed
+      let parts = same_parts server_side tt x.end y.end (octets ++ take n piece) p.parts q.parts rules (p.some ∙ (ap hands one.2 ∙ sym q.some)) p.handed handed
       in
-      let other = comes_as server_side tt is_last octets piece before x.end y.end rules n m p.came q.came one.0 one.1 q.comes in
-      let next = subst (λ (z : Came). NextIs y number z) (sym one.1) q.next in record {
+      let other = comes_as server_side tt counts octets piece x.end y.end rules before before n m p.came q.came refl one.0 one.2 q.comes in
+      let next = subst (λ (z : Came). NextIs y number z) (sym one.2) q.next in record {
         taken = one.0;
         answers = p.answer
             ∙ (ap (λ (ps : Option (List (List ℕ))). said channel number moment ps p.came) parts
-            ∙ (ap (said channel number moment q.parts) one.1 ∙ sym q.answer));
+            ∙ (ap (said channel number moment q.parts) one.2 ∙ sym q.answer));
         left = p.left y (leaves n p.came p.comes other p.next next);
       }
 

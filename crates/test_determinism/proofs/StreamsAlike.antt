@@ -11,6 +11,7 @@ use Rattle.ua_frame.proofs.Readings.{reading}
 use Rattle.ua_frame.proofs.Streams.{events-push}
 use Rattle.ua_frame.proofs.Unique.{front_frame, front_none, one_frame, unique, frame_more_fault}
 use Rattle.ua_frame.proofs.Fronts.{fault_front}
+use Rattle.ua_channel_laws.proofs.ReadOn.{each_append}
 use Rattle.test_determinism.proofs.FramesAlike.{no_part, good_not_wrong}
 
 -- ---- lists
@@ -51,12 +52,6 @@ by_place us vs x y (Sooner m p) e =
 -- lists with one item more are the same where their fronts and that item are
 pub pushed : {A : Type 0} (us vs : List A) (x y : A) → us ++ x ∷ [] ≡ vs ++ y ∷ [] → (us ≡ vs) × (x ≡ y)
 pushed us vs x y e = by_place us vs x y (split us vs x y [] [] (append-nil (us ++ x ∷ []) ∙ (e ∙ sym (append-nil (vs ++ y ∷ []))))) e
-
-longer : {A : Type 0} (told : List A) (e : A) (more : List A) → (told ++ e ∷ []) ++ more ≡ told → ⊥
-longer told e more p = omega (arith, ap length p, length-append (told ++ e ∷ []) more, length-append told (e ∷ []))
-
-next_of : {A : Type 0} (told : List A) (e d : A) (more : List A) → (told ++ e ∷ []) ++ more ≡ told ++ d ∷ [] → e ≡ d
-next_of told e d more p = same_head e d more [] (append_cancel_left told (e ∷ more) (d ∷ []) (sym (append_assoc told (e ∷ []) more) ∙ p))
 
 same_rest : (piece : List ℕ) (n m : ℕ) → n ≤ length piece → m ≤ length piece → drop n piece ≡ drop m piece → n ≡ m
 same_rest piece n m p q e = omega (arith, p, q, ap length e, length-drop n piece, length-drop m piece)
@@ -108,14 +103,6 @@ begins R octets more whole fs gs rest x end last e r s =
     front_from R [] fs gs (rest ++ more) x last r.good s.good s.ends (sym (append_assoc (frames_octets fs) rest more)
     ∙ (ap (λ (t : List ℕ). t ++ more) (sym r.whole) ∙ (e ∙ s.whole)))
 
-each_append : {A B : Type 0} (g : List A → A → List B) (start xs ys : List A) → each_from g start (xs ++ ys) ≡ each_from g start xs
-    ++ each_from g (start ++ xs) ys
-each_append {A = A} g start [] ys = ap (λ (t : List A). each_from g t ys) (sym (append-nil start))
-each_append {A = A} {B = B} g start (x ∷ xs) ys =
-    ap (λ (t : List B). g start x ++ t) (each_append g (start ++ x ∷ []) xs ys)
-    ∙ (sym (append_assoc (g start x) (each_from g (start ++ x ∷ []) xs) (each_from g ((start ++ x ∷ []) ++ xs) ys))
-    ∙ ap (λ (t : List A). (g start x ++ each_from g (start ++ x ∷ []) xs) ++ each_from g t ys) (append_assoc start (x ∷ []) xs))
-
 pub events_on : {E X : Type 0} (R : Rules E X) (fs gs : List Frame) → events R (fs ++ gs) ≡ events R fs ++ each_from R.tells fs gs
 unfolding each_after
 events_on R fs gs = each_append R.tells [] fs gs
@@ -130,17 +117,35 @@ pub tells_more : {E X : Type 0} (R : Rules E X) (fs later gs : List Frame) (f : 
 tells_more {E = E} R fs later gs f told e p is tells =
     ap (events R) p ∙ (events_on R (fs ++ f ∷ []) later ∙ ap (λ (t : List E). t ++ each_from R.tells (fs ++ f ∷ []) later) (told_behind R fs f told e is tells))
 
--- ---- what a piece comes to
+-- ---- a reading of all
 
--- nothing: it is taken whole, and the frames tell what they told
-pub record Quiet {E X : Type 0} (R : Rules E X) (octets piece : List ℕ) (told : List E) (n : ℕ) : Type 0 where
-  pub all : n ≡ length piece
+-- these octets are read so, to this end, and this is told
+pub record ReadsAll {E X : Type 0} (R : Rules E X) (whole : List ℕ) (told : List E) (end : End X) : Type 0 where
   pub frames : List Frame
   pub rest : List ℕ
-  pub run : Run R (octets ++ piece) frames rest Going
+  pub run : Run R whole frames rest end
   pub told_is : events R frames ≡ told
 
--- it is taken up to the end of a frame, the first that tells something
+-- two readings of all are one
+pub all_once : {E X : Type 0} (R : Rules E X) (whole : List ℕ) (told other : List E) (end last : End X) → ReadsAll R whole told end
+    → ReadsAll R whole other last → (told ≡ other) × (end ≡ last)
+all_once R whole told other end last a b =
+    let same = unique R whole a.frames b.frames a.rest b.rest end last a.run b.run in
+    (sym a.told_is ∙ (ap (events R) same.frames ∙ b.told_is), same.ends)
+
+-- what a front stopped at, all stop at
+pub stopped_all : {E X : Type 0} (R : Rules E X) (whole octets more : List ℕ) (frames : List Frame) (rest : List ℕ) (told : List E) (end : End X)
+    → (end ≡ Going → ⊥) → octets ++ more ≡ whole → Run R octets frames rest end → events R frames ≡ told → ReadsAll R whole told end
+stopped_all R whole octets more frames rest told end ends e run is = record {
+  frames = frames;
+  rest = rest ++ more;
+  run = subst (λ (o : List ℕ). Run R o frames (rest ++ more) end) e (ends_stay R octets more frames rest end ends run);
+  told_is = is;
+}
+
+-- ---- what a piece comes to
+
+-- it is taken up to the end of a frame, which tells this
 pub record Tells {E X : Type 0} (R : Rules E X) (octets piece : List ℕ) (told : List E) (n : ℕ) (e : E) : Type 0 where
   pub within : n ≤ length piece
   pub frames : List Frame
@@ -169,13 +174,6 @@ pub record WrongAt {E X : Type 0} (R : Rules E X) (octets piece : List ℕ) (tol
   pub stops : Stops R frames rest why
   pub told_is : events R frames ≡ told
 
--- it is refused
-pub record Wrong {E X : Type 0} (R : Rules E X) (octets piece : List ℕ) (told : List E) (why : X) : Type 0 where
-  pub frames : List Frame
-  pub rest : List ℕ
-  pub run : Run R (octets ++ piece) frames rest (Stopped why)
-  pub told_is : events R frames ≡ told
-
 -- what a piece comes to
 pub data Outcome (E X : Type 0) : Type 0 where
   Quietly : Outcome E X
@@ -183,110 +181,74 @@ pub data Outcome (E X : Type 0) : Type 0 where
   Lasting : (e : E) → Outcome E X
   Stopping : (why : X) → Outcome E X
 
--- a piece comes to this; what the last frame tells, no other tells
+-- a piece comes to this, behind what was told, by what counts: it tells nothing more and is taken whole; or it tells what counts; or its last
+-- frame tells what does not
 abbrev pub Reads : {E X : Type 0} → Rules E X → (E → Bool) → List ℕ → List ℕ → List E → ℕ → Outcome E X → Type 0
-Reads R last octets piece told n Quietly = Quiet R octets piece told n
-Reads R last octets piece told n (Telling e) = (last e ≡ false) × Tells R octets piece told n e
-Reads R last octets piece told n (Lasting e) = (last e ≡ true) × Lasts R octets piece told n e
-Reads R last octets piece told n (Stopping why) = WrongAt R octets piece told n why
+Reads R counts octets piece told n Quietly = (n ≡ length piece) × ReadsAll R (octets ++ piece) told Going
+Reads R counts octets piece told n (Telling e) = (counts e ≡ true) × Tells R octets piece told n e
+Reads R counts octets piece told n (Lasting e) = (counts e ≡ false) × Lasts R octets piece told n e
+Reads R counts octets piece told n (Stopping why) = WrongAt R octets piece told n why
 
-module _ {E X : Type 0} (R : Rules E X) (octets piece : List ℕ) (told : List E) where
+-- ---- what does not count
+
+-- none of these counts
+abbrev pub Hushed : {E : Type 0} → (E → Bool) → List E → Type 0
+Hushed counts [] = Unit {0}
+Hushed counts (e ∷ es) = (counts e ≡ false) × Hushed counts es
+
+-- these were told, and then some that do not count
+pub record Behind {E : Type 0} (counts : E → Bool) (told all : List E) : Type 0 where
+  pub more : List E
+  pub all_is : all ≡ told ++ more
+  pub hushed : Hushed counts more
+
+pub behind_none : {E : Type 0} (counts : E → Bool) (told : List E) → Behind counts told told
+behind_none counts told = record { more = []; all_is = sym (append-nil told); hushed = tt }
+
+among : {E : Type 0} (counts : E → Bool) (us : List E) (e : E) (more : List E) → Hushed counts (us ++ e ∷ more) → counts e ≡ false
+among counts [] e more h = h.0
+among counts (u ∷ us) e more h = among counts us e more h.1
+
+hushed_last : {E : Type 0} (counts : E → Bool) (us : List E) (e : E) → Hushed counts us → counts e ≡ false → Hushed counts (us ++ e ∷ [])
+hushed_last counts [] e h none = (none, tt)
+hushed_last counts (u ∷ us) e h none = (h.0, hushed_last counts us e h.1 none)
+
+-- what counts is not among it
+not_among : {E : Type 0} (counts : E → Bool) (told all other more : List E) (e : E) → Behind counts told all → Behind counts told other
+    → other ≡ (all ++ e ∷ []) ++ more → counts e ≡ true → ⊥
+not_among {E = E} counts told all other more e a b is loud =
+    let parts : b.more ≡ a.more ++ e ∷ more =
+    append_cancel_left told b.more (a.more ++ e ∷ more) (sym b.all_is ∙ (is ∙ (ap (λ (t : List E). (t ++ e ∷ []) ++ more) a.all_is
+    ∙ (append_assoc (told ++ a.more) (e ∷ []) more ∙ append_assoc told a.more (e ∷ more))))) in
+    not_both (counts e) (among counts a.more e more (subst (Hushed counts) parts b.hushed)) loud
+
+-- of two frames that tell something, behind lists of what was told: they are one; or what was told before one has what the other tells
+pub data Meets {E : Type 0} (before other : List E) (n m : ℕ) (e d : E) : Type 0 where
+  AsOne : n ≡ m → before ≡ other → e ≡ d → Meets before other n m e d
+  Within : (more : List E) → other ≡ (before ++ e ∷ []) ++ more → Meets before other n m e d
+  Around : (more : List E) → before ≡ (other ++ d ∷ []) ++ more → Meets before other n m e d
+
+module _ {E X : Type 0} (R : Rules E X) (octets piece : List ℕ) where
   parts : (n : ℕ) → (octets ++ take n piece) ++ drop n piece ≡ octets ++ piece
   parts n = append_assoc octets (take n piece) (drop n piece) ∙ ap (λ (t : List ℕ). octets ++ t) (take-append-drop n piece)
 
-  -- what the whole tells, where a beginning of the piece tells something
-  whole_tells : (n : ℕ) (e : E) (gs : List Frame) (x : List ℕ) (last : End X) → Tells R octets piece told n e → Run R (octets ++ piece) gs x last
-      → (more : List E) × (events R gs ≡ (told ++ e ∷ []) ++ more)
-  whole_tells n e gs x last t r =
-      let b = begins R (octets ++ take n piece) (drop n piece) (octets ++ piece) (t.frames ++ t.frame ∷ []) gs [] x Going last (parts n) t.run r in
-      (each_from R.tells (t.frames ++ t.frame ∷ []) b.0, tells_more R t.frames b.0 gs t.frame told e b.1 t.told_is t.tells)
+  lasts_all : (told : List E) (n : ℕ) (e : E) → Lasts R octets piece told n e → ReadsAll R (octets ++ piece) (told ++ e ∷ []) Over
+  lasts_all told n e l =
+      stopped_all R (octets ++ piece) (octets ++ take n piece) (drop n piece) l.frames [] (told ++ e ∷ []) Over (λ p. cc) (parts n) l.run l.told_is
 
-  pub quiet_not_tells : (n m : ℕ) (e : E) → Quiet R octets piece told n → Tells R octets piece told m e → ⊥
-  quiet_not_tells n m e q t =
-      let w = whole_tells m e q.frames q.rest Going t q.run in
-      longer told e w.0 (sym w.1 ∙ q.told_is)
+  wrong_all : (told : List E) (n : ℕ) (why : X) → WrongAt R octets piece told n why → ReadsAll R (octets ++ piece) told (Stopped why)
+  wrong_all told n why w =
+      stopped_all R (octets ++ piece) (octets ++ take n piece) (drop n piece) w.frames w.rest told (Stopped why) (λ p. cc) (parts n) w.run w.told_is
 
-  pub wrong_not_tells : (why : X) (m : ℕ) (e : E) → Wrong R octets piece told why → Tells R octets piece told m e → ⊥
-  wrong_not_tells why m e q t =
-      let w = whole_tells m e q.frames q.rest (Stopped why) t q.run in
-      longer told e w.0 (sym w.1 ∙ q.told_is)
-
-  -- the last frame's reading, of the whole piece
-  lasts_whole : (n : ℕ) (e : E) (l : Lasts R octets piece told n e) → Run R (octets ++ piece) l.frames ([] ++ drop n piece) Over
-  lasts_whole n e l = subst (λ (t : List ℕ). Run R t l.frames ([] ++ drop n piece) Over) (parts n)
-      (ends_stay R (octets ++ take n piece) (drop n piece) l.frames [] Over (λ p. cc) l.run)
-
-  -- what the last frame tells is what the first telling frame tells
-  pub tells_as_last : (n m : ℕ) (e d : E) → Tells R octets piece told n e → Lasts R octets piece told m d → e ≡ d
-  tells_as_last n m e d t l =
-      let w = whole_tells n e l.frames ([] ++ drop m piece) Over t (lasts_whole m d l) in
-      next_of told e d w.0 (sym w.1 ∙ l.told_is)
-
-  pub quiet_not_lasts : (n m : ℕ) (e : E) → Quiet R octets piece told n → Lasts R octets piece told m e → ⊥
-  quiet_not_lasts n m e q l = let same = (unique R (octets ++ piece) _ _ _ _ Going Over q.run (lasts_whole m e l)).ends in cc
-
-  pub wrong_not_lasts : (why : X) (m : ℕ) (e : E) → Wrong R octets piece told why → Lasts R octets piece told m e → ⊥
-  wrong_not_lasts why m e q l = let same = (unique R (octets ++ piece) _ _ _ _ (Stopped why) Over q.run (lasts_whole m e l)).ends in cc
-
-  pub quiet_not_wrong : (n : ℕ) (why : X) → Quiet R octets piece told n → Wrong R octets piece told why → ⊥
-  quiet_not_wrong n why q w = let same = (unique R (octets ++ piece) _ _ _ _ Going (Stopped why) q.run w.run).ends in cc
-
-  pub one_wrong : (why other : X) → Wrong R octets piece told why → Wrong R octets piece told other → why ≡ other
-  one_wrong why other w v = let same = (unique R (octets ++ piece) _ _ _ _ (Stopped why) (Stopped other) w.run v.run).ends in cc
-
-  pub one_last : (n m : ℕ) (e d : E) → Lasts R octets piece told n e → Lasts R octets piece told m d → (n ≡ m) × (e ≡ d)
-  one_last n m e d l k =
-      let same = unique R (octets ++ piece) _ _ _ _ Over Over (lasts_whole n e l) (lasts_whole m d k) in (
-        same_rest piece n m l.within k.within same.rests,
-        next_of told e d [] (append-nil (told ++ e ∷ []) ∙ (sym l.told_is ∙ (ap (events R) same.frames ∙ k.told_is))),
-      )
-
-  not_sooner : (fs gs m : List Frame) (f : Frame) (e : E) → gs ≡ (fs ++ f ∷ []) ++ m → events R fs ≡ told → R.tells fs f ≡ e ∷ [] → events R gs ≡ told → ⊥
-  not_sooner fs gs m f e p is tells are = longer told e (each_from R.tells (fs ++ f ∷ []) m) (sym (tells_more R fs m gs f told e p is tells) ∙ are)
-
-  -- two frames that are the first that tell something are one
-  pub record IsOne (n m : ℕ) (e d : E) (fs gs : List Frame) (f g : Frame) : Type 0 where
-    pub taken : n ≡ m
-    pub event : e ≡ d
-    pub frames : fs ≡ gs
-    pub frame : f ≡ g
-
-  same_events : (e d : E) (fs gs : List Frame) (f g : Frame) → fs ≡ gs → f ≡ g → R.tells fs f ≡ e ∷ [] → R.tells gs g ≡ d ∷ [] → e ≡ d
-  same_events e d fs gs f g p q r s = let same : e ∷ [] ≡ d ∷ [] = sym r
-      ∙ (ap (λ (t : List Frame). R.tells t f) p ∙ (ap (λ (h : Frame). R.tells gs h) q ∙ s)) in same_head e d [] [] same
-
-  by_split : (n m : ℕ) (e d : E) (xs ys : List Frame) (t : Tells R octets piece told n e) (u : Tells R octets piece told m d)
-      → Splits t.frames u.frames t.frame u.frame xs ys → IsOne n m e d t.frames u.frames t.frame u.frame
-  by_split n m e d xs ys t u (Here p q) = record {
-    taken = same_front octets piece n m t.within u.within
-        (t.run.whole ∙ (ap (λ (z : List Frame). frames_octets z ++ []) (ap (λ (z : List Frame). z ++ t.frame ∷ []) p ∙ ap (λ (h : Frame). u.frames ++ h ∷ []) q)
-        ∙ sym u.run.whole));
-    event = same_events e d t.frames u.frames t.frame u.frame p q t.tells u.tells;
-    frames = p;
-    frame = q;
-  }
-  by_split n m e d xs ys t u (Later more p) = absurd (not_sooner t.frames u.frames more t.frame e p t.told_is t.tells u.told_is)
-  by_split n m e d xs ys t u (Sooner more p) = absurd (not_sooner u.frames t.frames more u.frame d p u.told_is u.tells t.told_is)
-
-  pub one_tells : (n m : ℕ) (e d : E) (t : Tells R octets piece told n e) (u : Tells R octets piece told m d) → IsOne n m e d t.frames u.frames t.frame u.frame
-  one_tells n m e d t u =
-      let whole = reading R (octets ++ piece) in
-      let a = begins R (octets ++ take n piece) (drop n piece) (octets ++ piece) (t.frames ++ t.frame ∷ []) whole.frames [] whole.rest Going whole.end
-      (parts n) t.run whole.run in
-      let b = begins R (octets ++ take m piece) (drop m piece) (octets ++ piece) (u.frames ++ u.frame ∷ []) whole.frames [] whole.rest Going whole.end
-      (parts m) u.run whole.run in
-      by_split n m e d a.0 b.0 t u (split t.frames u.frames t.frame u.frame a.0 b.0 (sym a.1 ∙ b.1))
+  -- what a beginning of the piece tells, all tell
+  tells_all : (told all : List E) (n : ℕ) (e : E) (end : End X) → Tells R octets piece told n e → ReadsAll R (octets ++ piece) all end
+      → (more : List E) × (all ≡ (told ++ e ∷ []) ++ more)
+  tells_all told all n e end t a =
+      let b = begins R (octets ++ take n piece) (drop n piece) (octets ++ piece) (t.frames ++ t.frame ∷ []) a.frames [] a.rest Going end
+      (parts n) t.run a.run in
+      (each_from R.tells (t.frames ++ t.frame ∷ []) b.0, sym a.told_is ∙ tells_more R t.frames b.0 a.frames t.frame told e b.1 t.told_is t.tells)
 
   -- ---- where a piece is taken up to what is refused
-
-  pub wrong_at : (n : ℕ) (why : X) → WrongAt R octets piece told n why → Wrong R octets piece told why
-  wrong_at n why w = record {
-    frames = w.frames;
-    rest = w.rest ++ drop n piece;
-    run = subst (λ (t : List ℕ). Run R t w.frames (w.rest ++ drop n piece) (Stopped why)) (parts n)
-        (ends_stay R (octets ++ take n piece) (drop n piece) w.frames w.rest (Stopped why) (λ p. cc) w.run);
-    told_is = w.told_is;
-  }
 
   -- the octets of a frame that is refused, where nothing stands behind it
   of_frame : (fs : List Frame) (rest : List ℕ) (why : X) (w : WrongFrame R fs rest why) → w.more ≡ [] → rest ≡ frame_octets w.frame
@@ -318,110 +280,103 @@ module _ {E X : Type 0} (R : Rules E X) (octets piece : List ℕ) (told : List E
       absurd (header_not_frame gs fs other rest y x why' why (sym same) (sym e) h w none)
   same_behind fs gs rest other x y why why' same e (inr (w, none)) (inr (v, none')) = ap length (same_frame_rest fs gs rest other x y why why' e w none v none')
 
-  pub one_wrong_at : (n m : ℕ) (why other : X) → WrongAt R octets piece told n why → WrongAt R octets piece told m other → (n ≡ m) × (why ≡ other)
-  unfolding wrong_at
-  one_wrong_at n m why other w v =
-      let a = wrong_at n why w in
-      let b = wrong_at m other v in
-      let same = unique R (octets ++ piece) _ _ _ _ (Stopped why) (Stopped other) a.run b.run in
-      let behind = same_behind w.frames v.frames w.rest v.rest (drop n piece) (drop m piece) why other same.frames same.rests w.stops v.stops in
-      (omega (arith, behind, w.within, v.within, length-drop n piece, length-drop m piece), one_wrong why other a b)
+  -- ---- behind lists of what was told
 
-  -- what a piece comes to is one
-  pub one_outcome : (last : E → Bool) (n m : ℕ) (o p : Outcome E X) → Reads R last octets piece told n o → Reads R last octets piece told m p
-      → (n ≡ m) × (o ≡ p)
-  one_outcome last n m Quietly Quietly q r = (q.all ∙ sym r.all, refl)
-  one_outcome last n m Quietly (Telling e) q t = absurd (quiet_not_tells n m e q t.1)
-  one_outcome last n m Quietly (Lasting e) q l = absurd (quiet_not_lasts n m e q l.1)
-  one_outcome last n m Quietly (Stopping why) q w = absurd (quiet_not_wrong n why q (wrong_at m why w))
-  one_outcome last n m (Telling e) Quietly t q = absurd (quiet_not_tells m n e q t.1)
-  one_outcome last n m (Telling e) (Telling d) t u = let one = one_tells n m e d t.1 u.1 in (one.taken, ap (λ (z : E). Telling z) one.event)
-  one_outcome last n m (Telling e) (Lasting d) t l = absurd (not_both (last e) t.0 (ap last (tells_as_last n m e d t.1 l.1) ∙ l.0))
-  one_outcome last n m (Telling e) (Stopping why) t w = absurd (wrong_not_tells why n e (wrong_at m why w) t.1)
-  one_outcome last n m (Lasting e) Quietly l q = absurd (quiet_not_lasts m n e q l.1)
-  one_outcome last n m (Lasting e) (Telling d) l t = absurd (not_both (last d) t.0 (ap last (tells_as_last m n d e t.1 l.1) ∙ l.0))
-  one_outcome last n m (Lasting e) (Lasting d) l k = let one = one_last n m e d l.1 k.1 in (one.0, ap (λ (z : E). Lasting z) one.1)
-  one_outcome last n m (Lasting e) (Stopping why) l w = absurd (wrong_not_lasts why n e (wrong_at m why w) l.1)
-  one_outcome last n m (Stopping why) Quietly w q = absurd (quiet_not_wrong m why q (wrong_at n why w))
-  one_outcome last n m (Stopping why) (Telling e) w t = absurd (wrong_not_tells why m e (wrong_at n why w) t.1)
-  one_outcome last n m (Stopping why) (Lasting e) w l = absurd (wrong_not_lasts why m e (wrong_at n why w) l.1)
-  one_outcome last n m (Stopping why) (Stopping other) w v = let one = one_wrong_at n m why other w v in (one.0, ap (λ (z : X). Stopping z) one.1)
+  module _ (before other : List E) (n m : ℕ) where
+    same_events : (e d : E) (fs gs : List Frame) (f g : Frame) → fs ≡ gs → f ≡ g → R.tells fs f ≡ e ∷ [] → R.tells gs g ≡ d ∷ [] → e ≡ d
+    same_events e d fs gs f g p q r s = let same : e ∷ [] ≡ d ∷ [] = sym r
+        ∙ (ap (λ (t : List Frame). R.tells t f) p ∙ (ap (λ (h : Frame). R.tells gs h) q ∙ s)) in same_head e d [] [] same
 
--- ---- where what was told before is not known to be the same
+    meets_by : (e d : E) (xs ys : List Frame) (t : Tells R octets piece before n e) (u : Tells R octets piece other m d)
+        → Splits t.frames u.frames t.frame u.frame xs ys → Meets before other n m e d
+    meets_by e d xs ys t u (Here p q) =
+        AsOne (same_front octets piece n m t.within u.within
+        (t.run.whole
+        ∙ (ap (λ (z : List Frame). frames_octets z ++ []) (ap (λ (z : List Frame). z ++ t.frame ∷ []) p ∙ ap (λ (h : Frame). u.frames ++ h ∷ []) q)
+        ∙ sym u.run.whole)))
+        (sym t.told_is ∙ (ap (events R) p ∙ u.told_is)) (same_events e d t.frames u.frames t.frame u.frame p q t.tells u.tells)
+    meets_by e d xs ys t u (Later more p) = Within (each_from R.tells (t.frames ++ t.frame ∷ []) more) (sym u.told_is
+        ∙ tells_more R t.frames more u.frames t.frame before e p t.told_is t.tells)
+    meets_by e d xs ys t u (Sooner more p) = Around (each_from R.tells (u.frames ++ u.frame ∷ []) more) (sym t.told_is
+        ∙ tells_more R u.frames more t.frames u.frame other d p u.told_is u.tells)
 
--- of two frames that tell something, behind lists of what was told: they are one; or what was told before one has what the other tells
-pub data Meets {E : Type 0} (before other : List E) (n m : ℕ) (e d : E) : Type 0 where
-  AsOne : n ≡ m → before ≡ other → e ≡ d → Meets before other n m e d
-  Within : (more : List E) → other ≡ (before ++ e ∷ []) ++ more → Meets before other n m e d
-  Around : (more : List E) → before ≡ (other ++ d ∷ []) ++ more → Meets before other n m e d
+    pub tells_tells : (e d : E) → Tells R octets piece before n e → Tells R octets piece other m d → Meets before other n m e d
+    tells_tells e d t u =
+        let whole = reading R (octets ++ piece) in
+        let a = begins R (octets ++ take n piece) (drop n piece) (octets ++ piece) (t.frames ++ t.frame ∷ []) whole.frames [] whole.rest Going whole.end
+        (parts n) t.run whole.run in
+        let b = begins R (octets ++ take m piece) (drop m piece) (octets ++ piece) (u.frames ++ u.frame ∷ []) whole.frames [] whole.rest Going whole.end
+        (parts m) u.run whole.run in
+        meets_by e d a.0 b.0 t u (split t.frames u.frames t.frame u.frame a.0 b.0 (sym a.1 ∙ b.1))
 
-module _ {E X : Type 0} (R : Rules E X) (octets piece : List ℕ) (before other : List E) where
-  pub quiet_tells : (n m : ℕ) (e : E) → Quiet R octets piece other n → Tells R octets piece before m e → (more : List E) × (other ≡ (before ++ e ∷ []) ++ more)
-  quiet_tells n m e q t =
-      let w = whole_tells R octets piece before m e q.frames q.rest Going t q.run in
-      (w.0, sym q.told_is ∙ w.1)
+    lasts_lasts : (e d : E) → Lasts R octets piece before n e → Lasts R octets piece other m d → (n ≡ m) × (before ≡ other) × (e ≡ d)
+    unfolding lasts_all stopped_all
+    lasts_lasts e d l k =
+        let a = lasts_all before n e l in
+        let b = lasts_all other m d k in
+        let told = pushed before other e d (all_once R (octets ++ piece) _ _ Over Over a b).0 in
+        (same_rest piece n m l.within k.within (unique R (octets ++ piece) _ _ _ _ Over Over a.run b.run).rests, told.0, told.1)
 
-  pub wrong_tells : (why : X) (m : ℕ) (e : E) → Wrong R octets piece other why → Tells R octets piece before m e
-      → (more : List E) × (other ≡ (before ++ e ∷ []) ++ more)
-  wrong_tells why m e q t =
-      let w = whole_tells R octets piece before m e q.frames q.rest (Stopped why) t q.run in
-      (w.0, sym q.told_is ∙ w.1)
+    wrong_wrong : (why reason : X) → WrongAt R octets piece before n why → WrongAt R octets piece other m reason → (n ≡ m) × (before ≡ other)
+        × (why ≡ reason)
+    unfolding wrong_all stopped_all
+    wrong_wrong why reason w v =
+        let a = wrong_all before n why w in
+        let b = wrong_all other m reason v in
+        let same = unique R (octets ++ piece) _ _ _ _ (Stopped why) (Stopped reason) a.run b.run in
+        let behind = same_behind w.frames v.frames w.rest v.rest (drop n piece) (drop m piece) why reason same.frames same.rests w.stops v.stops in
+        let reasons = same.ends in
+        (omega (arith, behind, w.within, v.within, length-drop n piece, length-drop m piece), (all_once R (octets ++ piece) _ _ _ _ a b).0, cc)
 
-  pub lasts_tells : (n m : ℕ) (d e : E) → Lasts R octets piece other n d → Tells R octets piece before m e
-      → (more : List E) × (other ++ d ∷ [] ≡ (before ++ e ∷ []) ++ more)
-  lasts_tells n m d e l t =
-      let w = whole_tells R octets piece before m e l.frames ([] ++ drop n piece) Over t (lasts_whole R octets piece other n d l) in
-      (w.0, sym l.told_is ∙ w.1)
+  -- ---- what a piece comes to is one
 
-  meets_by : (n m : ℕ) (e d : E) (xs ys : List Frame) (t : Tells R octets piece before n e) (u : Tells R octets piece other m d)
-      → Splits t.frames u.frames t.frame u.frame xs ys → Meets before other n m e d
-  meets_by n m e d xs ys t u (Here p q) =
-      AsOne (same_front octets piece n m t.within u.within
-      (t.run.whole
-      ∙ (ap (λ (z : List Frame). frames_octets z ++ []) (ap (λ (z : List Frame). z ++ t.frame ∷ []) p ∙ ap (λ (h : Frame). u.frames ++ h ∷ []) q)
-      ∙ sym u.run.whole)))
-      (sym t.told_is ∙ (ap (events R) p ∙ u.told_is))
-      (same_events R octets piece before e d t.frames u.frames t.frame u.frame p q t.tells u.tells)
-  meets_by n m e d xs ys t u (Later more p) = Within (each_from R.tells (t.frames ++ t.frame ∷ []) more) (sym u.told_is
-      ∙ tells_more R t.frames more u.frames t.frame before e p t.told_is t.tells)
-  meets_by n m e d xs ys t u (Sooner more p) = Around (each_from R.tells (u.frames ++ u.frame ∷ []) more) (sym t.told_is
-      ∙ tells_more R u.frames more t.frames u.frame other d p u.told_is u.tells)
+  module _ (counts : E → Bool) (told : List E) where
+    never : (before other : List E) (n : ℕ) (e : E) (end : End X) → Behind counts told before → Behind counts told other
+        → (counts e ≡ true) × Tells R octets piece before n e → ReadsAll R (octets ++ piece) other end → ⊥
+    never before other n e end p q t a =
+        let more = tells_all before other n e end t.1 a in
+        not_among counts told before other more.0 e p q more.1 t.0
 
-  pub tells_tells : (n m : ℕ) (e d : E) → Tells R octets piece before n e → Tells R octets piece other m d → Meets before other n m e d
-  tells_tells n m e d t u =
-      let whole = reading R (octets ++ piece) in
-      let a = begins R (octets ++ take n piece) (drop n piece) (octets ++ piece) (t.frames ++ t.frame ∷ []) whole.frames [] whole.rest Going whole.end
-      (parts R octets piece before n) t.run whole.run in
-      let b = begins R (octets ++ take m piece) (drop m piece) (octets ++ piece) (u.frames ++ u.frame ∷ []) whole.frames [] whole.rest Going whole.end
-      (parts R octets piece before m) u.run whole.run in
-      meets_by n m e d a.0 b.0 t u (split t.frames u.frames t.frame u.frame a.0 b.0 (sym a.1 ∙ b.1))
+    -- all that is told with a last frame that tells what does not count
+    with_last : (other : List E) (d : E) → Behind counts told other → counts d ≡ false → Behind counts told (other ++ d ∷ [])
+    with_last other d q none = record {
+      more = q.more ++ d ∷ [];
+      all_is = ap (λ (t : List E). t ++ d ∷ []) q.all_is ∙ append_assoc told q.more (d ∷ []);
+      hushed = hushed_last counts q.more d q.hushed none;
+    }
 
-  pub quiet_quiet : (n m : ℕ) → Quiet R octets piece before n → Quiet R octets piece other m → (n ≡ m) × (before ≡ other)
-  quiet_quiet n m q r = (q.all ∙ sym r.all, sym q.told_is ∙ (ap (events R) (unique R (octets ++ piece) _ _ _ _ Going Going q.run r.run).frames ∙ r.told_is))
+    module _ (before other : List E) (p : Behind counts told before) (q : Behind counts told other) (n m : ℕ) where
+      by_meeting : (e d : E) → counts e ≡ true → counts d ≡ true → Meets before other n m e d
+          → (n ≡ m) × (before ≡ other) × (◌≡◌ {A = Outcome E X} (Telling e) (Telling d))
+      by_meeting e d loud loud_too (AsOne taken same one) = (taken, same, ap (λ (z : E). Telling z) one)
+      by_meeting e d loud loud_too (Within more is) = absurd (not_among counts told before other more e p q is loud)
+      by_meeting e d loud loud_too (Around more is) = absurd (not_among counts told other before more d q p is loud_too)
 
-  pub quiet_lasts : (n m : ℕ) (e : E) → Quiet R octets piece before n → Lasts R octets piece other m e → ⊥
-  quiet_lasts n m e q l = let same = (unique R (octets ++ piece) _ _ _ _ Going Over q.run (lasts_whole R octets piece other m e l)).ends in cc
+      -- not both ends
+      other_end : (us vs : List E) (end last : End X) → ReadsAll R (octets ++ piece) us end → ReadsAll R (octets ++ piece) vs last → (end ≡ last → ⊥) → ⊥
+      other_end us vs end last a b differ = differ (all_once R (octets ++ piece) us vs end last a b).1
 
-  pub quiet_wrong : (n : ℕ) (why : X) → Quiet R octets piece before n → Wrong R octets piece other why → ⊥
-  quiet_wrong n why q w = let same = (unique R (octets ++ piece) _ _ _ _ Going (Stopped why) q.run w.run).ends in cc
-
-  pub lasts_wrong : (n : ℕ) (e : E) (why : X) → Lasts R octets piece before n e → Wrong R octets piece other why → ⊥
-  lasts_wrong n e why l w = let same = (unique R (octets ++ piece) _ _ _ _ Over (Stopped why) (lasts_whole R octets piece before n e l) w.run).ends in cc
-
-  pub lasts_lasts : (n m : ℕ) (e d : E) → Lasts R octets piece before n e → Lasts R octets piece other m d → (n ≡ m) × (before ≡ other) × (e ≡ d)
-  lasts_lasts n m e d l k =
-      let same = unique R (octets ++ piece) _ _ _ _ Over Over (lasts_whole R octets piece before n e l) (lasts_whole R octets piece other m d k) in
-      let told = pushed before other e d (sym l.told_is ∙ (ap (events R) same.frames ∙ k.told_is)) in
-      (same_rest piece n m l.within k.within same.rests, told.0, told.1)
-
-  pub wrong_wrong : (n m : ℕ) (why reason : X) → WrongAt R octets piece before n why → WrongAt R octets piece other m reason → (n ≡ m) × (before ≡ other)
-      × (why ≡ reason)
-  unfolding wrong_at
-  wrong_wrong n m why reason w v =
-      let a = wrong_at R octets piece before n why w in
-      let b = wrong_at R octets piece other m reason v in
-      let same = unique R (octets ++ piece) _ _ _ _ (Stopped why) (Stopped reason) a.run b.run in
-      let behind = same_behind R octets piece before w.frames v.frames w.rest v.rest (drop n piece) (drop m piece) why reason same.frames same.rests w.stops
-      v.stops in
-      let reasons = same.ends in
-      (omega (arith, behind, w.within, v.within, length-drop n piece, length-drop m piece), sym w.told_is ∙ (ap (events R) same.frames ∙ v.told_is), cc)
+      pub one_outcome : (o o' : Outcome E X) → Reads R counts octets piece before n o → Reads R counts octets piece other m o'
+          → (n ≡ m) × (before ≡ other) × (o ≡ o')
+      one_outcome Quietly Quietly a b = (a.0 ∙ sym b.0, (all_once R (octets ++ piece) before other Going Going a.1 b.1).0, refl)
+      one_outcome Quietly (Telling e) a t = absurd (never other before m e Going q p t a.1)
+      one_outcome Quietly (Lasting e) a l = absurd (other_end before _ Going Over a.1 (lasts_all other m e l.1) (λ e. cc))
+      one_outcome Quietly (Stopping why) a w = absurd (other_end before _ Going (Stopped why) a.1 (wrong_all other m why w) (λ e. cc))
+      one_outcome (Telling e) Quietly t a = absurd (never before other n e Going p q t a.1)
+      one_outcome (Telling e) (Telling d) t u = by_meeting e d t.0 u.0 (tells_tells before other n m e d t.1 u.1)
+      one_outcome (Telling e) (Lasting d) t l = absurd (never before _ n e Over p (with_last other d q l.0) t (lasts_all other m d l.1))
+      one_outcome (Telling e) (Stopping why) t w = absurd (never before other n e (Stopped why) p q t (wrong_all other m why w))
+      one_outcome (Lasting e) Quietly l a = absurd (other_end _ other Over Going (lasts_all before n e l.1) a.1 (λ e. cc))
+      one_outcome (Lasting e) (Telling d) l t = absurd (never other _ m d Over q (with_last before e p l.0) t (lasts_all before n e l.1))
+      one_outcome (Lasting e) (Lasting d) l k =
+          let one = lasts_lasts before other n m e d l.1 k.1 in
+          (one.0, one.1, ap (λ (z : E). Lasting z) one.2)
+      one_outcome (Lasting e) (Stopping why) l w =
+          absurd (other_end _ other Over (Stopped why) (lasts_all before n e l.1) (wrong_all other m why w) (λ e. cc))
+      one_outcome (Stopping why) Quietly w a = absurd (other_end before other (Stopped why) Going (wrong_all before n why w) a.1 (λ e. cc))
+      one_outcome (Stopping why) (Telling e) w t = absurd (never other before m e (Stopped why) q p t (wrong_all before n why w))
+      one_outcome (Stopping why) (Lasting e) w l =
+          absurd (other_end before _ (Stopped why) Over (wrong_all before n why w) (lasts_all other m e l.1) (λ e. cc))
+      one_outcome (Stopping why) (Stopping reason) w v =
+          let one = wrong_wrong before other n m why reason w v in
+          (one.0, one.1, ap (λ (z : X). Stopping z) one.2)

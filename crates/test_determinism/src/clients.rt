@@ -12,7 +12,6 @@ ghost use Rattle.test_determinism.specs.Pinned.{HadMemory, SameBy};
 
 use ua_builtin::DateTime;
 use ua_channel::{AskFault, ClientChannel, ClientEvent, ClientTakeFault};
-use ua_channel_laws::client_laws::client_is_open;
 
 /// Hands the same bytes to two channels that stand alike: the answers are one, with as many bytes
 /// taken, and the channels stand alike after them, or have both ended.
@@ -55,7 +54,6 @@ pub fn client_ask_twice(
         → ClientsAlike one.old two.old asks octets told
         → HadMemory no_asking_memory result.0 result.1 → AsksAlike Call result.0 one.new two.new asks octets told }
 {
-    client_is_open();
     let first = one.ask(body);
     let second = two.ask(body);
     (first, second)
@@ -78,7 +76,6 @@ pub fn client_renew_twice(
         → ClientsAlike one.old two.old asks octets told
         → HadMemory no_asking_memory result.0 result.1 → AsksAlike Renewal result.0 one.new two.new asks octets told }
 {
-    client_is_open();
     let first = one.renew(moment);
     let second = two.renew(moment);
     (first, second)
@@ -98,7 +95,6 @@ pub fn client_close_twice(
         → ClientsAlike one.old two.old asks octets told
         → HadMemory no_asking_memory result.0 result.1 → ClosesAlike result.0 one.new two.new asks octets told }
 {
-    client_is_open();
     let first = one.close(moment);
     let second = two.close(moment);
     (first, second)
@@ -115,7 +111,6 @@ pub fn client_judge_twice(
         → ClientsAlike one.now two.now asks octets told
         → result.0 ≡ result.1 }
 {
-    client_is_open();
     let first = one.judge(before, len);
     let second = two.judge(before, len);
     (first, second)

@@ -1,5 +1,6 @@
 use Rattle.std.specs.Prelude.{List, ℕ}
 use Rattle.ua_builtin.specs.declared.date_time.DateTime.{DateTime}
+use Rattle.ua_channel.specs.ServerStands.{channel_of}
 use Rattle.ua_channel.specs.ServerTold.{Told}
 use Rattle.ua_server.proofs.NowStanding.{as-told}
 use Rattle.ua_server.specs.Served.{channel_in}
@@ -13,8 +14,8 @@ use Rattle.test_determinism.proofs.steps.step_server_twice.Goals as goal
 both : (c : goal.After-step-second) (octets : List ℕ) (told : List Told) (begun : State) (moments : List DateTime)
     → StepsAlike (channel_in c.args.one.now) (channel_in c.args.two.now) octets told begun moments c.args.services.now c.args.others.now
     → HadMemory OutOfMemory c.step-first.result c.step-second.result
-    → Both c.step-first.result c.step-second.result (channel_in c.step-first.new.self) (channel_in c.step-second.new.self) octets c.args.piece.now told begun
-    moments c.step-first.new.services c.step-second.new.services
+    → Both (channel_of (channel_in c.args.one.now)) c.args.moment c.args.piece.now octets told begun moments c.step-first.result c.step-second.result
+    (channel_in c.step-first.new.self) (channel_in c.step-second.new.self) c.step-first.new.services c.step-second.new.services
 both c octets told begun moments s had =
     alike (channel_in c.args.one.now) (channel_in c.args.two.now) _ _ c.args.moment c.args.piece.now octets told begun moments c.args.services.now
     c.args.others.now _ _ _ _ s
