@@ -17,9 +17,10 @@ use Rattle.ua_server.specs.declared.watch.AnsweredRequest.{AnsweredRequest}
 use Rattle.ua_server.proofs.LeftOver.{answered-count, refused-count}
 use Rattle.ua_server.proofs.RequestsInParts.{requests-more}
 use Rattle.ua_server.proofs.SaidInParts.{left-more, said-append, said-more, used_in-append}
+use Rattle.ua_channel_laws.proofs.ReadOn.{told_behind}
 use Rattle.test_determinism.proofs.MomentsAlike.{Begins}
 use Rattle.test_determinism.proofs.MomentsAlike.Begins.{First, Second}
-use Rattle.test_determinism.proofs.StreamsAlike.{ReadsAll, Splits, all_once, begins, pushed, split, stopped_all, tells_more, told_behind}
+use Rattle.test_determinism.proofs.StreamsAlike.{ReadsAll, Splits, all_once, begins, pushed, split, stopped_all, tells_more}
 use Rattle.test_determinism.proofs.StreamsAlike.Splits.{Here, Later, Sooner}
 
 -- nothing is said of nothing

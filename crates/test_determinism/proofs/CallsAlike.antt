@@ -4,7 +4,7 @@ use Rattle.std.proofs.Common.{refl, sym, ◌∙◌, ap, subst, arith, append_ass
 use Rattle.std.proofs.lemmas.List.{append_cancel_left, append_cancel_right}
 use Rattle.ua_builtin.specs.declared.status_code.StatusCode.{StatusCode}
 use Rattle.ua_channel.specs.Asks.{Placed}
-use Rattle.ua_channel.specs.Client.{ClientEnded, ClientGoes, client_rules_of, client_limits}
+use Rattle.ua_channel.specs.Client.{ClientEnded, ClientGoes, SameClient, client_rules_of, client_limits}
 use Rattle.ua_channel.specs.ClientTable.{client_rules}
 use Rattle.ua_channel.specs.ClientTold.{ClientTold, Why, ours, peers}
 use Rattle.ua_channel.specs.Line.{Traffic}
@@ -12,13 +12,14 @@ use Rattle.ua_channel.specs.declared.client.channel.ClientChannel.{ClientChannel
 use Rattle.ua_frame.specs.Run.{Rules, Run, End, Going, Stopped, events}
 use Rattle.ua_frame.specs.declared.limits.Limits.{Limits}
 use Rattle.ua_client.specs.Carried.{Carries, IsAtEnd}
-use Rattle.ua_client.specs.Client.{connection_of}
-use Rattle.ua_client.specs.Hearing.{MovesConnection, StopsByTraffic, most_reads, untaken_of}
+use Rattle.ua_client.specs.Client.{IsReady, client_channel, connection_of}
+use Rattle.ua_client.specs.ClientPlace.{ClientPlace, StandsAt}
+use Rattle.ua_client.specs.Hearing.{MovesConnection, StopsByTraffic, channel_of_connection, most_reads, untaken_of}
 use Rattle.ua_client.specs.declared.client.Client.{Client}
 use Rattle.ua_client.specs.declared.connection.Connection.{Connection}
 use Rattle.ua_client.specs.declared.fault.ClientFault.{ClientFault}
 use Rattle.ua_client.specs.declared.fault.ClientFault.TheVariants as fault
-use Rattle.test_determinism.specs.Calling.{ComesTo}
+use Rattle.test_determinism.specs.Calling.{ComesTo, StandAgain}
 use Rattle.test_determinism.specs.Lines.{AreFew, ComeAlike, ComesAsOne, WroteExactly, WroteAlike}
 use Rattle.test_determinism.specs.Lines.ComesAsOne.{Known, Steady, SameWritten}
 use Rattle.test_determinism.proofs.FrontsAlike.{ReadsFront}
@@ -86,6 +87,34 @@ ahead_same one two sent other taken got line after elsewhere later coming e same
     (q.all more
     ∙ (ap (λ (o : List ℕ). coming (o ++ more)) (sym e)
     ∙ (sym (r.all more) ∙ ap (λ (o : List ℕ). o ++ (untaken_of one ++ r.last.coming more)) same)))
+
+-- two clients that wrote the same, took the same and stand in one place stand alike again
+pub stand_again : (x y : Client) (one two : Connection) (sent other taken got : List ℕ) (line after elsewhere later : Option Traffic)
+    (coming : List ℕ → List ℕ) (s : ClientPlace) (octets : List ℕ) → connection_of x ≡ one → connection_of y ≡ two → IsReady x → IsReady y
+    → StandsAt (channel_of_connection one) s → StandsAt (channel_of_connection two) s
+    → SameClient (channel_of_connection one) (channel_of_connection two) → sent ≡ other → taken ≡ got → s.octets ≡ octets ++ taken
+    → Ran one sent taken line after coming → Ran two other got elsewhere later coming → StandAgain x y line after later octets coming
+stand_again x y one two sent other taken got line after elsewhere later coming s octets is is_too ready ready_too at at_too same sents takens octets_are r q =
+    record {
+      place = s;
+      rest = λ more. untaken_of one ++ r.last.coming more;
+      sent = sent;
+      wrote = ran_wrote one sent taken line after coming r;
+      taken = taken;
+      octets_are = octets_are;
+      parts = r.all;
+      stand = record {
+        ready = ready;
+        ready_too = ready_too;
+        first = subst (λ (c : Connection). StandsAt (channel_of_connection c) s) (sym is) at;
+        second = subst (λ (c : Connection). StandsAt (channel_of_connection c) s) (sym is_too) at_too;
+        same = subst (λ (c : Connection). SameClient (channel_of_connection c) (client_channel y)) (sym is)
+            (subst (λ (c : Connection). SameClient (channel_of_connection one) (channel_of_connection c)) (sym is_too) same);
+        comes = ran_comes x one sent taken line after coming (λ more. untaken_of one ++ r.last.coming more) r is (λ more. refl);
+        comes_too = ran_comes y two other got elsewhere later coming (λ more. untaken_of one ++ r.last.coming more) q is_too
+            (λ more. ahead_same one two sent other taken got line after elsewhere later coming sents takens r q more);
+      };
+    }
 
 -- what comes to a client over a line that tells its octets
 pub comes_at : (x : Client) (line : Option Traffic) (coming : List ℕ → List ℕ) → ComesTo x line coming → (t : Traffic) × (line ≡ Some t)

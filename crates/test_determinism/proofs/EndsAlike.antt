@@ -12,7 +12,8 @@ use Rattle.ua_channel.specs.Content.Content.{Sends}
 use Rattle.ua_channel.specs.Ends.{Side, EndGoes, EndMessage, EndOver, EndStands, EndStops, EndTells, HandsOutParts, rules_by}
 use Rattle.ua_channel.specs.Received.{received}
 use Rattle.ua_channel.specs.declared.end_core.EndCore.{EndCore}
-use Rattle.test_determinism.proofs.StreamsAlike.{Behind, Outcome, Reads, Tells, one_outcome, pushed, told_behind}
+use Rattle.ua_channel_laws.proofs.ReadOn.{told_behind}
+use Rattle.test_determinism.proofs.StreamsAlike.{Behind, Outcome, Reads, Tells, one_outcome, pushed}
 use Rattle.test_determinism.proofs.StreamsAlike.Outcome.{Quietly, Telling, Lasting, Stopping}
 
 pub whole_taken : (octets piece : List ℕ) (n : ℕ) → n ≡ length piece → octets ++ take n piece ≡ octets ++ piece

@@ -5,7 +5,8 @@ use Rattle.ua_frame.specs.After.{each_from}
 use Rattle.ua_frame.specs.declared.frame.Frame.{Frame}
 use Rattle.ua_frame.specs.Run.{Rules, Run, events, End, Going}
 use Rattle.ua_frame.proofs.Readings.{reading}
-use Rattle.test_determinism.proofs.StreamsAlike.{ReadsAll, begins, events_on}
+use Rattle.ua_channel_laws.proofs.ReadOn.{events_on}
+use Rattle.test_determinism.proofs.StreamsAlike.{ReadsAll, begins}
 
 -- a front of these octets is read so, and goes on, and this is told
 pub record ReadsFront {E X : Type 0} (R : Rules E X) (whole : List ℕ) (told : List E) : Type 0 where

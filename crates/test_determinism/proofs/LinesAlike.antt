@@ -13,7 +13,7 @@ use Rattle.test_determinism.specs.Calling.{CallsAlike, LeavesBoth, MadeAlike, St
 use Rattle.test_determinism.specs.Calling.CallsAlike.{NoFault, AtRead, AtWrite}
 use Rattle.test_determinism.specs.Lines.{ComeAlike, WroteAlike}
 use Rattle.test_determinism.specs.Pinned.{HadMemory}
-use Rattle.test_determinism.proofs.CallsAlike.{OneComing, Ran, ahead_same, both_wrote, comes_at, ended_more, few_reads, ran, ran_comes, ran_wrote, read_same}
+use Rattle.test_determinism.proofs.CallsAlike.{OneComing, Ran, both_wrote, comes_at, ended_more, few_reads, ran, read_same, stand_again}
 use Rattle.test_determinism.proofs.CallsAlike.{wrote_same}
 use Rattle.test_determinism.proofs.GroupOnce.{FailAlike}
 use Rattle.test_determinism.proofs.GroupsAlike.{Faults, Place, goes_on}
@@ -235,29 +235,14 @@ module _ {A : Type 0} (one two x y : Client) (a b : Result A ClientFault) (line 
 
   placed : sent ≡ also → Place (client_channel x) (client_channel y) s m.taken n.taken → IsReady x → IsReady y
       → StandBy false x y line after later s.octets coming
-  placed e h ready ready_too = record {
-    place = h.site;
-    rest = λ more. untaken_of (connection_of x) ++ first.last.coming more;
-    sent = sent;
-    wrote = ran_wrote (connection_of x) sent m.taken line after coming first;
-    taken = m.taken;
-    octets_are = h.octets;
-    parts = first.all;
-    stand = record {
-      ready = ready;
-      ready_too = ready_too;
-      first = h.first;
-      second = h.second;
-      same = record {
+  placed e h ready ready_too =
+      stand_again x y (connection_of x) (connection_of y) sent also m.taken n.taken line after other later coming h.site s.octets refl refl ready ready_too
+      h.first h.second
+      (record {
         limits = sym same.limits ∙ (made.stand.same.limits ∙ same_too.limits);
         url = sym same.url ∙ (made.stand.same.url ∙ same_too.url);
-      };
-      comes = ran_comes x (connection_of x) sent m.taken line after coming (λ more. untaken_of (connection_of x) ++ first.last.coming more) first refl
-          (λ more. refl);
-      comes_too = ran_comes y (connection_of y) also n.taken other later coming (λ more. untaken_of (connection_of x) ++ first.last.coming more) second refl
-          (λ more. ahead_same (connection_of x) (connection_of y) sent also m.taken n.taken line after other later coming e h.same first second more);
-    };
-  }
+      })
+      e h.same h.octets first second
 
   pub left_both : sent ≡ also → fault_of a ≡ fault_of b → IsLeft a x → IsLeft b y
       → (goes_on (fault_of a) ≡ true → Place (client_channel x) (client_channel y) s m.taken n.taken)

@@ -25,8 +25,8 @@ use Rattle.ua_client.specs.declared.fault.ClientFault.TheVariants as fault
 use Rattle.test_determinism.specs.Calling.{CallsAlike, OpenAlike, OpenInStages, StandAgain, line_failed_calling, stops_reading}
 use Rattle.test_determinism.specs.Calling.CallsAlike.{NoFault, AtRead, AtWrite}
 use Rattle.test_determinism.specs.Lines.{WroteAlike}
-use Rattle.test_determinism.proofs.CallsAlike.{Ahead, EndsBy, OneComing, Ran, ahead_by, ahead_same, all_taken, both_wrote, ended_reads}
-use Rattle.test_determinism.proofs.CallsAlike.{goes_front, goes_reads, one_by, one_fault, ran, ran_comes, ran_wrote, read_same}
+use Rattle.test_determinism.proofs.CallsAlike.{Ahead, EndsBy, OneComing, Ran, ahead_by, all_taken, both_wrote, ended_reads}
+use Rattle.test_determinism.proofs.CallsAlike.{goes_front, goes_reads, one_by, one_fault, ran, read_same, stand_again}
 use Rattle.test_determinism.proofs.CallsAlike.EndsBy.{ByPeer, ByOurs, ByEnd}
 use Rattle.test_determinism.proofs.ClientsAlike.{to_tells}
 use Rattle.test_determinism.proofs.FrontsAlike.{front_first}
@@ -263,34 +263,13 @@ module _ (settled : SettledBehind) (limits : Limits) (url : Option (List ℕ)) (
       ∙ ((h.opens.keeps.next ∙ h.fresh.next_is) ∙ (sym (k.opens.keeps.next ∙ k.fresh.next_is) ∙ t.3.number_is)) in
       let place : s.0 ≡ t.0 = site_once (channel_of_connection h.last) (channel_of_connection k.last) s.0 t.0 s.3 t.3 limits_same (s.2 ∙ sym t.2)
       (s.1 ∙ (taken ∙ sym t.1)) number in
-      record {
-        place = s.0;
-        rest = λ more. untaken_of h.last ++ first.last.coming more;
-        sent = h.opens.sent;
-        wrote = ran_wrote h.last h.opens.sent h.opens.moves.taken line after coming first;
-        taken = h.opens.moves.taken;
-        octets_are = s.1;
-        parts = first.all;
-        stand = record {
-          ready = ready;
-          ready_too = ready_too;
-          first = subst (λ (c : Connection). StandsAt (channel_of_connection c) s.0) (sym is) s.3;
-          second = subst (λ (c : Connection). StandsAt (channel_of_connection c) s.0) (sym is_too)
-              (subst (StandsAt (channel_of_connection k.last)) (sym place) t.3);
-          same = record {
-            limits = ap (λ (c : Connection). client_limits (channel_of_connection c)) is
-                ∙ (limits_same ∙ sym (ap (λ (c : Connection). client_limits (channel_of_connection c)) is_too));
-            url = ap (λ (c : Connection). url_of (channel_of_connection c)) is
-                ∙ ((sym h.opens.keeps.same.url ∙ h.fresh.url_is)
-                ∙ (sym (sym k.opens.keeps.same.url ∙ k.fresh.url_is) ∙ sym (ap (λ (c : Connection). url_of (channel_of_connection c)) is_too)));
-          };
-          comes = ran_comes x h.last h.opens.sent h.opens.moves.taken line after coming (λ more. untaken_of h.last ++ first.last.coming more) first is
-              (λ more. refl);
-          comes_too = ran_comes y k.last k.opens.sent k.opens.moves.taken other later coming (λ more. untaken_of h.last ++ first.last.coming more) second is_too
-              (λ more. ahead_same h.last k.last h.opens.sent k.opens.sent h.opens.moves.taken k.opens.moves.taken line after other later coming sent_is taken
-              first second more);
-        };
-      }
+      stand_again x y h.last k.last h.opens.sent k.opens.sent h.opens.moves.taken k.opens.moves.taken line after other later coming s.0 [] is is_too ready
+      ready_too s.3 (subst (StandsAt (channel_of_connection k.last)) (sym place) t.3)
+      (record {
+        limits = limits_same;
+        url = (sym h.opens.keeps.same.url ∙ h.fresh.url_is) ∙ sym (sym k.opens.keeps.same.url ∙ k.fresh.url_is);
+      })
+      sent_is taken s.1 first second
 
   opened_by : h.opens.sent ≡ k.opens.sent → (c d : Result Client ClientFault) (x y : Client) → a ≡ c → b ≡ d → c ≡ Ok x → d ≡ Ok y
       → IsOpened (channel_of_connection h.last) h.opens.moves.taken

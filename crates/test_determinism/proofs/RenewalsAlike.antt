@@ -28,8 +28,8 @@ use Rattle.ua_client.specs.declared.fault.ClientFault.TheVariants as fault
 use Rattle.test_determinism.specs.Calling.{CallsAlike, LeavesBoth, MadeAlike, StandBy, StandReady, line_failed_calling}
 use Rattle.test_determinism.specs.Calling.CallsAlike.{NoFault, AtRead, AtWrite}
 use Rattle.test_determinism.specs.Lines.{WroteExactly, WroteAlike}
-use Rattle.test_determinism.proofs.CallsAlike.{Ahead, EndsBy, Ran, ahead_same, all_taken, behind_all, behind_parts, both_wrote, comes_at, ended_reads}
-use Rattle.test_determinism.proofs.CallsAlike.{goes_front, goes_reads, one_fault, ran, ran_comes, ran_wrote, same_rules}
+use Rattle.test_determinism.proofs.CallsAlike.{Ahead, EndsBy, Ran, all_taken, behind_all, behind_parts, both_wrote, comes_at, ended_reads}
+use Rattle.test_determinism.proofs.CallsAlike.{goes_front, goes_reads, one_fault, ran, ran_wrote, same_rules, stand_again}
 use Rattle.test_determinism.proofs.CallsAlike.EndsBy.{ByPeer, ByOurs, ByEnd}
 use Rattle.test_determinism.proofs.ClientsAlike.{to_tells}
 use Rattle.test_determinism.proofs.FrontsAlike.{ReadsFront, front_first}
@@ -314,28 +314,11 @@ module _ (one two x y : Client) (moment : DateTime) (a b : Result (Unit {0}) Cli
       record {
         answers = e ∙ sym d;
         written = wrote_both (sent ∙ sym also);
-        left = subst (λ (z : Result (Unit {0}) ClientFault). LeavesBoth z x y line after later s.octets coming) (sym e) record {
-          place = t;
-          rest = λ more. untaken_of (connection_of x) ++ first.last.coming more;
-          sent = h.sent;
-          wrote = ran_wrote (connection_of x) h.sent h.moves.taken line after coming first;
-          taken = h.moves.taken;
-          octets_are = r.octets;
-          parts = first.all;
-          stand = record {
-            ready = subst (λ (z : Result (Unit {0}) ClientFault). IsLeft z x) e left;
-            ready_too = subst (λ (z : Result (Unit {0}) ClientFault). IsLeft z y) d left_too;
-            first = r.at;
-            second = subst (StandsAt (client_channel y)) (sym place) v.at;
-            same = record { limits = limits_same; url = sym h.same.url ∙ (made.stand.same.url ∙ k.same.url) };
-            comes = ran_comes x (connection_of x) h.sent h.moves.taken line after coming (λ more. untaken_of (connection_of x) ++ first.last.coming more) first
-                refl (λ more. refl);
-            comes_too = ran_comes y (connection_of y) k.sent k.moves.taken other later coming
-                (λ more. untaken_of (connection_of x) ++ first.last.coming more) second refl
-                (λ more. ahead_same (connection_of x) (connection_of y) h.sent k.sent h.moves.taken k.moves.taken line after other later coming
-                (sent ∙ sym also) taken first second more);
-          };
-        };
+        left = subst (λ (z : Result (Unit {0}) ClientFault). LeavesBoth z x y line after later s.octets coming) (sym e)
+            (stand_again x y (connection_of x) (connection_of y) h.sent k.sent h.moves.taken k.moves.taken line after other later coming t s.octets refl refl
+            (subst (λ (z : Result (Unit {0}) ClientFault). IsLeft z x) e left) (subst (λ (z : Result (Unit {0}) ClientFault). IsLeft z y) d left_too)
+            r.at (subst (StandsAt (client_channel y)) (sym place) v.at)
+            (record { limits = limits_same; url = sym h.same.url ∙ (made.stand.same.url ∙ k.same.url) }) (sent ∙ sym also) taken r.octets first second);
       }
 
   both_waited : (f g : ClientFault) (e d : End Why) → a ≡ Err f → b ≡ Err g → EndsBy f e → EndsBy g d → h.sent ≡ renewal_at s moment

@@ -10,7 +10,7 @@ use Rattle.ua_channel.specs.Client.{client_limits, url_of}
 use Rattle.ua_channel.specs.Line.{Traffic}
 use Rattle.ua_channel.specs.declared.client.channel.ClientChannel.{ClientChannel}
 use Rattle.ua_services.specs.declared.request.Request.{Request}
-use Rattle.ua_client.specs.Calls.{sent_at}
+use Rattle.ua_client.specs.Calls.{BreaksAt, sent_at}
 use Rattle.ua_client.specs.Client.{IsLeft, client_channel, connection_of}
 use Rattle.ua_client.specs.Hearing.{channel_of_connection}
 use Rattle.ua_client.specs.Session.{ActivatesBehind, BeginsSessionAs, BeginsSessionAt, Replies, ServesAt, activating_at}
@@ -106,6 +106,13 @@ module _ (limits : Limits) (request : Request) (s : ClientPlace) (new : Connecti
   says_by o P is r = Says r.behind r.reply (is r.reply r.says) r.replied.sent_is
       (record { limits_are = same; at = r.at; came = r.replied.came; answered = r.replied.answered; more = more; parts = refl })
 
+  -- it was not
+  fails : (o : Option ClientFault) (f : ClientFault) → o ≡ Some f
+      → ((g : ClientFault) → o ≡ Some g → (g ≡ fault.Ended) ⊎ (g ≡ fault.Read) → more ≡ []) → ((g : ClientFault) → o ≡ Some g → g ≡ fault.OutOfMemory → ⊥)
+      → ((g : ClientFault) → o ≡ Some g → g ≡ fault.TooLong → ⊥) → BreaksAt (request ∷ []) s new sent taken f
+      → Served limits request s (taken ++ more) (channel_of_connection new) sent taken o
+  fails o f e stop had short k = Fails f e (broke_all limits (request ∷ []) s new sent taken more same f (stop f e) (had f e) (short f e) k)
+
   served_by : {A : Type 0} (brings : A → Reply → Type 0) (result : Result A ClientFault)
       → ((f : ClientFault) → fault_of result ≡ Some f → (f ≡ fault.Ended) ⊎ (f ≡ fault.Read) → more ≡ [])
       → ((f : ClientFault) → fault_of result ≡ Some f → f ≡ fault.OutOfMemory → ⊥) → ((f : ClientFault) → fault_of result ≡ Some f → f ≡ fault.TooLong → ⊥)
@@ -114,35 +121,17 @@ module _ (limits : Limits) (request : Request) (s : ClientPlace) (new : Connecti
   served_by brings (Ok found) stop had short k = says_by None (λ reply. (reply_failure reply ≡ None) × brings found reply) (λ reply h. ap failed_by (sym h.0)) k
   served_by brings (Err (fault.Service code)) stop had short k = says_by (Some (fault.Service code)) (λ reply. reply_failure reply ≡ Some code)
       (λ reply h. ap failed_by (sym h)) k
-  served_by brings (Err (fault.Peer code)) stop had short k =
-      Fails (fault.Peer code) refl (broke_all limits (request ∷ []) s new sent taken more same (fault.Peer code) (stop (fault.Peer code) refl)
-      (had (fault.Peer code) refl) (short (fault.Peer code) refl) k)
-  served_by brings (Err (fault.Refused code)) stop had short k =
-      Fails (fault.Refused code) refl (broke_all limits (request ∷ []) s new sent taken more same (fault.Refused code) (stop (fault.Refused code) refl)
-      (had (fault.Refused code) refl) (short (fault.Refused code) refl) k)
-  served_by brings (Err fault.Ended) stop had short k =
-      Fails fault.Ended refl (broke_all limits (request ∷ []) s new sent taken more same fault.Ended (stop fault.Ended refl) (had fault.Ended refl)
-      (short fault.Ended refl) k)
-  served_by brings (Err fault.Read) stop had short k =
-      Fails fault.Read refl (broke_all limits (request ∷ []) s new sent taken more same fault.Read (stop fault.Read refl) (had fault.Read refl)
-      (short fault.Read refl) k)
-  served_by brings (Err fault.Write) stop had short k =
-      Fails fault.Write refl (broke_all limits (request ∷ []) s new sent taken more same fault.Write (stop fault.Write refl) (had fault.Write refl)
-      (short fault.Write refl) k)
-  served_by brings (Err fault.UnknownResponse) stop had short k =
-      Fails fault.UnknownResponse refl (broke_all limits (request ∷ []) s new sent taken more same fault.UnknownResponse (stop fault.UnknownResponse refl)
-      (had fault.UnknownResponse refl) (short fault.UnknownResponse refl) k)
+  served_by brings (Err (fault.Peer code)) stop had short k = fails _ (fault.Peer code) refl stop had short k
+  served_by brings (Err (fault.Refused code)) stop had short k = fails _ (fault.Refused code) refl stop had short k
+  served_by brings (Err fault.Ended) stop had short k = fails _ fault.Ended refl stop had short k
+  served_by brings (Err fault.Read) stop had short k = fails _ fault.Read refl stop had short k
+  served_by brings (Err fault.Write) stop had short k = fails _ fault.Write refl stop had short k
+  served_by brings (Err fault.UnknownResponse) stop had short k = fails _ fault.UnknownResponse refl stop had short k
   served_by brings (Err fault.TooLong) stop had short k = absurd (short fault.TooLong refl refl)
   served_by brings (Err fault.OutOfMemory) stop had short k = absurd (had fault.OutOfMemory refl refl)
-  served_by brings (Err fault.TooLarge) stop had short k =
-      Fails fault.TooLarge refl (broke_all limits (request ∷ []) s new sent taken more same fault.TooLarge (stop fault.TooLarge refl) (had fault.TooLarge refl)
-      (short fault.TooLarge refl) k)
-  served_by brings (Err fault.NotWritable) stop had short k =
-      Fails fault.NotWritable refl (broke_all limits (request ∷ []) s new sent taken more same fault.NotWritable (stop fault.NotWritable refl)
-      (had fault.NotWritable refl) (short fault.NotWritable refl) k)
-  served_by brings (Err fault.Exhausted) stop had short k =
-      Fails fault.Exhausted refl (broke_all limits (request ∷ []) s new sent taken more same fault.Exhausted (stop fault.Exhausted refl)
-      (had fault.Exhausted refl) (short fault.Exhausted refl) k)
+  served_by brings (Err fault.TooLarge) stop had short k = fails _ fault.TooLarge refl stop had short k
+  served_by brings (Err fault.NotWritable) stop had short k = fails _ fault.NotWritable refl stop had short k
+  served_by brings (Err fault.Exhausted) stop had short k = fails _ fault.Exhausted refl stop had short k
   served_by brings (Err fault.Closed) stop had short k = absurd k
   served_by brings (Err fault.TooManyTokens) stop had short k = absurd k
 

@@ -3,15 +3,14 @@ use Rattle.std.specs.Prelude.{◌≡◌, ℕ, ◌≤◌, ◌⊎◌, List, [], �
 use Rattle.std.proofs.Common.{refl, sym, ◌∙◌, ap, subst, arith, inl, inr, append_assoc, append-nil, length-append, length-drop, take-append-drop}
 use Rattle.std.proofs.lemmas.List.{append_cancel_left}
 use Rattle.ua_frame.specs.declared.frame.Frame.{Frame}
-use Rattle.ua_frame.specs.After.{AllFrom, AllAfter, each_from, each_after}
+use Rattle.ua_frame.specs.After.{AllFrom, AllAfter, each_from}
 use Rattle.ua_frame.specs.Frames.{frame_octets, frames_octets, header_fault}
 use Rattle.ua_frame.specs.Run.{Rules, Fits, refusal, events, End, Going, Stopped, Over, EndsIn, Run, WrongHeader, WrongFrame}
 use Rattle.ua_frame.proofs.Ends.{ends_stay}
 use Rattle.ua_frame.proofs.Readings.{reading}
-use Rattle.ua_frame.proofs.Streams.{events-push}
 use Rattle.ua_frame.proofs.Unique.{front_frame, front_none, one_frame, unique, frame_more_fault}
 use Rattle.ua_frame.proofs.Fronts.{fault_front}
-use Rattle.ua_channel_laws.proofs.ReadOn.{each_append}
+use Rattle.ua_channel_laws.proofs.ReadOn.{events_on, told_behind}
 use Rattle.test_determinism.proofs.FramesAlike.{no_part, good_not_wrong}
 
 -- ---- lists
@@ -102,15 +101,6 @@ unfolding AllAfter
 begins R octets more whole fs gs rest x end last e r s =
     front_from R [] fs gs (rest ++ more) x last r.good s.good s.ends (sym (append_assoc (frames_octets fs) rest more)
     ∙ (ap (λ (t : List ℕ). t ++ more) (sym r.whole) ∙ (e ∙ s.whole)))
-
-pub events_on : {E X : Type 0} (R : Rules E X) (fs gs : List Frame) → events R (fs ++ gs) ≡ events R fs ++ each_from R.tells fs gs
-unfolding each_after
-events_on R fs gs = each_append R.tells [] fs gs
-
--- what frames tell of which the first tell this, and the next one that
-pub told_behind : {E X : Type 0} (R : Rules E X) (fs : List Frame) (f : Frame) (told : List E) (e : E) → events R fs ≡ told → R.tells fs f ≡ e ∷ []
-    → events R (fs ++ f ∷ []) ≡ told ++ e ∷ []
-told_behind {E = E} R fs f told e is tells = events-push R fs f ∙ (ap (λ (t : List E). events R fs ++ t) tells ∙ ap (λ (t : List E). t ++ e ∷ []) is)
 
 pub tells_more : {E X : Type 0} (R : Rules E X) (fs later gs : List Frame) (f : Frame) (told : List E) (e : E) → gs ≡ (fs ++ f ∷ []) ++ later
     → events R fs ≡ told → R.tells fs f ≡ e ∷ [] → events R gs ≡ (told ++ e ∷ []) ++ each_from R.tells (fs ++ f ∷ []) later
