@@ -35,7 +35,6 @@ TACTICS = re.compile(r"(?<![\w.«-])(omega|grind|search|simp|cc|absurd|rw)(?![\w
 LAWFUL_TRAITS = re.compile(r"^impl\b.*\b(PartialEq|Eq|PartialOrd|Ord|Hash)\b.*\bfor\b")
 # Pages that a tool writes from the sources.
 WRITTEN = ("docs/DEFINITIONS.md",)
-DRAFTS = "drafts/"  # its pages name what does not stand yet
 NUMBERS = "zero one two three four five six seven eight nine ten eleven twelve thirteen fourteen fifteen sixteen seventeen eighteen nineteen twenty".split()
 
 
@@ -73,7 +72,7 @@ def report_names(listing: list[str], sources: list[Source], words: set[str]) -> 
             everything |= {word for line in read(f).split("\n") if line.startswith("# ") for word in re.findall(r"\w+", line)}
     rows = []
     for f in listing:
-        if not f.endswith(".md") or f in WRITTEN or f.startswith(DRAFTS):
+        if not f.endswith(".md") or f in WRITTEN:
             continue
         for span in spans(read(f))[0]:
             m = re.match(r"^(?:\w+::)*(\w+)(?:\(\))?$", span)
@@ -214,7 +213,7 @@ def report_numbers(listing: list[str]) -> int:
     true |= {"rows of `rows/program.rows`": rows_of("rows/program.rows")}
     rows = []
     for f in listing:
-        if f.endswith(".md") and f not in (*WRITTEN, "docs/ARCHITECTURE.md", "CHANGELOG.md") and not f.startswith("drafts/"):
+        if f.endswith(".md") and f not in (*WRITTEN, "docs/ARCHITECTURE.md", "CHANGELOG.md"):
             for what, n in true.items():
                 found = re.findall(rf"(?<![\w,.])([\w,]+) (?:test vectors, the )?{re.escape(what)}(?![\w`])", read(f))
                 rows += [f"{f}: {it} {what}; the tree has {n}" for it in found
@@ -229,10 +228,10 @@ def words_of(page: str) -> int:
 
 def report_counts(listing: list[str]) -> None:
     pages = [f for f in listing if f.endswith(".md") and f not in WRITTEN]
-    below, drafts = (sum(words_of(f) for f in pages if f.startswith(it)) for it in ("crates/", DRAFTS))
-    top = sum(words_of(f) for f in pages) - below - drafts
-    written = sum(len(read(f).split()) for f in (*WRITTEN, *pages)) - top - below - drafts
-    print(f"Words: {top} of the root and docs/, {below} of crates/, {drafts} of {DRAFTS}, and {written} that a tool writes from the sources")
+    below = sum(words_of(f) for f in pages if f.startswith("crates/"))
+    top = sum(words_of(f) for f in pages) - below
+    written = sum(len(read(f).split()) for f in (*WRITTEN, *pages)) - top - below
+    print(f"Words: {top} of the root and docs/, {below} of crates/, and {written} that a tool writes from the sources")
     print("Lines of specs/, and of proofs/:")
     for crate in crates():
         specs, proofs = (sum(read(f).count("\n") for f in listing if f.startswith(f"crates/{crate}/{it}/")) for it in ("specs", "proofs"))

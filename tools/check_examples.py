@@ -106,7 +106,7 @@ def examples() -> Iterator[tuple[str, str]]:
         if path.endswith("/src/lib.rt"):
             comment = "".join(line[3:].removeprefix(" ") + "\n" for line in docs.read(path).split("\n") if line.startswith("//!"))
             yield from ((path, m.group(1)) for m in HEAD.finditer(comment))
-        elif path.endswith(".md") and not path.startswith(("drafts/", "docs/THEOREMS", "docs/DEFINITIONS")):
+        elif path.endswith(".md") and not path.startswith(("docs/THEOREMS", "docs/DEFINITIONS")):
             yield from ((path, m.group(1)) for m in BLOCK.finditer(docs.read(path)))
 
 

@@ -7,9 +7,12 @@ came of it: how many octets were sent and answered, how the answer ended (F: who
 memory that the program held, the seconds up to the first octet of the answer, and how the program said that
 the connection ended. With MEGABYTES the program may take no more memory than these (`ulimit -v`).
 
-With --bound only those requests of which no value is to be kept, and whose answers are small: the status is 1
-where one of them is answered in another way, or where the program held more than 8 MB. Without PROGRAM it is
-crates/ua_cli/out/ua_cli, and nothing is tried where that is not built.
+After them `dissect --fields` gets messages of the most octets that it takes, each in a run of its own.
+
+With --bound only those requests of which no value is to be kept, and whose answers are small, and messages of as many
+octets that `dissect --fields` prints as it reads them: the status is 1 where one of them is answered in another way, or
+where the program held more than 8 MB. Without PROGRAM it is crates/ua_cli/out/ua_cli, and nothing is tried where that
+is not built.
 """
 from __future__ import annotations
 
@@ -34,6 +37,8 @@ NULL = struct.pack('<i', -1)
 # The most octets of a chunk, with its header.
 CHUNK = 65535
 MOST = 1048576
+# The most octets of a message that the dissector takes.
+MOST_DISSECTED = 16777216
 
 
 def header(session: bool) -> bytes:
@@ -68,9 +73,9 @@ def array(session: bool, kind: int, element: bytes) -> bytes:
     return write(session, NUMBER, struct.pack('<BI', 0x80 + kind, count) + count * element)
 
 
-def items(front: bytes, rest: bytes, one: bytes) -> bytes:
-    """A request, before any session, of as many of these items as the most octets hold."""
-    count = (MOST - len(front) - len(rest) - 4) // len(one)
+def items(front: bytes, rest: bytes, one: bytes, most: int = MOST) -> bytes:
+    """A message of as many of these items as the most octets hold."""
+    count = (most - len(front) - len(rest) - 4) // len(one)
     return front + struct.pack('<I', count) + count * one + rest
 
 
@@ -169,6 +174,51 @@ REQUESTS = [
 ]
 
 
+# What begins a message of each kind.
+READ = b'\x01\0\x77\x02' + header(False) + bytes(8) + struct.pack('<I', 2)
+WRITE = b'\x01\0\xA1\x02' + header(False)
+RESPONSE = bytes(8) + struct.pack('<I', 1) + bytes(5) + NULL + bytes(3)
+ONE_VALUE = b'\x01\0\x7A\x02' + RESPONSE + struct.pack('<I', 1) + b'\x01'
+# A name, the option of the side that sends the message, and its octets before an array, after it, and of an element.
+PRINTED = [
+    ('ReadResponse of empty DataValues', '--server', b'\x01\0\x7A\x02' + RESPONSE, NULL, b'\0'),
+    ('ReadResponse of DataValues of an Int32', '--server', b'\x01\0\x7A\x02' + RESPONSE, NULL, b'\1\6' + bytes(4)),
+    ('ReadResponse of empty DiagnosticInfos', '--server', b'\x01\0\x7A\x02' + RESPONSE + NULL, b'', b'\0'),
+    ('Read of items', '', READ, b'', item(TEXT, bytes(2) + NULL)),
+    ('Write of items without a value', '', WRITE, b'', item(TEXT, b'\0')),
+]
+# The same of messages of which a value, or all of it, is held: arrays in one value, by their type ids and elements.
+VALUES = [
+    ('DateTimes', 13, bytes(8)),
+    ('Int32s', 6, bytes(4)),
+    ('Bytes', 3, b'\1'),
+    ('Doubles', 11, bytes(8)),
+    ('Booleans', 1, b'\1'),
+    ('QualifiedNames', 20, bytes(2) + NULL),
+    ('null Strings', 12, NULL),
+    ('null NodeIds', 17, bytes(2)),
+    ('ExtensionObjects', 22, bytes(3)),
+    ('empty DataValues', 23, b'\0'),
+    ('empty DiagnosticInfos', 25, b'\0'),
+    ('null Variants', 24, b'\0'),
+    ('Variants of a Boolean', 24, b'\1\1'),
+    ('LocalizedTexts', 21, b'\0'),
+]
+KEPT = [
+    ('ReadResponse of a String', '--server', ONE_VALUE + b'\x0C', NULL, b'a'),
+    ('ReadResponse of a String that prints escaped', '--server', ONE_VALUE + b'\x0C', NULL, b'\1'),
+    ('ReadResponse of a ByteString', '--server', ONE_VALUE + b'\x0F', NULL, b'a'),
+    *[('ReadResponse of an array of %s' % name, '--server', ONE_VALUE + bytes([0x80 + kind]), NULL, one) for name, kind, one in VALUES],
+    ('ReadResponse with a StringTable of null Strings', '--server', b'\x01\0\x7A\x02' + RESPONSE[:17], bytes(3) + 2 * NULL, NULL),
+    ('WriteResponse of StatusCodes', '--server', b'\x01\0\xA4\x02' + RESPONSE, NULL, bytes(4)),
+    ('WriteResponse of empty DiagnosticInfos', '--server', b'\x01\0\xA4\x02' + RESPONSE + NULL, b'', b'\0'),
+    ('GetEndpointsRequest of null locale ids', '', b'\x01\0\xAC\x01' + header(False) + NULL, NULL, NULL),
+    ('ActivateSessionRequest of null locale ids', '', b'\x01\0\xD3\x01' + header(False) + 3 * NULL, bytes(3) + 2 * NULL, NULL),
+    ('CreateSessionResponse of null certificates', '--server', b'\x01\0\xD0\x01' + RESPONSE + bytes(12) + 3 * NULL, 2 * NULL + bytes(4), 2 * NULL),
+    ('body of no known kind', '--server', b'\x01\0\xFF\xFF', b'', b'\0'),
+]
+
+
 def limited(megabytes: int) -> None:
     if megabytes:
         resource.setrlimit(resource.RLIMIT_AS, (megabytes << 20, megabytes << 20))
@@ -214,8 +264,37 @@ def attempt(program: str, nodes: str, megabytes: int, request: tuple) -> tuple[s
     return flag, memory
 
 
+def framed(body: bytes) -> bytes:
+    """The chunks of a message."""
+    most = CHUNK - 24
+    parts = [body[place:place + most] for place in range(0, len(body), most)]
+    flags = ['C'] * (len(parts) - 1) + ['F']
+    return b''.join(struct.pack('<4sIIIII', b'MSG' + flag.encode(), 24 + len(part), 1, 1, number, 1) + part
+                    for number, (flag, part) in enumerate(zip(flags, parts), 1))
+
+
+def dissect(program: str, megabytes: int, message: tuple, most: int) -> tuple[bytes, int]:
+    """Gives a run of `dissect --fields` a message of so many octets: the last line that it printed, and the most memory that it held."""
+    name, side, front, rest, one = message
+    body = items(front, rest, one, most)
+    with tempfile.NamedTemporaryFile(suffix='.bin') as file:
+        file.write(framed(body))
+        file.flush()
+        words = [program, 'dissect', file.name, '--fields', *([side] if side else [])]
+        start = time.monotonic()
+        told = subprocess.Popen(words, stdout=subprocess.PIPE, stderr=subprocess.STDOUT, preexec_fn=lambda: limited(megabytes))
+        printed, memory, end = 0, 0, b''
+        while part := os.read(told.stdout.fileno(), 65536):
+            printed, end = printed + len(part), (end + part)[-200:]
+            memory = max(memory, most_memory(told.pid) or 0)
+        told.wait()
+    last = end.rstrip(b'\n').rsplit(b'\n', 1)[-1]
+    print('%s: %d octets, %d printed, %d kB, %.2f s, %s' % (name, len(body), printed, memory, time.monotonic() - start, last.decode()), flush=True)
+    return last, memory
+
+
 def hold_bound(program: str, nodes: str) -> None:
-    """Sends the requests of which nothing is to be kept."""
+    """Sends the requests of which nothing is to be kept, and dissects the messages that are printed as they are read."""
     if not os.path.exists(program):
         print('try_large: no %s: nothing is tried (rt run in crates/ua_cli makes it)' % os.path.relpath(program, TOP))
         return
@@ -223,6 +302,10 @@ def hold_bound(program: str, nodes: str) -> None:
         flag, memory = attempt(program, nodes, 0, request)
         if flag != 'F' or not memory or memory > BOUND:
             raise SystemExit('try_large: %s: not answered whole within %d kB' % (request[0], BOUND))
+    for message in PRINTED:
+        last, memory = dissect(program, 0, message, MOST)
+        if not last.startswith(b'end ') or memory > BOUND:
+            raise SystemExit('try_large: %s: not printed whole within %d kB' % (message[0], BOUND))
 
 
 def main(words: list[str]) -> None:
@@ -237,6 +320,8 @@ def main(words: list[str]) -> None:
             hold_bound(words[1] if len(words) > 1 else os.path.join(TOP, 'crates/ua_cli/out/ua_cli'), nodes.name)
         for request in REQUESTS if not bound else ():
             attempt(words[0], nodes.name, megabytes, request)
+        for message in [*PRINTED, *KEPT] if not bound else ():
+            dissect(words[0], megabytes, message, MOST_DISSECTED)
 
 
 if __name__ == '__main__':

@@ -21,7 +21,7 @@ opened_shifted true front old mid new Is e f h = f (subst (λ (x : List ℕ). Is
 opened_shifted false front old mid new Is e f h = (old, h ∙ e, refl)
 
 mutual
-  shifted : (style : FieldStyle) (margin path front old : List ℕ) (tree : Tree) (new : List ℕ) → IsBehind style margin path (front ++ old) tree new
+  pub shifted : (style : FieldStyle) (margin path front old : List ℕ) (tree : Tree) (new : List ℕ) → IsBehind style margin path (front ++ old) tree new
       → (more : List ℕ) × (new ≡ front ++ more) × IsBehind style margin path old tree more
   shifted style margin path front old (text leaf) new h = (old ++ line margin path h.0, h.1 ∙ append_assoc front old (line margin path h.0), (h.0, refl, h.2))
   shifted style margin path front old (opened leaf inner) new h =

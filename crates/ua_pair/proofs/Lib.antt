@@ -13,3 +13,5 @@ mod Refusals
 mod RestLines
 mod Standings
 mod Refusing
+mod Printings
+mod PrintedBodies

@@ -1,6 +1,6 @@
 -- What becomes of OPN, MSG and CLO frames.
 use Rattle.std.proofs.Common.{◌≡◌, ℕ, Bool, not, IsTrue, List, [], ◌∷◌, ◌++◌, Option, Some, None, option_map}
-use Rattle.std.proofs.Common.{Result, Ok, Err, codes, refl, sym, ap, subst, ◌∙◌, append-nil, append_assoc}
+use Rattle.std.proofs.Common.{Result, Ok, Err, IfOk, codes, refl, sym, ap, subst, ◌∙◌, append-nil, append_assoc}
 use Rattle.ua_builtin.specs.Reasons.{first_reason}
 use Rattle.ua_builtin.proofs.FirstReasons.{first_reason-map}
 use Rattle.ua_frame.specs.declared.frame.Frame.{Frame}
@@ -24,10 +24,13 @@ use Rattle.ua_chunk.specs.declared.fault.OpenFault.{OpenFault}
 use Rattle.ua_chunk.specs.declared.open_chunk.OpenChunk.{OpenChunk}
 use Rattle.ua_chunk.specs.Refusal.{reasons, chunk_refusal, IsFor}
 use Rattle.ua_pair.specs.declared.fault.DissectFault.{DissectFault}
+use Rattle.ua_pair.specs.declared.fault.DissectFault.TheVariants.{Refused}
+use Rattle.ua_pair.specs.declared.fault.DissectFault.TheVariants as fault
+use Rattle.ua_pair.specs.declared.teller.Pending.{Pending}
 use Rattle.ua_pair.specs.declared.side.Side.{Side}
 use Rattle.ua_pair.specs.declared.options.DissectOptions.{DissectOptions}
 use Rattle.ua_pair.specs.Before.{message_chunks, last_sequence, sequence_by}
-use Rattle.ua_pair.specs.Telling.{TellerStands, JudgesFrameTelling, JudgesKind, chunk_fault}
+use Rattle.ua_pair.specs.Telling.{ArePendingLines, TellerStands, JudgesFrameTelling, JudgesKind, chunk_fault, none_pending}
 use Rattle.ua_pair.specs.Refused.{most_message_octets, most_chunks, breaks_number_order, chunk_code, chunk_reasons_of_side}
 use Rattle.ua_pair.specs.Refused.{greeting_reasons, frame_reasons, is_other_policy, is_open_unreadable, opening_reasons}
 use Rattle.ua_pair.specs.Bodies.{IsFound}
@@ -48,16 +51,16 @@ pub message_taken : (side : Side) (last : Option ℕ) (cs : List Chunk) (f : Fra
 message_taken side last cs f c e none = chunk_reason side last cs f c e ∙ ap (option_map (chunk_code side)) none
 
 -- a chunk that is not
-pub message_refused : (side : Side) (last : Option ℕ) (cs : List Chunk) (f : Frame) (c : Chunk) (fault : AssembleFault) (Holds : List ℕ → Type 0)
+pub message_refused : (A : Type 0) (side : Side) (last : Option ℕ) (cs : List Chunk) (f : Frame) (c : Chunk) (fault : AssembleFault) (Holds : List ℕ → Type 0)
     (old new : List ℕ) → chunk_in f ≡ Some c → IsFor (chunk_refusal most_message_octets most_chunks last cs c) fault
-    → JudgesFrameTelling (first_reason (chunk_reasons_of_side side last cs (chunk_in f))) Holds (Err (chunk_fault side fault)) old new
-message_refused side last cs f c Sequence Holds old new e h = chunk_reason side last cs f c e ∙ ap (option_map (chunk_code side)) h
-message_refused side last cs f c Unreadable Holds old new e h = chunk_reason side last cs f c e ∙ ap (option_map (chunk_code side)) h
-message_refused side last cs f c TooManyOpen Holds old new e h = chunk_reason side last cs f c e ∙ ap (option_map (chunk_code side)) h
-message_refused side last cs f c MessageTooLarge Holds old new e h = chunk_reason side last cs f c e ∙ ap (option_map (chunk_code side)) h
-message_refused side last cs f c TooManyChunks Holds old new e h = chunk_reason side last cs f c e ∙ ap (option_map (chunk_code side)) h
-message_refused side last cs f c OutOfMemory Holds old new e h = tt
-message_refused side last cs f c Closed Holds old new e h = absurd h
+    → JudgesFrameTelling {A = A} (first_reason (chunk_reasons_of_side side last cs (chunk_in f))) Holds (Err (chunk_fault side fault)) old new
+message_refused A side last cs f c Sequence Holds old new e h = chunk_reason side last cs f c e ∙ ap (option_map (chunk_code side)) h
+message_refused A side last cs f c Unreadable Holds old new e h = chunk_reason side last cs f c e ∙ ap (option_map (chunk_code side)) h
+message_refused A side last cs f c TooManyOpen Holds old new e h = chunk_reason side last cs f c e ∙ ap (option_map (chunk_code side)) h
+message_refused A side last cs f c MessageTooLarge Holds old new e h = chunk_reason side last cs f c e ∙ ap (option_map (chunk_code side)) h
+message_refused A side last cs f c TooManyChunks Holds old new e h = chunk_reason side last cs f c e ∙ ap (option_map (chunk_code side)) h
+message_refused A side last cs f c OutOfMemory Holds old new e h = tt
+message_refused A side last cs f c Closed Holds old new e h = absurd h
 
 -- the limits and the last number of a teller are those of its frames
 pub refusal_at : (d : Teller) (fs : List Frame) (cs : List Chunk) (c : Chunk) → TellerStands d fs
@@ -89,7 +92,7 @@ module _ (d : Teller) (fs : List Frame) (place n : ℕ) (f : Frame) (c : Chunk) 
     (size : n ≡ frame_size f) (first : mid ≡ old ++ chunk_line (codes "MSG") place n c) where
   -- a chunk that delivers nothing
   pub message_continued : chunk_refusal (octet_limit d.assembler) (chunk_limit d.assembler) (last_number d.assembler) (message_chunks fs) c ≡ None
-      → given (message_chunks fs) c ≡ [] → JudgesKind Msg d.options fs place f (Ok tt) old mid
+      → given (message_chunks fs) c ≡ [] → JudgesKind {A = Unit {0}} Msg d.options fs place f (Ok tt) old mid
   message_continued none given_is = (
     message_taken d.options.side (last_sequence fs) (message_chunks fs) f c chunk (sym (refusal_at d fs (message_chunks fs) c s) ∙ none),
     message_told d.options (message_chunks fs) place n f c [] old mid mid chunk size given_is first ([], sym (append-nil mid), refl),
@@ -98,7 +101,7 @@ module _ (d : Teller) (fs : List Frame) (place n : ℕ) (f : Frame) (c : Chunk) 
   -- a chunk that delivers a message
   pub message_delivered : (item : Item) (new : List ℕ) → chunk_refusal (octet_limit d.assembler) (chunk_limit d.assembler) (last_number d.assembler)
       (message_chunks fs) c ≡ None → given (message_chunks fs) c ≡ item ∷ []
-      → ((more : List ℕ) × (new ≡ mid ++ more) × IsItemText d.options item more) → JudgesKind Msg d.options fs place f (Ok tt) old new
+      → ((more : List ℕ) × (new ≡ mid ++ more) × IsItemText d.options item more) → JudgesKind {A = Unit {0}} Msg d.options fs place f (Ok tt) old new
   message_delivered item new none given_is second = (
     message_taken d.options.side (last_sequence fs) (message_chunks fs) f c chunk (sym (refusal_at d fs (message_chunks fs) c s) ∙ none),
     message_told d.options (message_chunks fs) place n f c (item ∷ []) old mid new chunk size given_is first
@@ -106,13 +109,14 @@ module _ (d : Teller) (fs : List Frame) (place n : ℕ) (f : Frame) (c : Chunk) 
   )
 
 -- a chunk that is refused
-pub message_fails : (d : Teller) (fs : List Frame) (place : ℕ) (f : Frame) (c : Chunk) (fault : AssembleFault) (e : DissectFault) (old new : List ℕ)
+pub message_fails : (A : Type 0) (d : Teller) (fs : List Frame) (place : ℕ) (f : Frame) (c : Chunk) (fault : AssembleFault) (e : DissectFault)
+    (old new : List ℕ)
     → TellerStands d fs → chunk_in f ≡ Some c
     → IsFor (chunk_refusal (octet_limit d.assembler) (chunk_limit d.assembler) (last_number d.assembler) (message_chunks fs) c) fault
-    → e ≡ chunk_fault d.options.side fault → JudgesKind Msg d.options fs place f (Err e) old new
-message_fails d fs place f c fault e old new s chunk why is =
-    subst (λ (x : DissectFault). JudgesKind Msg d.options fs place f (Err x) old new) (sym is)
-    (message_refused d.options.side (last_sequence fs) (message_chunks fs) f c fault (IsTextBy Msg d.options (message_chunks fs) place f) old new chunk
+    → e ≡ chunk_fault d.options.side fault → JudgesKind {A = A} Msg d.options fs place f (Err e) old new
+message_fails A d fs place f c fault e old new s chunk why is =
+    subst (λ (x : DissectFault). JudgesKind {A = A} Msg d.options fs place f (Err x) old new) (sym is)
+    (message_refused A d.options.side (last_sequence fs) (message_chunks fs) f c fault (IsTextBy Msg d.options (message_chunks fs) place f) old new chunk
     (subst (λ (o : Option AssembleFault). IsFor o fault) (refusal_at d fs (message_chunks fs) c s) why))
 
 -- ---- OPN
@@ -145,7 +149,7 @@ opening_text options place n f c old mid new e size first second =
 pub opening_told : (d : Teller) (fs : List Frame) (place n : ℕ) (f : Frame) (c : OpenChunk) (old mid new : List ℕ) → TellerStands d fs
     → open_refusal f.body ≡ None → opening_in f ≡ Some c → n ≡ frame_size f
     → IsTrue (may_follow (last_number d.assembler) c.sequence) → mid ≡ old ++ opening_line place n c
-    → ((more : List ℕ) × (new ≡ mid ++ more) × IsOpenedText d.options c more) → JudgesKind Opn d.options fs place f (Ok tt) old new
+    → ((more : List ℕ) × (new ≡ mid ++ more) × IsOpenedText d.options c more) → JudgesKind {A = Unit {0}} Opn d.options fs place f (Ok tt) old new
 opening_told d fs place n f c old mid new s none found size follows first second = (
   opening_taken (last_sequence fs) f c none found (subst (λ (o : Option ℕ). IsTrue (may_follow o c.sequence)) s.last follows),
   opening_text d.options place n f c old mid new found size first second,
@@ -167,10 +171,27 @@ greeting_judged message line read body n m result old new e size h =
     e h)
 
 -- a frame is judged by its kind
-pub judged_kind : (k : Kind) (options : DissectOptions) (before : List Frame) (place : ℕ) (f : Frame) (result : Result (Unit {0}) DissectFault)
+pub judged_kind : {A : Type 0} (k : Kind) (options : DissectOptions) (before : List Frame) (place : ℕ) (f : Frame) (result : Result A DissectFault)
     (old new : List ℕ) → f.kind ≡ k → place ≡ place_behind before → JudgesKind k options before place f result old new
     → JudgesFrameTelling (first_reason (frame_reasons options.side before f)) (IsFrameText options before f) result old new
 unfolding frame_reasons IsFrameText
 judged_kind k options before place f result old new is place_is h =
     subst (λ (p : ℕ). JudgesKind f.kind options before p f result old new) place_is
     (subst (λ (j : Kind). JudgesKind j options before place f result old new) (sym is) h)
+
+-- a frame without a message whose fields are pending
+alone_by : (options : DissectOptions) (why : Option ℕ) (Holds : List ℕ → Type 0) (r : Result (Unit {0}) DissectFault) (old new more : List ℕ)
+    → IfOk (none_pending r) (λ pending. ArePendingLines options pending more) → JudgesFrameTelling why Holds r old new
+    → JudgesFrameTelling why Holds (none_pending r) old (new ++ more)
+alone_by options why Holds (Ok x) old new more none h = (h.0, (h.1.0, ap (λ (t : List ℕ). new ++ t) none ∙ append-nil new ∙ h.1.1, h.1.2))
+alone_by options why Holds (Err (Refused code)) old new more none h = h
+alone_by options why Holds (Err fault.OutOfMemory) old new more none h = tt
+
+pub judged_alone : (options : DissectOptions) (why : Option ℕ) (Holds : List ℕ → Type 0) (r : Result (Unit {0}) DissectFault)
+    (result : Result (Option Pending) DissectFault) (old new more : List ℕ) → result ≡ none_pending r
+    → IfOk result (λ pending. ArePendingLines options pending more) → JudgesFrameTelling why Holds r old new
+    → JudgesFrameTelling why Holds result old (new ++ more)
+judged_alone options why Holds r result old new more is none h =
+    subst (λ (x : Result (Option Pending) DissectFault). JudgesFrameTelling why Holds x old (new ++ more)) (sym is)
+    (alone_by options why Holds r old new more
+    (subst (λ (x : Result (Option Pending) DissectFault). IfOk x (λ pending. ArePendingLines options pending more)) is none) h)

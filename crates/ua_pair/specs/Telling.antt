@@ -1,5 +1,6 @@
 -- The state of the part that prints lines after frames, and what one more frame makes of it.
-use Rattle.std.specs.Prelude.{◌≡◌, ℕ, List, ◌++◌, Option, Some, None, Result, Ok, Err}
+use Rattle.std.specs.Prelude.{◌≡◌, ℕ, List, [], ◌++◌, Option, Some, None, Result, Ok, Err}
+use Rattle.std.specs.List.{concat}
 use Rattle.ua_builtin.specs.Reasons.{first_reason}
 use Rattle.ua_builtin.specs.Status.{of_code}
 use Rattle.ua_frame.specs.declared.frame.Frame.{Frame}
@@ -10,6 +11,7 @@ use Rattle.ua_chunk.specs.declared.fault.AssembleFault.TheVariants as assemble
 use Rattle.ua_chunk.specs.declared.fault.OpenFault.{OpenFault}
 use Rattle.ua_chunk.specs.declared.fault.OpenFault.TheVariants as opening
 use Rattle.ua_chunk.specs.Assembling.{Stands as AssemblerStands, octet_limit, chunk_limit, last_number}
+use Rattle.ua_pair.specs.declared.teller.Pending.{Pending}
 use Rattle.ua_pair.specs.declared.teller.Teller.{Teller}
 use Rattle.ua_pair.specs.declared.fault.DissectFault.{DissectFault}
 use Rattle.ua_pair.specs.declared.fault.DissectFault.TheVariants.{Refused, OutOfMemory}
@@ -17,7 +19,8 @@ use Rattle.ua_pair.specs.declared.side.Side.{Side}
 use Rattle.ua_pair.specs.declared.options.DissectOptions.{DissectOptions}
 use Rattle.ua_pair.specs.Before.{message_chunks, last_sequence}
 use Rattle.ua_pair.specs.Refused.{most_message_octets, most_chunks, chunk_code, reasons_by}
-use Rattle.ua_pair.specs.Told.{IsTextBy}
+use Rattle.ua_pair.specs.Names.{message_kind}
+use Rattle.ua_pair.specs.Told.{AreFieldsOf, IsHeaderOf, IsTextBy}
 
 -- the error that results from an error of the assembler: a rejection with its code, or OutOfMemory
 abbrev pub chunk_fault : Side → AssembleFault → DissectFault
@@ -43,15 +46,28 @@ pub record TellerStands (t : Teller) (fs : List Frame) : Type 0 where
   pub octets : octet_limit t.assembler ≡ most_message_octets
   pub chunks : chunk_limit t.assembler ≡ most_chunks
 
+-- a text has the lines of the fields of the message whose line is told, or of its header, if they
+-- are wanted; it is empty where no message is pending
+abbrev pub ArePendingLines : DissectOptions → Option Pending → List ℕ → Type 0
+ArePendingLines options None text = text ≡ []
+ArePendingLines options (Some p) text =
+    (fields : List ℕ) × (header : List ℕ) × (text ≡ fields ++ header) × AreFieldsOf options (message_kind options.side) (concat p.message) fields
+    × IsHeaderOf options p.unsupported (concat p.message) header
+
+-- the outcome where no message is pending
+abbrev pub none_pending : Result (Unit {0}) DissectFault → Result (Option Pending) DissectFault
+none_pending (Ok x) = Ok None
+none_pending (Err fault) = Err fault
+
 -- the outcome for a frame: there is no reason against it, and a text of which this holds was
 -- appended; or it is rejected for its first reason; or an allocation failed
-abbrev pub JudgesFrameTelling : Option ℕ → (List ℕ → Type 0) → Result (Unit {0}) DissectFault → List ℕ → List ℕ → Type 0
+abbrev pub JudgesFrameTelling : {A : Type 0} → Option ℕ → (List ℕ → Type 0) → Result A DissectFault → List ℕ → List ℕ → Type 0
 JudgesFrameTelling why Holds (Ok x) old new = (why ≡ None) × ((text : List ℕ) × (new ≡ old ++ text) × Holds text)
 JudgesFrameTelling why Holds (Err (Refused code)) old new = why ≡ Some code.code
 JudgesFrameTelling why Holds (Err OutOfMemory) old new = Unit {0}
 
 -- the outcome for a frame of this kind at this offset, after these frames
-abbrev pub JudgesKind : Kind → DissectOptions → List Frame → ℕ → Frame → Result (Unit {0}) DissectFault → List ℕ → List ℕ → Type 0
+abbrev pub JudgesKind : {A : Type 0} → Kind → DissectOptions → List Frame → ℕ → Frame → Result A DissectFault → List ℕ → List ℕ → Type 0
 JudgesKind k options before place f result old new =
     JudgesFrameTelling (first_reason (reasons_by k options.side (last_sequence before) (message_chunks before) f))
     (IsTextBy k options (message_chunks before) place f)

@@ -1,6 +1,7 @@
 //! The dissector of the bytes that one side sent.
 
-ghost use Rattle.std.specs.Prelude.{◌≡◌, ◌++◌, ◌≤◌, [], ℕ, List, true, IsErr, IsOk, OnOk, OnErr, IfOk, string_bytes};
+ghost use Rattle.std.specs.Prelude.{◌≡◌, ◌++◌, ◌≤◌, [], ℕ, List, true, IsErr};
+ghost use Rattle.std.specs.Prelude.{IsOk, OnOk, OnErr, IfErr, IfOk, string_bytes};
 ghost use Rattle.ua_wire.specs.Format.{Extends};
 ghost use Rattle.ua_frame.specs.declared.frame.Frame.{Frame};
 ghost use Rattle.ua_frame.specs.Frames.{IsSized, LetsIn};
@@ -8,14 +9,18 @@ ghost use Rattle.ua_pair.specs.Dissected.{every_frame as open_gate};
 ghost use Rattle.ua_pair.specs.Dissecting.{StandsBehind, TellsMore, EndsLines, AreHeld, IsDissectorClosed};
 ghost use Rattle.ua_pair.specs.Dissecting.{most_buffered, Holds, DissectorGoesOn, FrameTold, TakesPiece};
 ghost use Rattle.ua_pair.specs.Dissecting.{TakesNext, is_dissecting, is_refused, is_stopped, HasRefusedOne};
+ghost use Rattle.ua_pair.specs.Dissecting.{IsStarved, PrintsFirst, PrintsMore, PrintsPart, TakesTitle, WritesPiece};
+ghost use Rattle.ua_pair.specs.Telling.{ArePendingLines};
 ghost use Rattle.ua_pair.specs.Told.{place_behind};
 
 use crate::fault::DissectFault;
 use crate::line::{push_refused_line, push_rest_line};
 use crate::options::DissectOptions;
+use crate::printing::{PrintFault, write_full, write_kept};
 use crate::reader::EveryReader;
-use crate::teller::{Teller, frame_size};
+use crate::teller::{Pending, Teller, frame_size, print_pending};
 use std::alloc::{AllocError, Global};
+use std::io::Write;
 use ua_builtin::StatusCode;
 use ua_frame::Frame;
 
@@ -194,6 +199,126 @@ impl Dissector {
             self.stop(State::Closed);
         }
         taken
+    }
+
+    /// Replaces the contents of `lines` by the lines of a complete UA TCP message, without those of
+    /// the fields of the message that is returned; a rejected one has no lines, and the dissector
+    /// stops.
+    fn tell_title(
+        &mut self,
+        frame: Frame,
+        lines: &mut String,
+    ) -> Result<Option<Pending>, AllocError>
+        requires sized { IsSized frame }
+        requires let_in { LetsIn open_gate frame }
+        ensures told { (options : DissectOptions) (before : List Frame) → DissectorGoesOn self.old options before []
+            → self.old.place ≡ place_behind before
+            → IfOk result (λ pending. (more : List ℕ) → ArePendingLines self.new.teller.options pending more
+            → FrameTold self.new options before frame (string_bytes lines.new ++ more)) }
+        ensures options { self.new.teller.options ≡ self.old.teller.options }
+    {
+        let size = frame_size(&frame);
+        lines.clear();
+        match self.teller.push_frame_title(frame, self.place, lines) {
+            Ok(pending) => {
+                let Some(place) = self.place.checked_add(size) else {
+                    return Err(AllocError);
+                };
+                self.place = place;
+                Ok(pending)
+            }
+            Err(DissectFault::Refused(code)) => {
+                lines.clear();
+                self.stop(State::Refused(code));
+                Ok(None)
+            }
+            Err(DissectFault::OutOfMemory) => Err(AllocError),
+        }
+    }
+
+    /// Consumes bytes up to the end of the first UA TCP message, or all of them, as `take_next`
+    /// does. The lines of the message replace the contents of `lines`, without those of the fields
+    /// of the message that is returned.
+    fn take_title(
+        &mut self,
+        octets: &[u8],
+        lines: &mut String,
+    ) -> Result<Option<(usize, Option<Pending>)>, AllocError>
+        ensures taken { IfOk result
+            (λ taken. TakesTitle self.old octets.now taken self.new (string_bytes lines.new)) }
+        ensures options { self.new.teller.options ≡ self.old.teller.options }
+    {
+        lines.clear();
+        if octets.is_empty() || !self.goes_on() {
+            return Ok(None);
+        }
+        match self.reader.take(octets) {
+            Ok((size, Some(frame))) => {
+                let pending = self.tell_title(frame, lines)?;
+                Ok(Some((size, pending)))
+            }
+            Ok((size, None)) => Ok(Some((size, None))),
+            Err(fault) => {
+                let Some(code) = fault.code() else {
+                    return Err(AllocError);
+                };
+                self.stop(State::Refused(code));
+                Ok(Some((octets.len(), None)))
+            }
+        }
+    }
+
+    /// Prints the lines of what a fragment completes, unless an allocation or the writer failed
+    /// before.
+    fn print_all<O: Write>(&mut self, piece: &[u8], out: &mut O) -> Result<(), PrintFault>
+        ensures prints { OnOk result
+            (WritesPiece self.old self.new piece.now (O.contents out.old) (O.contents out.new)) }
+        ensures begun { IfErr result (λ fault. IsStarved fault
+            → PrintsPart self.old piece.now (O.contents out.old) (O.contents out.new)) }
+        ensures closed { IsDissectorClosed self.old → IsErr result }
+    {
+        if let State::Closed = self.state {
+            return Err(PrintFault::OutOfMemory);
+        }
+        let mut text = String::new(self.alloc);
+        let mut lines = String::new(self.alloc);
+        let mut at = 0;
+        while let Some((taken, pending)) = self.take_title(&piece[at..], &mut lines)? {
+            text.push_str(&lines)?;
+            print_pending(self.alloc, &self.teller.options, &pending, &mut text, out)?;
+            write_full(&mut text, out)?;
+            at += taken;
+        }
+        write_kept(&mut text, out)?;
+        Ok(())
+    }
+
+    /// Takes the next bytes, and prints what [`take`](Dissector::take) would append, without holding
+    /// all of it: the fields of a Read, a Write or a ReadResponse are printed as they are read. On an
+    /// error the dissector takes nothing more. Where an allocation failed, the first of the lines may
+    /// have been printed; where the writer failed, it is not known what was.
+    pub fn print<O: Write>(&mut self, piece: &[u8], out: &mut O) -> Result<(), PrintFault>
+        // The lines printed so far depend on the bytes alone, however they were fragmented.
+        ensures told { (options : DissectOptions) (octets told : List ℕ) → StandsBehind self.old options octets told
+            → OnOk result (PrintsMore self.new options (octets ++ piece.now) told (O.contents out.old)
+            (O.contents out.new)) }
+        // Where an allocation fails, the writer has the first lines of those that `told` tells.
+        ensures begun { (options : DissectOptions) (octets told : List ℕ) → StandsBehind self.old options octets told
+            → IfErr result (λ fault. IsStarved fault
+            → PrintsFirst options octets told piece.now (O.contents out.old) (O.contents out.new)) }
+        ensures failed { OnErr result (IsDissectorClosed self.new) }
+        ensures closed { IsDissectorClosed self.old → IsErr result }
+        // After a rejected UA TCP message nothing more is printed, whatever comes.
+        ensures rests { HasRefusedOne self.old → IsOk result × (out.new ≡ out.old) × HasRefusedOne self.new }
+    {
+        if self.is_refused() {
+            return Ok(());
+        }
+        let printed = self.print_all(piece, out);
+        if printed.is_err() {
+            self.stop(State::Closed);
+        }
+        printed
     }
 
     /// Makes the last line, when no further bytes come.

@@ -14,6 +14,8 @@ mod leaves;
 mod lines;
 mod message;
 mod null;
+mod pending;
+mod printing;
 mod secure_channel;
 mod security_token;
 mod session;
@@ -25,4 +27,5 @@ pub use message::{
     push_close_request_fields, push_open_answer_fields, push_open_request_fields,
     push_open_response_fields, push_request_fields, push_response_fields,
 };
+pub(crate) use pending::print_message;
 pub(crate) use text::push_node;

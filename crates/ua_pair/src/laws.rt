@@ -3,8 +3,10 @@
 ghost use Rattle.std.specs.Prelude.{◌≡◌, ℕ, List, false};
 ghost use Rattle.ua_texts.specs.Shown.{shown};
 ghost use Rattle.ua_pair.specs.declared.options.DissectOptions.{DissectOptions};
+ghost use Rattle.ua_pair.specs.declared.options.FieldStyle.{FieldStyle};
 ghost use Rattle.ua_pair.specs.Dissected.{AreLines, HasLines};
 ghost use Rattle.ua_pair.specs.Laws.{HasNoControl};
+ghost use Rattle.ua_pair.specs.Printing.{EachHasText};
 
 /// The output is defined for every byte sequence, for either side, with or without fields, unless
 /// fields are as people write them.
@@ -17,6 +19,13 @@ pub fn has_lines()
 pub fn one_reading()
     ensures { (options : DissectOptions) (octets lines others : List ℕ) → options.plain ≡ false
         → AreLines options octets lines → AreLines options octets others → lines ≡ others }
+{}
+
+/// Each value has a text, unless fields are as people write them: what is printed before an
+/// allocation fails is then the first of the lines that there are.
+#[tactic(auto, using(crate::proofs::Printings::each_has_text))]
+pub fn each_has_text()
+    ensures { (style : FieldStyle) → style.plain ≡ false → EachHasText style }
 {}
 
 /// The EndpointUrl of a HEL and the reason of an ERR end no line: the printed text has no byte

@@ -36,6 +36,7 @@ pub mod laws;
 mod line;
 mod name;
 mod options;
+mod printing;
 mod reader;
 mod side;
 mod stream;
@@ -48,5 +49,6 @@ pub use fields::{
     push_open_request_fields, push_open_response_fields, push_request_fields, push_response_fields,
 };
 pub use options::DissectOptions;
+pub use printing::PrintFault;
 pub use side::Side;
 pub use stream::dissect;

@@ -1,6 +1,6 @@
 //! The lines of the UA TCP messages of one side.
 
-ghost use Rattle.std.specs.Prelude.{◌≡◌, ◌≤◌, ◌∷◌, ◌++◌, [], List, length, OnOk, string_bytes};
+ghost use Rattle.std.specs.Prelude.{◌≡◌, ◌≤◌, ◌∷◌, ◌++◌, [], ℕ, List, Some, length, IfOk, OnOk, string_bytes};
 ghost use Rattle.std.specs.List.{concat};
 ghost use Rattle.ua_chunk.specs.Item.Item.{Whole};
 ghost use Rattle.ua_builtin.specs.Reasons.{first_reason};
@@ -12,7 +12,9 @@ ghost use Rattle.ua_chunk.specs.Open.{open_octets};
 ghost use Rattle.ua_chunk.specs.View.{item_of};
 ghost use Rattle.ua_pair.specs.Before.{message_chunks};
 ghost use Rattle.ua_pair.specs.Dissected.{every_frame};
-ghost use Rattle.ua_pair.specs.Telling.{TellerStands, JudgesFrameTelling, JudgesKind};
+ghost use Rattle.ua_pair.specs.Printing.{PrintsOrBreaks};
+ghost use Rattle.ua_pair.specs.Styles.{style_of};
+ghost use Rattle.ua_pair.specs.Telling.{ArePendingLines, TellerStands, JudgesFrameTelling, JudgesKind, none_pending};
 ghost use Rattle.ua_pair.specs.Refused.{greeting_reasons, frame_reasons};
 ghost use Rattle.ua_pair.specs.Lines.{message_line};
 ghost use Rattle.ua_pair.specs.Names.{message_kind as kind_of_message, opening_kind as kind_of_opening};
@@ -22,14 +24,16 @@ ghost use Rattle.ua_pair.specs.Told.{AreFieldsOf, IsFrameText, IsHeaderOf};
 ghost use Rattle.ua_pair.specs.Told.{IsItemText, IsOpenedText, line_if, place_behind};
 
 use crate::fault::DissectFault;
-use crate::fields::{BodyKind, push_body_text, push_header_fields};
+use crate::fields::{BodyKind, print_message, push_body_text, push_header_fields};
 use crate::line::{
     GreetingLine, push_aborted_line, push_chunk_line, push_message_line, push_opening_line,
 };
 use crate::name::{message_title, opening_name};
 use crate::options::DissectOptions;
+use crate::printing::PrintFault;
 use crate::side::Side;
 use std::alloc::{AllocError, Global};
+use std::io::Write;
 use ua_builtin::{Octets, Source, StatusCode};
 use ua_chunk::{Assembler, Delivered, Message, OpenChunk, read_chunk, read_open};
 use ua_frame::{Ack, ErrorFrame, Frame, HEADER_LEN, Hello, Kind};
@@ -188,6 +192,106 @@ fn push_opened(
     push_fields(alloc, options, opening_kind(options.side), &mut src, lines)
 }
 
+/// A message whose line is appended, and whose fields are to be printed after it.
+#[derive(Debug, Drop)]
+pub struct Pending {
+    message: Message,
+    /// Whether it is of no known kind.
+    unsupported: bool,
+}
+
+/// Prints the lines of the fields of a message of this side, if they are wanted.
+fn print_fields<O: Write>(
+    alloc: Global,
+    options: &DissectOptions,
+    message: &Message,
+    text: &mut String,
+    out: &mut O,
+) -> Result<(), PrintFault>
+    ensures { PrintsOrBreaks (style_of options.now) (O.contents out.old) (string_bytes text.old) (O.contents out.new)
+        (string_bytes text.new) (AreFieldsOf options.now (kind_of_message options.now.side) (concat message.now))
+        result }
+{
+    if options.fields {
+        print_message(alloc, options.side, options.style(), message, text, out)
+    } else {
+        Ok(())
+    }
+}
+
+/// Prints the lines of the fields of the message whose line is appended, if they are wanted; none
+/// where no message is pending.
+pub fn print_pending<O: Write>(
+    alloc: Global,
+    options: &DissectOptions,
+    pending: &Option<Pending>,
+    text: &mut String,
+    out: &mut O,
+) -> Result<(), PrintFault>
+    ensures { PrintsOrBreaks (style_of options.now) (O.contents out.old) (string_bytes text.old) (O.contents out.new)
+        (string_bytes text.new) (ArePendingLines options.now pending.now) result }
+{
+    let Some(pending) = pending else {
+        return Ok(());
+    };
+    print_fields(alloc, options, &pending.message, text, out)?;
+    push_header(alloc, options, pending.unsupported, &pending.message, text)?;
+    Ok(())
+}
+
+/// Appends the line of a message, whose fields are pending then.
+fn push_title(
+    alloc: Global,
+    options: &DissectOptions,
+    request: u32,
+    message: Message,
+    lines: &mut String,
+) -> Result<Pending, AllocError>
+    ensures { IfOk result (λ pending. (more : List ℕ) → ArePendingLines options.now (Some pending) more
+        → (text : List ℕ) × (string_bytes lines.new ++ more ≡ string_bytes lines.old ++ text)
+        × IsItemText options.now (Whole request (concat message)) text) }
+{
+    let (title, unsupported) = message_title(alloc, options.side, options.names, &message)?;
+    push_message_line(lines, request, message.len(), &title)?;
+    Ok(Pending {
+        message,
+        unsupported,
+    })
+}
+
+/// Appends the line of what a chunk completes, and returns the message whose fields are pending.
+fn push_titled(
+    alloc: Global,
+    options: &DissectOptions,
+    delivered: Delivered,
+    lines: &mut String,
+) -> Result<Option<Pending>, AllocError>
+    ensures { IfOk result (λ pending. (more : List ℕ) → ArePendingLines options.now pending more
+        → (text : List ℕ) × (string_bytes lines.new ++ more ≡ string_bytes lines.old ++ text)
+        × IsItemText options.now (item_of delivered) text) }
+{
+    match delivered {
+        Delivered::Whole(request, message) => {
+            let pending = push_title(alloc, options, request, message, lines)?;
+            Ok(Some(pending))
+        }
+        Delivered::Aborted(request, code, _) => {
+            push_aborted_line(lines, options.names, request, code)?;
+            Ok(None)
+        }
+    }
+}
+
+/// What is returned for a UA TCP message that leaves no fields pending.
+fn without_pending(told: Result<(), DissectFault>) -> Result<Option<Pending>, DissectFault>
+    ensures { result ≡ none_pending told }
+{
+    match told {
+        Ok(()) => Ok(None),
+        Err(fault) => Err(fault),
+    }
+}
+
 impl Teller {
     /// Prints what one side sends, from its first UA TCP message on.
     pub fn new(alloc: Global, options: DissectOptions) -> Teller
@@ -314,6 +418,61 @@ impl Teller {
             Kind::Msg => self.push_message(frame, place, lines),
             Kind::Opn => self.push_opening(frame, place, lines),
             Kind::Clo => self.push_close(frame, place, lines),
+        }
+    }
+
+    /// Appends the line of a MSG at this offset and that of the message that it completes, whose
+    /// fields are pending then.
+    fn push_message_title(
+        &mut self,
+        frame: Frame,
+        place: usize,
+        lines: &mut String,
+    ) -> Result<Option<Pending>, DissectFault>
+        requires kind { frame.kind ≡ Msg }
+        requires sized { IsSized frame }
+        requires let_in { LetsIn every_frame frame }
+        ensures judged { (before : List Frame) (more : List ℕ) → TellerStands self.old before
+            → IfOk result (λ pending. ArePendingLines self.old.options pending more) →
+            JudgesKind Msg self.old.options before place frame result (string_bytes lines.old)
+            (string_bytes lines.new ++ more) }
+        ensures stands { (before : List Frame) → TellerStands self.old before
+            → OnOk result (TellerStands self.new (before ++ frame ∷ [])) }
+        ensures options { self.new.options ≡ self.old.options }
+    {
+        let size = frame_size(&frame);
+        let chunk = read_chunk(frame);
+        push_chunk_line(lines, "MSG", place, size, &chunk)?;
+        match self.assembler.accept(chunk) {
+            Ok(Some(delivered)) => Ok(push_titled(self.alloc, &self.options, delivered, lines)?),
+            Ok(None) => Ok(None),
+            Err(fault) => Err(DissectFault::from_chunk(self.options.side, fault)),
+        }
+    }
+
+    /// Appends the lines of the next UA TCP message, which begins at this offset, without those of
+    /// the fields of the message that is returned.
+    pub fn push_frame_title(
+        &mut self,
+        frame: Frame,
+        place: usize,
+        lines: &mut String,
+    ) -> Result<Option<Pending>, DissectFault>
+        requires sized { IsSized frame }
+        requires let_in { LetsIn every_frame frame }
+        ensures judged { (before : List Frame) (more : List ℕ) → TellerStands self.old before
+            → place ≡ place_behind before
+            → IfOk result (λ pending. ArePendingLines self.old.options pending more) →
+            JudgesFrameTelling (first_reason (frame_reasons self.old.options.side before frame))
+            (IsFrameText self.old.options before frame) result (string_bytes lines.old)
+            (string_bytes lines.new ++ more) }
+        ensures stands { (before : List Frame) → TellerStands self.old before
+            → OnOk result (TellerStands self.new (before ++ frame ∷ [])) }
+        ensures options { self.new.options ≡ self.old.options }
+    {
+        match frame.kind {
+            Kind::Msg => self.push_message_title(frame, place, lines),
+            _ => without_pending(self.push_frame(frame, place, lines)),
         }
     }
 

@@ -27,7 +27,7 @@ fn push_elements<T: Lines>(
 
 /// Appends the line with the count of an array.
 #[tactic(auto, unfolding(crate::specs::Tree::line))]
-fn push_count(out: &mut String, place: Place<'_>, count: usize) -> Result<(), AllocError>
+pub(crate) fn push_count(out: &mut String, place: Place<'_>, count: usize) -> Result<(), AllocError>
     ensures { OnOk result
         (string_bytes out.new ≡ string_bytes out.old ++ line place.entry.margin.now place.entry.path.now
         (decimal count)) }

@@ -61,7 +61,7 @@ pub(crate) fn deeper_margin(alloc: Global, margin: &str) -> Result<String, Alloc
 }
 
 /// The path of a field, as a text of its own.
-fn path_of_field(alloc: Global, path: &str, name: &str) -> Result<String, AllocError>
+pub(crate) fn path_of_field(alloc: Global, path: &str, name: &str) -> Result<String, AllocError>
     ensures { IfOk result (λ inner. string_bytes inner ≡ field_path path.now name.now) }
 {
     let mut inner = String::from_str(alloc, path)?;

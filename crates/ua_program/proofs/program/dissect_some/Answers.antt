@@ -1,4 +1,3 @@
-use Rattle.std.proofs.Common.{inl, inr}
 use Rattle.ua_program.proofs.Readings.{dissected, told_some}
 use Rattle.ua_program.proofs.program.dissect_some.Goals as goal
 
@@ -6,8 +5,4 @@ pub returns-in-Ok-clause-dissected : goal.returns-in-Ok-clause-dissected
 returns-in-Ok-clause-dissected g c = dissected _ _ _ _ _ _ _ c.in-Ok.ensures.lines
 
 pub returns-in-Err-clause-stopped : goal.returns-in-Err-clause-stopped
-returns-in-Err-clause-stopped g c =
-    elim c.in-Err.ensures.begun [
-      | inl output ↦ inl output
-      | inr lines ↦ inr (told_some _ _ _ _ _ lines)
-    ]
+returns-in-Err-clause-stopped g c = told_some _ _ _ _ _ _ c.in-Err.ensures.begun

@@ -36,5 +36,5 @@ returns-in-Ok-None-clause-stands c = λ before s.
 
 pub returns-in-Err-clause-judged : goal.returns-in-Err-clause-judged
 returns-in-Err-clause-judged c = λ before s.
-    message_fails c.args.self.now before c.args.place c.args.frame c.read_chunk-chunk.result c.in-Err.fault c.from_chunk.result _ _
+    message_fails (Unit {0}) c.args.self.now before c.args.place c.args.frame c.read_chunk-chunk.result c.in-Err.fault c.from_chunk.result _ _
     s c.read_chunk-chunk.ensures.found (c.in-Err.ensures.faults (message_chunks before) s.messages) c.from_chunk.ensures
