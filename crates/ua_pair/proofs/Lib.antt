@@ -15,3 +15,4 @@ mod Standings
 mod Refusing
 mod Printings
 mod PrintedBodies
+mod Titles

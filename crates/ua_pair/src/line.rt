@@ -1,16 +1,22 @@
 //! Lines of UA TCP messages and of messages.
 
 ghost use Rattle.std.specs.Fmt.{decimal};
-ghost use Rattle.std.specs.Prelude.{◌≡◌, ◌++◌, codes, string_bytes, OnOk};
+ghost use Rattle.std.specs.Prelude.{◌≡◌, ◌≤◌, ◌+◌, ◌++◌, codes, length, string_bytes, OnOk};
+ghost use Rattle.arrayvec.specs.ArrayString.{array_string_len};
 ghost use Rattle.ua_pair.specs.Lines.{numbers_text, flag_text, opening_line, chunk_line, message_line};
 ghost use Rattle.ua_pair.specs.Lines.{aborted_line, rest_line, refused_line, chunk_head};
 
+use arrayvec::ArrayString;
 use itoa::Buffer;
 use std::alloc::AllocError;
 use ua_builtin::{StatusCode, Wire};
 use ua_chunk::{Chunk, Flag, OpenChunk};
 use ua_frame::{Ack, ErrorFrame, Hello};
 use ua_texts::{push_code_as, push_string};
+
+/// The most bytes of numbers and words that are gathered before they are appended: a number has at
+/// most 20 digits.
+const MOST_GATHERED: usize = 192;
 
 /// A message that is printed as a line: the body of a HEL, an ACK or an ERR.
 pub trait GreetingLine: Wire + Drop {
@@ -173,7 +179,9 @@ fn push_ended(lines: &mut String, word: &str, number: u64) -> Result<(), AllocEr
     push_newline(lines)
 }
 
-fn push_newline(lines: &mut String) -> Result<(), AllocError>
+/// Ends a line.
+#[inline]
+pub fn push_newline(lines: &mut String) -> Result<(), AllocError>
     ensures { OnOk result (string_bytes lines.new ≡ string_bytes lines.old ++ codes "\n") }
 {
     lines.push_str("\n")
@@ -207,7 +215,44 @@ pub fn push_opening_line(
     push_newline(lines)
 }
 
+/// Adds a word and the decimal digits of a number to a text that has room for them.
+#[inline(always)]
+fn gather_number(text: &mut ArrayString<MOST_GATHERED>, word: &str, number: u64)
+    requires room { array_string_len text.old + (length word.now + 20) ≤ 192 }
+    ensures bytes { text.new.bytes ≡ text.old.bytes ++ (word.now ++ decimal number) }
+    ensures long { array_string_len text.new ≤ array_string_len text.old + (length word.now + 20) }
+{
+    text.push_str(word);
+    text.push_str(Buffer::new().format(number));
+}
+
+/// Appends what is gathered.
+#[inline(always)]
+fn push_gathered(lines: &mut String, text: &ArrayString<MOST_GATHERED>) -> Result<(), AllocError>
+    ensures { OnOk result (string_bytes lines.new ≡ string_bytes lines.old ++ text.now.bytes) }
+{
+    lines.push_str(text.as_str())
+}
+
+/// The offset, the name, the flag and the size of a MSG or a CLO.
+#[inline(always)]
+fn chunk_start(name: &str, place: usize, size: usize, flag: Flag) -> ArrayString<MOST_GATHERED>
+    requires { length name.now ≤ 3 }
+    ensures bytes { result.bytes ≡ chunk_head name.now place size flag }
+    ensures long { array_string_len result ≤ 47 }
+{
+    let mut text = ArrayString::new();
+    gather_number(&mut text, "", place as u64);
+    text.push_str(" ");
+    text.push_str(name);
+    text.push_str(" ");
+    text.push_str(flag_letter(flag));
+    gather_number(&mut text, " ", size as u64);
+    text
+}
+
 /// Appends the line of a MSG or a CLO, by its name, at this offset, of this size.
+// A text on the stack costs a third of what a String does that is appended to as often.
 pub fn push_chunk_line(
     lines: &mut String,
     name: &str,
@@ -215,33 +260,35 @@ pub fn push_chunk_line(
     size: usize,
     chunk: &Chunk,
 ) -> Result<(), AllocError>
+    requires { length name.now ≤ 3 }
     ensures { OnOk result
         (string_bytes lines.new ≡ string_bytes lines.old ++ chunk_line name.now place size chunk.now) }
 {
-    push_chunk_head(lines, name, place, size, chunk.flag)?;
-    push_number(lines, " channel ", chunk.channel as u64)?;
-    push_number(lines, " token ", chunk.token as u64)?;
-    push_number(lines, " sequence ", chunk.sequence as u64)?;
-    push_number(lines, " request ", chunk.request as u64)?;
-    push_newline(lines)
+    let mut text = chunk_start(name, place, size, chunk.flag);
+    gather_number(&mut text, " channel ", chunk.channel as u64);
+    gather_number(&mut text, " token ", chunk.token as u64);
+    gather_number(&mut text, " sequence ", chunk.sequence as u64);
+    gather_number(&mut text, " request ", chunk.request as u64);
+    text.push_str("\n");
+    push_gathered(lines, &text)
 }
 
-/// Appends the offset, the name, the flag and the size of a MSG or a CLO.
-fn push_chunk_head(
+/// Appends the line of a message of this many bytes, with its RequestId, up to its name.
+pub fn push_message_start(
     lines: &mut String,
-    name: &str,
-    place: usize,
+    request: u32,
     size: usize,
-    flag: Flag,
+    name: &str,
 ) -> Result<(), AllocError>
-    ensures { OnOk result (string_bytes lines.new ≡ string_bytes lines.old ++ chunk_head name.now place size flag) }
+    ensures { OnOk result (string_bytes lines.new ≡ string_bytes lines.old
+        ++ (codes "message " ++ decimal request ++ codes " octets " ++ decimal size ++ codes " " ++ name.now)) }
 {
-    push_number(lines, "", place as u64)?;
-    lines.push_str(" ")?;
-    lines.push_str(name)?;
-    lines.push_str(" ")?;
-    lines.push_str(flag_letter(flag))?;
-    push_number(lines, " ", size as u64)
+    let mut text = ArrayString::new();
+    gather_number(&mut text, "message ", request as u64);
+    gather_number(&mut text, " octets ", size as u64);
+    text.push_str(" ");
+    push_gathered(lines, &text)?;
+    lines.push_str(name)
 }
 
 /// Appends the line of a message of this many bytes, with its RequestId.
@@ -253,10 +300,7 @@ pub fn push_message_line(
 ) -> Result<(), AllocError>
     ensures { OnOk result (string_bytes lines.new ≡ string_bytes lines.old ++ message_line request size name.now) }
 {
-    push_number(lines, "message ", request as u64)?;
-    push_number(lines, " octets ", size as u64)?;
-    lines.push_str(" ")?;
-    lines.push_str(name)?;
+    push_message_start(lines, request, size, name)?;
     push_newline(lines)
 }
 

@@ -1,14 +1,13 @@
 //! The names of messages.
 
 ghost use Rattle.std.specs.List.{concat};
-ghost use Rattle.std.specs.Prelude.{◌≡◌, Some, IfOk, string_bytes};
+ghost use Rattle.std.specs.Prelude.{◌≡◌, Some, IfOk};
 ghost use Rattle.ua_pair.specs.declared.side.Side.TheVariants.{Client, Server};
 ghost use Rattle.ua_pair.specs.Names.{open_answer_name, request_name as name_of_request};
 ghost use Rattle.ua_pair.specs.Names.{response_name as name_of_response, message_name as name_of_message};
-ghost use Rattle.ua_pair.specs.Names.{message_title as title_of_message, is_unsupported, is_unsupported_request};
+ghost use Rattle.ua_pair.specs.Names.{is_unsupported, is_unsupported_request};
 ghost use Rattle.ua_pair.specs.Names.{is_unsupported_response, opening_name as name_of_opening};
 
-use crate::encoding::push_encoding;
 use crate::side::Side;
 use std::alloc::{AllocError, Global};
 use ua_builtin::{Octets, ReadFault, Source};
@@ -66,7 +65,7 @@ fn body_name<S: Source>(
 }
 
 /// The name of a message that this side sent, and whether it is of no known kind.
-fn message_name(
+pub fn message_name(
     alloc: Global,
     side: Side,
     message: &Message,
@@ -78,26 +77,6 @@ fn message_name(
         [part] => body_name(alloc, side, &mut Octets::new(part.as_slice())),
         _ => body_name(alloc, side, &mut message.source()),
     }
-}
-
-/// The title of a message that this side sent in its line, and whether the message is of no known
-/// kind: its name, and, if names are wanted and it is of no known kind, the NodeId of its encoding
-/// and the name of that.
-pub fn message_title(
-    alloc: Global,
-    side: Side,
-    names: bool,
-    message: &Message,
-) -> Result<(String, bool), AllocError>
-    ensures title { IfOk result (λ titled. string_bytes titled.0 ≡ title_of_message names side (concat message.now)) }
-    ensures unsupported { IfOk result (λ titled. titled.1 ≡ is_unsupported side (concat message.now)) }
-{
-    let (name, unsupported) = message_name(alloc, side, message)?;
-    let mut title = String::from_str(alloc, name)?;
-    if names && unsupported {
-        push_encoding(alloc, &mut message.source(), &mut title)?;
-    }
-    Ok((title, unsupported))
 }
 
 /// The name of an OpenSecureChannel request.

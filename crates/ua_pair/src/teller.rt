@@ -1,6 +1,7 @@
 //! The lines of the UA TCP messages of one side.
 
-ghost use Rattle.std.specs.Prelude.{◌≡◌, ◌≤◌, ◌∷◌, ◌++◌, [], ℕ, List, Some, length, IfOk, OnOk, string_bytes};
+ghost use Rattle.std.specs.Prelude.{◌≡◌, ◌≤◌, ◌∷◌, ◌++◌, ◌&&◌, [], ℕ, List, Some, cond, length, IfOk, OnOk};
+ghost use Rattle.std.specs.Prelude.{string_bytes};
 ghost use Rattle.std.specs.List.{concat};
 ghost use Rattle.ua_chunk.specs.Item.Item.{Whole};
 ghost use Rattle.ua_builtin.specs.Reasons.{first_reason};
@@ -18,17 +19,21 @@ ghost use Rattle.ua_pair.specs.Telling.{ArePendingLines, TellerStands, JudgesFra
 ghost use Rattle.ua_pair.specs.Refused.{greeting_reasons, frame_reasons};
 ghost use Rattle.ua_pair.specs.Lines.{message_line};
 ghost use Rattle.ua_pair.specs.Names.{message_kind as kind_of_message, opening_kind as kind_of_opening};
+ghost use Rattle.ua_opening.specs.Message.{id_of_body};
+ghost use Rattle.ua_pair.specs.Names.{encoding_text, is_unsupported, message_title};
 ghost use Rattle.ua_pair.specs.Names.{opening_name as name_of_opening};
 ghost use Rattle.ua_texts.specs.PlainLeaf.{Adds};
 ghost use Rattle.ua_pair.specs.Told.{AreFieldsOf, IsFrameText, IsHeaderOf};
 ghost use Rattle.ua_pair.specs.Told.{IsItemText, IsOpenedText, line_if, place_behind};
 
+use crate::encoding::push_encoding;
 use crate::fault::DissectFault;
 use crate::fields::{BodyKind, print_message, push_body_text, push_header_fields};
 use crate::line::{
-    GreetingLine, push_aborted_line, push_chunk_line, push_message_line, push_opening_line,
+    GreetingLine, push_aborted_line, push_chunk_line, push_message_line, push_message_start,
+    push_newline, push_opening_line,
 };
-use crate::name::{message_title, opening_name};
+use crate::name::{message_name, opening_name};
 use crate::options::DissectOptions;
 use crate::printing::PrintFault;
 use crate::side::Side;
@@ -139,6 +144,44 @@ fn push_header(
     }
 }
 
+/// Appends the encoding of a message of no known kind, which follows its name, if names are wanted.
+fn push_unknown_encoding(
+    alloc: Global,
+    names: bool,
+    unsupported: bool,
+    message: &Message,
+    lines: &mut String,
+) -> Result<(), AllocError>
+    ensures { OnOk result (string_bytes lines.new ≡ string_bytes lines.old
+        ++ cond (names && unsupported) (encoding_text (id_of_body (concat message.now))) []) }
+{
+    if names && unsupported {
+        push_encoding(alloc, &mut message.source(), lines)
+    } else {
+        Ok(())
+    }
+}
+
+/// Appends the line of a message: whether it is of no known kind.
+fn push_message_head(
+    alloc: Global,
+    options: &DissectOptions,
+    request: u32,
+    message: &Message,
+    lines: &mut String,
+) -> Result<bool, AllocError>
+    ensures line { OnOk result (string_bytes lines.new ≡ string_bytes lines.old ++ message_line request
+        (length (concat message.now)) (message_title options.now.names options.now.side (concat message.now))) }
+    ensures unsupported { IfOk result (λ unsupported. unsupported ≡ is_unsupported options.now.side
+        (concat message.now)) }
+{
+    let (name, unsupported) = message_name(alloc, options.side, message)?;
+    push_message_start(lines, request, message.len(), name)?;
+    push_unknown_encoding(alloc, options.names, unsupported, message, lines)?;
+    push_newline(lines)?;
+    Ok(unsupported)
+}
+
 /// Appends the line of a message, and those of its fields.
 fn push_message(
     alloc: Global,
@@ -150,8 +193,7 @@ fn push_message(
     ensures { Adds result (string_bytes lines.old) (string_bytes lines.new)
         (IsItemText options.now (Whole request (concat message.now))) }
 {
-    let (title, unsupported) = message_title(alloc, options.side, options.names, message)?;
-    push_message_line(lines, request, message.len(), &title)?;
+    let unsupported = push_message_head(alloc, options, request, message, lines)?;
     let mut src = message.source();
     push_fields(alloc, options, message_kind(options.side), &mut src, lines)?;
     push_header(alloc, options, unsupported, message, lines)
@@ -251,8 +293,7 @@ fn push_title(
         → (text : List ℕ) × (string_bytes lines.new ++ more ≡ string_bytes lines.old ++ text)
         × IsItemText options.now (Whole request (concat message)) text) }
 {
-    let (title, unsupported) = message_title(alloc, options.side, options.names, &message)?;
-    push_message_line(lines, request, message.len(), &title)?;
+    let unsupported = push_message_head(alloc, options, request, &message, lines)?;
     Ok(Pending {
         message,
         unsupported,

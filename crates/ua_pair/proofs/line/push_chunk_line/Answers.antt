@@ -6,10 +6,11 @@ pub returns : goal.returns
 unfolding chunk_line
 returns c =
     simp append_assoc (simp (
-      c.in_ok-push_number-4.ensures,
-      c.in_ok-push_number-3.ensures,
-      c.in_ok-push_number-2.ensures,
-      c.in_ok-push_number.ensures,
-      c.in_ok-push_chunk_head.ensures,
+      c.push_str.ensures.bytes,
+      c.gather_number-4.ensures.bytes,
+      c.gather_number-3.ensures.bytes,
+      c.gather_number-2.ensures.bytes,
+      c.gather_number.ensures.bytes,
+      c.chunk_start-text.ensures.bytes,
       append_assoc,
-    ) at c.push_newline.ensures)
+    ) at c.push_gathered.ensures)

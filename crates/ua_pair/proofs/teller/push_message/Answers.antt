@@ -1,4 +1,4 @@
-use Rattle.std.proofs.Common.{List, ℕ, ◌≡◌, ◌++◌, ◌∙◌, refl, ap, ap₂, length, string_bytes}
+use Rattle.std.proofs.Common.{List, ℕ, ◌≡◌, ◌++◌, refl, ap, length, string_bytes}
 use Rattle.std.specs.List.{concat}
 use Rattle.ua_texts.proofs.PlainAdds.{adds_behind, adds_both}
 use Rattle.ua_texts.specs.PlainLeaf.{Adds}
@@ -15,17 +15,15 @@ returns c =
     let Fields : List ℕ → Type 0 = AreFieldsOf options (message_kind options.side) octets in
     let Header : List ℕ → Type 0 = IsHeaderOf options (is_unsupported options.side octets) octets in
     let Parts : List ℕ → Type 0 = λ text. (fields : List ℕ) × (header : List ℕ) × (text ≡ fields ++ header) × Fields fields × Header header in
-    let title : c.deref.result.now ≡ message_title options.names options.side octets = c.deref.ensures ∙ c.in_ok-title.ensures.title in
-    let line : string_bytes c.push_message_line.new.lines ≡ string_bytes c.args.lines.now ++ front =
-    c.in_ok-push_message_line.ensures ∙ ap₂ (λ (n : ℕ) (t : List ℕ). string_bytes c.args.lines.now ++ message_line c.args.request n t) c.len.ensures title in
-    let fields : (text : List ℕ) × (string_bytes c.push_fields.new.lines ≡ string_bytes c.push_message_line.new.lines ++ text) × Fields text =
+    let line : string_bytes c.push_message_head.new.lines ≡ string_bytes c.args.lines.now ++ front = c.in_ok-unsupported.ensures.line in
+    let fields : (text : List ℕ) × (string_bytes c.push_fields.new.lines ≡ string_bytes c.push_message_head.new.lines ++ text) × Fields text =
     rw c.source-src.ensures at (rw c.message_kind.ensures at c.in_ok-push_fields.ensures) in
     let header : Adds c.push_header.result (string_bytes c.push_fields.new.lines) (string_bytes c.push_header.new.lines) Header =
-    rw c.in_ok-title.ensures.unsupported at c.push_header.ensures in
-    let both : Adds c.push_header.result (string_bytes c.push_message_line.new.lines) (string_bytes c.push_header.new.lines) Parts =
-    adds_both c.push_header.result (string_bytes c.push_message_line.new.lines) (string_bytes c.push_fields.new.lines) (string_bytes c.push_header.new.lines)
+    rw c.in_ok-unsupported.ensures.unsupported at c.push_header.ensures in
+    let both : Adds c.push_header.result (string_bytes c.push_message_head.new.lines) (string_bytes c.push_header.new.lines) Parts =
+    adds_both c.push_header.result (string_bytes c.push_message_head.new.lines) (string_bytes c.push_fields.new.lines) (string_bytes c.push_header.new.lines)
     Fields Header Parts
     fields header (λ a b x y. (a, b, refl, x, y)) in
-    adds_behind c.push_header.result (string_bytes c.args.lines.now) (string_bytes c.push_message_line.new.lines) (string_bytes c.push_header.new.lines) front
+    adds_behind c.push_header.result (string_bytes c.args.lines.now) (string_bytes c.push_message_head.new.lines) (string_bytes c.push_header.new.lines) front
     Parts (IsMessageText options c.args.request octets)
     line (λ text h. (h.0, h.1, ap (λ (t : List ℕ). front ++ t) h.2, h.3, h.4)) both

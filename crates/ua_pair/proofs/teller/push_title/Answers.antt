@@ -1,4 +1,4 @@
-use Rattle.std.proofs.Common.{List, ℕ, Bool, ◌≡◌, ◌++◌, ◌∙◌, ap, ap₂, append_assoc, length, string_bytes, subst}
+use Rattle.std.proofs.Common.{List, ℕ, Bool, ◌≡◌, ◌++◌, ◌∙◌, ap, append_assoc, length, string_bytes, subst}
 use Rattle.std.specs.List.{concat}
 use Rattle.ua_pair.specs.Lines.{message_line}
 use Rattle.ua_pair.specs.Names.{message_title}
@@ -10,10 +10,8 @@ returns c = λ more p.
     let options = c.args.options.now in
     let octets = concat c.args.message in
     let front = message_line c.args.request (length octets) (message_title options.names options.side octets) in
-    let title : c.deref.result.now ≡ message_title options.names options.side octets = c.deref.ensures ∙ c.in_ok-title.ensures.title in
-    let line : string_bytes c.push_message_line.new.lines ≡ string_bytes c.args.lines.now ++ front =
-    c.in_ok-push_message_line.ensures ∙ ap₂ (λ (n : ℕ) (t : List ℕ). string_bytes c.args.lines.now ++ message_line c.args.request n t) c.len.ensures title in (
+    let line : string_bytes c.push_message_head.new.lines ≡ string_bytes c.args.lines.now ++ front = c.in_ok-unsupported.ensures.line in (
       front ++ more,
       ap (λ (t : List ℕ). t ++ more) line ∙ append_assoc (string_bytes c.args.lines.now) front more,
-      (p.0, p.1, ap (λ (t : List ℕ). front ++ t) p.2, p.3, subst (λ (b : Bool). IsHeaderOf options b octets p.1) c.in_ok-title.ensures.unsupported p.4),
+      (p.0, p.1, ap (λ (t : List ℕ). front ++ t) p.2, p.3, subst (λ (b : Bool). IsHeaderOf options b octets p.1) c.in_ok-unsupported.ensures.unsupported p.4),
     )
