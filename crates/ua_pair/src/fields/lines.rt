@@ -7,6 +7,9 @@ use crate::options::FieldStyle;
 use std::alloc::{AllocError, Global};
 use std::fmt::Write;
 
+/// The most bytes of an index in brackets.
+const INDEX_LEN: usize = 22;
+
 /// The place of the lines of a value.
 #[derive(Clone, Copy)]
 pub(crate) struct Place<'a> {
@@ -55,7 +58,8 @@ pub(crate) fn push_line(out: &mut String, place: Place<'_>, text: &str) -> Resul
 pub(crate) fn deeper_margin(alloc: Global, margin: &str) -> Result<String, AllocError>
     ensures { IfOk result (λ inner. string_bytes inner ≡ deeper margin.now) }
 {
-    let mut inner = String::from_str(alloc, margin)?;
+    let mut inner = String::with_capacity(alloc, margin.len().saturating_add(2))?;
+    inner.push_str(margin)?;
     inner.push_str("  ")?;
     Ok(inner)
 }
@@ -64,7 +68,9 @@ pub(crate) fn deeper_margin(alloc: Global, margin: &str) -> Result<String, Alloc
 pub(crate) fn path_of_field(alloc: Global, path: &str, name: &str) -> Result<String, AllocError>
     ensures { IfOk result (λ inner. string_bytes inner ≡ field_path path.now name.now) }
 {
-    let mut inner = String::from_str(alloc, path)?;
+    let room = path.len().saturating_add(name.len()).saturating_add(1);
+    let mut inner = String::with_capacity(alloc, room)?;
+    inner.push_str(path)?;
     if !path.is_empty() {
         inner.push_str(".")?;
     }
@@ -76,7 +82,8 @@ pub(crate) fn path_of_field(alloc: Global, path: &str, name: &str) -> Result<Str
 fn path_of_element(alloc: Global, path: &str, index: usize) -> Result<String, AllocError>
     ensures { IfOk result (λ inner. string_bytes inner ≡ element_path path.now index) }
 {
-    let mut inner = String::from_str(alloc, path)?;
+    let mut inner = String::with_capacity(alloc, path.len().saturating_add(INDEX_LEN))?;
+    inner.push_str(path)?;
     write!(inner, "[{index}]")?;
     Ok(inner)
 }
