@@ -28,6 +28,7 @@ mod EndpointStays
 mod Sharings
 mod Tokens
 mod Stepped
+mod Replying
 mod Thinned
 mod Clean
 mod SentAs

@@ -1,7 +1,7 @@
 -- What a server answers to what is kept of a request is what it answers to the request itself.
 use Rattle.std.proofs.Common.{◌≡◌, ℕ, Bool, true, false, not, ◌&&◌, map, length, List, ◌∷◌, Option, None, Some, Result, Ok, Err, refl, sym, ◌∙◌, ap, inl, inr}
 use Rattle.std.proofs.lemmas.List.{length-map}
-use Rattle.std.specs.Prelude.{option_map, ◌⊎◌, IfErr, IfOk}
+use Rattle.std.specs.Prelude.{option_map, ◌⊎◌}
 use Rattle.ua_builtin.specs.Reasons.{first_reason}
 use Rattle.ua_builtin.specs.declared.date_time.DateTime.{DateTime}
 use Rattle.ua_builtin.specs.declared.node_id.NodeId.{NodeId}
@@ -14,6 +14,7 @@ use Rattle.ua_services.specs.declared.fault.RequestFault.{RequestFault}
 use Rattle.ua_services.specs.declared.fault.RequestFault.TheVariants.{OutOfMemory}
 use Rattle.ua_services.specs.declared.request.Request.{Request}
 use Rattle.ua_services.specs.declared.request.Request.TheVariants.{Write}
+use Rattle.ua_services.specs.declared.request.RequestKind.TheVariants.{Write as WriteKind}
 use Rattle.ua_services.specs.declared.response.Response.{Response}
 use Rattle.ua_services.specs.declared.response.Response.TheVariants.{Write as WriteAnswer}
 use Rattle.ua_structures.specs.Plain.{write_response_of}
@@ -25,10 +26,11 @@ use Rattle.ua_structures.specs.declared.thin.ValueType.{ValueType}
 use Rattle.ua_server.specs.Answer.{answer, unless, write_items}
 use Rattle.ua_server.specs.Attributes.{count_reasons, items_of, takes_now}
 use Rattle.ua_server.specs.Reply.{answered_by}
-use Rattle.ua_server.specs.Requests.{count_asked, items_asked, kind_asked}
+use Rattle.ua_server.specs.Requests.{items_asked}
 use Rattle.ua_server.specs.Sessions.{good_header}
 use Rattle.ua_server.specs.State.{State, is_activated, is_own, with_nodes}
 use Rattle.ua_server.specs.Status.{bad_session_id_invalid, bad_session_not_activated}
+use Rattle.ua_server.proofs.Replying.{IsAnswered}
 
 -- ---- the items
 
@@ -126,40 +128,36 @@ kept_ok takes kept (Ok m) e = record { whole = m; read_is = refl; kept_is = ok_i
     ok_is e = cc
 kept_ok takes kept (Err fault) e = absurd cc
 
--- a reader answers this, or that memory was refused
-abbrev Reads : Result Request RequestFault → Result Request RequestFault → Type 0
-Reads r expected = (r ≡ expected) ⊎ (r ≡ Err OutOfMemory)
+-- what is kept of a Write that was read asks for as many items, and is answered as the Write is
+pub kept_answered : (s : State) (read : Result Request RequestFault) (m : WriteRequest) (items : ℕ) (moment : DateTime) → ChangesNothing s.nodes
+    → thin_read (takes_now s) read ≡ Ok (Write m) → items ≡ length (items_of m.nodes_to_write)
+    → IsAnswered read s moment WriteKind items (write_items s moment m)
+kept_answered s read m items moment same h count =
+    let of = kept_ok (takes_now s) (Write m) read (sym h) in
+    record {
+      request = of.whole;
+      read_is = of.read_is;
+      kind_is = sym (ap kind_of_request of.kept_is ∙ kind_of-kept (takes_now s) of.whole);
+      items_are = sym (count ∙ ap items_asked of.kept_is ∙ items_asked-kept (takes_now s) of.whole);
+      answer_is = sym (ap (answer s moment) of.kept_is ∙ answer-kept s moment of.whole same);
+    }
 
-pub answer_is : (s : State) (read r : Result Request RequestFault) → ChangesNothing s.nodes → Reads r (thin_read (takes_now s) read)
-    → IfOk r (λ kept. (moment : DateTime) → answer s moment kept ≡ answered_by read s moment)
-answer_is s read (Ok kept) same (inl h) = λ moment.
-    let of = kept_ok (takes_now s) kept read h in
-    ap (answer s moment) of.kept_is ∙ answer-kept s moment of.whole same ∙ sym (ap (λ (r : Result Request RequestFault). answered_by r s moment) of.read_is)
-answer_is s read (Ok kept) same (inr h) = absurd cc
-answer_is s read (Err fault) same h = tt
+-- and leaves what the Write leaves
+pub kept_left : (s new : State) (read : Result Request RequestFault) (m : WriteRequest) (moment : DateTime) → ChangesNothing s.nodes
+    → thin_read (takes_now s) read ≡ Ok (Write m) → (new ≡ s) ⊎ (new ≡ (write_items s moment m).0)
+    → (new ≡ s) ⊎ (new ≡ (answered_by read s moment).0)
+kept_left s new read m moment same h left =
+    let of = kept_ok (takes_now s) (Write m) read (sym h) in
+    let is : answered_by read s moment ≡ write_items s moment m =
+    ap (λ (r : Result Request RequestFault). answered_by r s moment) of.read_is ∙ sym (ap (answer s moment) of.kept_is ∙ answer-kept s moment of.whole same) in
+    rw is left
 
-pub kind_is : (takes : NodeId → ValueType → Bool) (read r : Result Request RequestFault) → Reads r (thin_read takes read)
-    → IfOk r (λ kept. kind_asked read ≡ Some (kind_of_request kept))
-kind_is takes read (Ok kept) (inl h) =
-    let of = kept_ok takes kept read h in
-    ap kind_asked of.read_is ∙ ap Some (sym (ap kind_of_request of.kept_is ∙ kind_of-kept takes of.whole))
-kind_is takes read (Ok kept) (inr h) = absurd cc
-kind_is takes read (Err fault) h = tt
-
-pub items_are : (takes : NodeId → ValueType → Bool) (read r : Result Request RequestFault) → Reads r (thin_read takes read)
-    → IfOk r (λ kept. count_asked read ≡ items_asked kept)
-items_are takes read (Ok kept) (inl h) =
-    let of = kept_ok takes kept read h in
-    ap count_asked of.read_is ∙ sym (ap items_asked of.kept_is ∙ items_asked-kept takes of.whole)
-items_are takes read (Ok kept) (inr h) = absurd cc
-items_are takes read (Err fault) h = tt
-
-fault_is : (takes : NodeId → ValueType → Bool) (read : Result Request RequestFault) (fault : RequestFault) → Err fault ≡ thin_read takes read → read ≡ Err fault
+fault_is : (takes : NodeId → ValueType → Bool) (read : Result Request RequestFault) (fault : RequestFault) → thin_read takes read ≡ Err fault → read ≡ Err fault
 fault_is takes (Ok m) fault e = absurd cc
-fault_is takes (Err other) fault e = sym e
+fault_is takes (Err other) fault e = e
 
-pub refused_is : (takes : NodeId → ValueType → Bool) (read r : Result Request RequestFault) → Reads r (thin_read takes read)
-    → IfErr r (λ fault. (read ≡ Err fault) ⊎ (fault ≡ OutOfMemory))
-refused_is takes read (Ok kept) h = tt
-refused_is takes read (Err fault) (inl h) = inl (fault_is takes read fault h)
-refused_is takes read (Err fault) (inr h) = inr cc
+-- nothing is kept of what is no request
+pub refused_by : (takes : NodeId → ValueType → Bool) (read : Result Request RequestFault) (fault : RequestFault)
+    → (thin_read takes read ≡ Err fault) ⊎ (fault ≡ OutOfMemory) → (read ≡ Err fault) ⊎ (fault ≡ OutOfMemory)
+refused_by takes read fault (inl h) = inl (fault_is takes read fault h)
+refused_by takes read fault (inr h) = inr h

@@ -1,1 +1,2 @@
 pub mod GoodWrite
+pub mod Replying

@@ -1,15 +1,17 @@
 //! The reply to a message.
 
-ghost use Rattle.std.specs.Prelude.{◌≡◌, ◌<◌, ◌⊎◌, IsTrue, IfErr, IfOk, OnErr, None, Some, Err, length};
+ghost use Rattle.std.specs.Prelude.{◌≡◌, ◌<◌, ◌⊎◌, IsTrue, IfOk, OnErr, None, Some, length};
 ghost use Rattle.std.specs.List.{concat};
 ghost use Rattle.ua_builtin.specs.declared.date_time.DateTime.{DateTime};
-ghost use Rattle.ua_services.specs.Request.{kind_of_request, request_read};
+ghost use Rattle.ua_services.specs.Request.{kind_of_request, read_as_request, request_read};
 ghost use Rattle.ua_services.specs.Response.{header_of_response, response};
 ghost use Rattle.ua_server.specs.Answer.{answer, fault_of};
 ghost use Rattle.ua_server.specs.Reply.{IsBodyWithin, answered};
-ghost use Rattle.ua_server.specs.Requests.{count_asked, encoding_number, items_asked, kind_asked, request_answered};
+ghost use Rattle.ua_server.specs.Requests.{encoding_number, items_asked, request_answered};
+ghost use Rattle.ua_server.specs.inside.Replying.{IsRepliedTo};
 ghost use Rattle.ua_server.specs.Stored.{results_of};
 
+use crate::attributes::item_count;
 use crate::services::Services;
 use crate::watch::{AnsweredRequest, items_asked};
 use std::alloc::{AllocError, Global};
@@ -20,7 +22,9 @@ use ua_chunk::Message;
 use ua_nodes::values_that_their_nodes_cannot_take_change_no_write;
 use ua_opening::standard_number;
 use ua_services::{
-    Request, RequestFault, Response, UaArray, empty_body, read_request_for, write_response,
+    ReadRequest, Request, RequestFault, RequestKind, Response, UaArray, WriteRequest, empty_body,
+    read_read_request, read_request_kind, read_request_of_kind, read_write_request_for,
+    write_response,
 };
 
 /// The body of the reply to a message, and what it answers.
@@ -46,7 +50,7 @@ pub(crate) struct AnswerBody {
 }
 
 impl AnswerBody {
-    ghost use Rattle.std.specs.Prelude.{◌≡◌, None};
+    ghost use Rattle.std.specs.Prelude.{◌≡◌, None, Some};
 
     /// The body of a response that is not that of a Write.
     pub(crate) fn new(body: Vec<u8>, code: StatusCode) -> AnswerBody
@@ -58,6 +62,26 @@ impl AnswerBody {
             body,
             code,
             results: UaArray::null(),
+        }
+    }
+
+    /// The reply of this body to a request of this kind, for so many items.
+    #[inline(always)]
+    fn replied(self, kind: RequestKind, items: usize) -> Replied
+        ensures body { result.body ≡ self.body }
+        ensures request { result.request
+            ≡ record { kind = Some kind; encoding = None; items = items; code = self.code } }
+        ensures results { result.results ≡ self.results }
+    {
+        Replied {
+            body: self.body,
+            request: AnsweredRequest {
+                kind: Some(kind),
+                encoding: None,
+                items,
+                code: self.code,
+            },
+            results: self.results,
         }
     }
 }
@@ -112,13 +136,8 @@ impl Services {
             ((self.new ≡ self.old) ⊎ (self.new ≡ (answered self.old moment (S.octets src.old)).0)) }
     {
         let mut head = src.fork();
-        match self.read_kept(alloc, src) {
-            Ok(request) => {
-                let mut request = request;
-                let told = self.body_for(alloc, &mut request, moment, most);
-                drop(request);
-                told
-            }
+        match self.reply_to_request(alloc, src, moment, most) {
+            Ok(told) => Ok(told),
             Err(RequestFault::Unsupported(handle)) => {
                 let code = StatusCode::BAD_SERVICE_UNSUPPORTED;
                 self.misread(alloc, &mut head, handle, code, moment)
@@ -128,6 +147,92 @@ impl Services {
                 self.misread(alloc, &mut head, handle, code, moment)
             }
             Err(RequestFault::OutOfMemory) => Err(AllocError),
+        }
+    }
+
+    /// Replies to the request that a body is. A Read and a Write are read where they are answered: a
+    /// request of any kind is as large as the largest one, and would be moved twice.
+    #[inline(always)]
+    fn reply_to_request<S: Source>(
+        &mut self,
+        alloc: Global,
+        src: &mut S,
+        moment: DateTime,
+        most: Option<usize>,
+    ) -> Result<Replied, RequestFault>
+        ensures { IsRepliedTo most (request_read (S.octets src.old)) self.old moment self.new result }
+    {
+        let kind = read_request_kind(alloc, src)?;
+        match kind {
+            RequestKind::Read => self.reply_to_read(alloc, src, moment, most),
+            RequestKind::Write => self.reply_to_write(alloc, src, moment, most),
+            _ => self.reply_to_other(alloc, src, kind, moment, most),
+        }
+    }
+
+    /// Replies to the Read that a body is behind its NodeId.
+    #[inline(never)]
+    fn reply_to_read<S: Source>(
+        &self,
+        alloc: Global,
+        src: &mut S,
+        moment: DateTime,
+        most: Option<usize>,
+    ) -> Result<Replied, RequestFault>
+        ensures { IsRepliedTo most (read_as_request RequestKind.Read (S.octets src.old)) self.now moment self.now
+            result }
+    {
+        let mut message = ReadRequest::empty();
+        read_read_request(alloc, src, &mut message)?;
+        let items = item_count(&message.nodes_to_read);
+        match self.read_body(alloc, &message, moment, most) {
+            Ok(answer) => Ok(answer.replied(RequestKind::Read, items)),
+            Err(_) => Err(RequestFault::OutOfMemory),
+        }
+    }
+
+    /// Replies to the Write that a body is behind its NodeId. No value is kept that its node could
+    /// not take now: what is kept is answered as the Write itself is.
+    #[inline(never)]
+    fn reply_to_write<S: Source>(
+        &mut self,
+        alloc: Global,
+        src: &mut S,
+        moment: DateTime,
+        most: Option<usize>,
+    ) -> Result<Replied, RequestFault>
+        ensures { IsRepliedTo most (read_as_request RequestKind.Write (S.octets src.old)) self.old moment self.new
+            result }
+    {
+        values_that_their_nodes_cannot_take_change_no_write(&self.nodes);
+        let mut message = WriteRequest::empty();
+        read_write_request_for(alloc, src, self, &mut message)?;
+        let items = item_count(&message.nodes_to_write);
+        match self.write_body(alloc, &mut message, moment) {
+            Ok(answer) => Ok(answer.replied(RequestKind::Write, items)),
+            Err(_) => Err(RequestFault::OutOfMemory),
+        }
+    }
+
+    /// Replies to the request of another kind that a body is behind its NodeId.
+    #[inline(never)]
+    fn reply_to_other<S: Source>(
+        &mut self,
+        alloc: Global,
+        src: &mut S,
+        kind: RequestKind,
+        moment: DateTime,
+        most: Option<usize>,
+    ) -> Result<Replied, RequestFault>
+        ensures { IsRepliedTo most (read_as_request kind (S.octets src.old)) self.old moment self.new result }
+    {
+        let request = read_request_of_kind(alloc, src, kind)?;
+        let mut request = request;
+        let told = self.body_for(alloc, &mut request, moment, most);
+        drop(request);
+        match told {
+            Ok(told) => Ok(told),
+            Err(_) => Err(RequestFault::OutOfMemory),
         }
     }
 
@@ -155,21 +260,6 @@ impl Services {
             [part] => self.reply_telling(alloc, &mut Octets::new(part.as_slice()), moment, most),
             _ => self.reply_telling(alloc, &mut message.source(), moment, most),
         }
-    }
-
-    /// Reads the request that a message with this body is, without the values of a Write that its
-    /// nodes could not take now: what is kept is answered as the request itself is.
-    fn read_kept<S: Source>(&self, alloc: Global, src: &mut S) -> Result<Request, RequestFault>
-        ensures answer { IfOk result (λ kept. (moment : DateTime)
-            → answer self.now moment kept ≡ answered self.now moment (S.octets src.old)) }
-        ensures kind { IfOk result (λ kept. kind_asked (request_read (S.octets src.old))
-            ≡ Some (kind_of_request kept)) }
-        ensures items { IfOk result (λ kept. count_asked (request_read (S.octets src.old)) ≡ items_asked kept) }
-        ensures refused { IfErr result (λ fault. (request_read (S.octets src.old) ≡ Err fault)
-            ⊎ (fault ≡ RequestFault.OutOfMemory)) }
-    {
-        values_that_their_nodes_cannot_take_change_no_write(&self.nodes);
-        read_request_for(alloc, src, self)
     }
 
     /// The body of the response to a request, the answered request, and the results of a Write.
