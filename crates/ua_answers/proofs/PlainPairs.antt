@@ -1,6 +1,6 @@
 -- Lines of answers as people write values and times, one at a time.
-use Rattle.std.proofs.Common.{◌≡◌, ℕ, zero, suc, ◌+◌, ◌<◌, ◌≤◌, List, [], ◌∷◌, ◌++◌, length, take, get_or, slice_get, Some, Result, Ok}
-use Rattle.std.proofs.Common.{Err, is_ok, if◌then◌else◌, codes, refl, sym, subst, ◌∙◌, ap, arith, append-nil, append_assoc, take_all}
+use Rattle.std.proofs.Common.{◌≡◌, ℕ, zero, suc, ◌+◌, ◌<◌, List, [], ◌∷◌, ◌++◌, length, take, get_or, slice_get, Some, Result, Ok}
+use Rattle.std.proofs.Common.{Err, is_ok, if◌then◌else◌, codes, refl, sym, subst, ◌∙◌, ap, arith, append-nil, append_assoc}
 use Rattle.ua_builtin.specs.declared.node_id.NodeId.{NodeId}
 use Rattle.ua_variant.specs.declared.values.DataValue.{DataValue}
 use Rattle.ua_answers.specs.Answers.{status_text}
@@ -43,14 +43,6 @@ pairs_next Is xs ys n x y start now new a e b h p q =
       q.1 ∙ ap (λ (t : List ℕ). t ++ q.0) p.1 ∙ append_assoc start p.0 q.0,
       subst (λ (m : ℕ). ArePairs Is (take m xs) (take m ys) (p.0 ++ q.0)) (sym next) grown,
     )
-
--- all lines
-pub pairs_all : {A B : Type 0} (Is : A → B → List ℕ → Type 0) (xs : List A) (ys : List B) (n : ℕ) (start now : List ℕ) → length xs ≤ n → length ys ≤ n
-    → Grown start now (ArePairs Is (take n xs) (take n ys))
-    → Grown start now (ArePairs Is xs ys)
-pairs_all Is xs ys n start now h k p =
-    subst (λ (l : List _). Grown start now (ArePairs Is l ys)) (take_all n xs h)
-    (subst (λ (l : List _). Grown start now (ArePairs Is (take n xs) l)) (take_all n ys k) p)
 
 -- ---- one line
 

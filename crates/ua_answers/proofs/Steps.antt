@@ -114,11 +114,6 @@ no_word word rest a b c (Read node range) h = a (first_of word (codes "read") re
 no_word word rest a b c (Write node value) h = b (first_of word (codes "write") rest (h.id ∷ h.kind ∷ h.text ∷ []) h.parts)
 no_word word rest a b c Renew h = c (first_of word (codes "renew") rest [] h) (let e : rest ≡ [] = cc in e)
 
-pub one_word : (line : List ℕ) → (line ≡ codes "renew" → ⊥) → AsksNothing (line ∷ [])
-one_word line never (Read node range) h = let long = ap length h.parts in omega arith
-one_word line never (Write node value) h = let long = ap length h.parts in omega arith
-one_word line never Renew h = never (first_of line (codes "renew") [] [] h)
-
 -- a word and fields behind it
 pub no_first : (word rest : List ℕ) → (word ≡ codes "read" → ⊥) → (word ≡ codes "write" → ⊥) → AsksNothing (word ∷ pieces 9 rest)
 no_first word rest a b = no_word word (pieces 9 rest) a b (λ e none. let few = ap length none in let some = at_least_one 9 rest in omega arith)

@@ -177,11 +177,6 @@ ack-none : (o : Option Ack) → tokens-told (told_ack o) ≡ 0
 ack-none None = refl
 ack-none (Some a) = refl
 
-opening-none : (rs qs : List OpenResponse) → rs ≡ [] → tokens-told (map (told_response rs) qs) ≡ 0
-opening-none [] [] e = refl
-opening-none [] (q ∷ qs) e = opening-none [] qs e
-opening-none (r ∷ rs) qs e = absurd cc
-
 -- ---- by the reasons
 
 pub none-holds : {A : Type 0} (rs : List (A × Bool)) → first_reason rs ≡ None → AllByRecursion (λ (r : A × Bool). r.1 ≡ false) rs

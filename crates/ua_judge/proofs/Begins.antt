@@ -91,11 +91,6 @@ first_with : (us : List (List ℕ)) (f : List ℕ) (own : Option RequestKind) �
 first_with [] f own = refl
 first_with (u ∷ us) f own = refl
 
--- a frame that is no chunk of a MSG
-pub begun_unless : (begun : List Begun) (before : List (List ℕ)) (f : List ℕ) → ((m : ℕ) → is_chunk_of m f ≡ false) → AreBegun begun before
-    → AreBegun begun (before ++ f ∷ [])
-begun_unless begun before f none h = λ m own. h m own ∙ ap (λ (us : List (List ℕ)). first_kind us own) (sym (chunks_unless m before f (none m)))
-
 chunk_is : (m place : ℕ) (f : List ℕ) → kind_of f ≡ Some Msg → id_place f ≡ Some place → is_chunk_of m f ≡ (number_from place f == m)
 chunk_is m place f kind at = ap (λ k. is_chunk_by m k (id_place f) f) kind ∙ ap (λ p. is_chunk_by m (Some Msg) p f) at
 

@@ -98,11 +98,6 @@ unfinished_own m before f h =
     ∙ (ap (λ (t : List (List ℕ)). is_some (head_of t)) (after_last_push is_last (filter (has_id m) before) f)
     ∙ some_front (after_last is_last (filter (has_id m) before)) f (is_last f))
 
--- a frame without an id
-pub unfinished_none : (ids : List ℕ) (before : List (List ℕ)) (f : List ℕ) → id_place f ≡ None → AreUnfinished ids before
-    → AreUnfinished ids (before ++ f ∷ [])
-unfinished_none ids before f none h = λ m. h m ∙ sym (unfinished_other m before f (ap (λ p. has_id_at m p f) none))
-
 not_not : (b : Bool) → not (not b) ≡ b
 not_not true = refl
 not_not false = refl
@@ -275,10 +270,6 @@ guessed_none up requests octets ids marks none b = record {
 begin_place : (octets rest : List ℕ) (frames : List (List ℕ)) → octets ≡ joined_parts frames ++ rest
     → length octets - length rest ≡ length (joined_parts frames)
 begin_place octets rest frames whole = omega (arith, ap length whole, length-append (joined_parts frames) rest)
-
-pub guessed_shorter : (up : List ℕ) (requests : List Named) (octets rest ids : List ℕ) (sent : ℕ) (marks : List Mark)
-    → GuessedTo up requests octets rest ids sent marks → length rest ≤ length octets
-guessed_shorter up requests octets rest ids sent marks g = omega (arith, ap length g.whole, length-append (joined_parts g.frames) rest)
 
 module _ (up : List ℕ) (requests : List Named) (octets rest frame more ids left : List ℕ) (sent : ℕ) (marks : List Mark)
     (g : GuessedTo up requests octets rest ids sent marks) (parts : rest ≡ frame ++ more) (raw : IsRawFrame frame)

@@ -1,7 +1,5 @@
 -- Texts that grow by one part after the other.
 use Rattle.std.proofs.Common.{◌≡◌, ℕ, Bool, true, cond, List, [], ◌∷◌, ◌++◌, Result, Ok, Err, OnOk, sym, ◌∙◌, ap, append_assoc, append-nil}
-use Rattle.std.proofs.lemmas.Grind.{flat_map-append}
-use Rattle.std.specs.List.{flat_map}
 use Rattle.ua_nodes.specs.Table.{Nodes}
 use Rattle.ua_node_files.specs.Standard.{StandardLine, added_line, lacks}
 
@@ -24,10 +22,3 @@ added_so (Err x) old a whole new e h = tt
 -- the line of a node that is lacking
 pub lacking : (nodes : Nodes) (line : StandardLine) → lacks nodes line.number ≡ true → 10 ∷ line.text ≡ added_line nodes line
 lacking nodes line e = sym (ap (λ (t : Bool). cond t (10 ∷ line.text) []) e)
-
--- two runs of lines behind a text
-pub both_added : (f : StandardLine → List ℕ) (xs ys : List StandardLine) (text one two : List ℕ) → one ≡ text ++ flat_map f xs → two ≡ one ++ flat_map f ys
-    → two ≡ text ++ flat_map f (xs ++ ys)
-both_added f xs ys text one two h k =
-    k ∙ ap (λ (t : List ℕ). t ++ flat_map f ys) h ∙ append_assoc text (flat_map f xs) (flat_map f ys)
-    ∙ ap (λ (t : List ℕ). text ++ t) (sym (flat_map-append f xs ys))

@@ -72,13 +72,6 @@ first-passed old new moment piece n answer answers progress closed limits channe
 pub fewer : (l m n d : ℕ) → m < l → d ≡ l - m → n ≤ d → (0 < d → 0 < n) → l - (m + n) < l - m
 fewer l m n d h e k some = let more = some (omega (arith, h, e)) in omega (arith, h, e, k, more)
 
-pub fewer-left : (piece : List ℕ) (taken n : ℕ) (answer : Result ServerEvent ChannelFault) → taken < length piece → Progress (rest_of piece taken) n answer
-    → is_given_up answer ≡ true
-    → length piece - (taken + n) < length piece - taken
-fewer-left piece taken n answer h p e =
-    fewer (length piece) taken n (length (rest_of piece taken)) h (rest-length piece taken) (progress-within (rest_of piece taken) n answer p)
-    (progress-some (rest_of piece taken) n answer p e)
-
 more-taken : (m n : ℕ) → 0 < m → 0 < m + n
 more-taken m n h = omega (arith, h)
 

@@ -68,13 +68,6 @@ part_2 f source server x = source ++ part_3 f server x
 abbrev part_1 : Bool → DataFields → List ℕ → List ℕ → List ℕ → List ℕ
 part_1 names f source server x = status_part names (codes "status") f.status ++ part_2 f source server x
 
--- the texts of the timestamps
-abbrev source_of : (names : Bool) (f : DataFields) (a : List ℕ) → IsPlainFields names f a → List ℕ
-source_of names f a p = p.3.0
-
-abbrev server_of : (names : Bool) (f : DataFields) (a : List ℕ) → IsPlainFields names f a → List ℕ
-server_of names f a p = p.4.0
-
 parts_joined : (names : Bool) (f : DataFields) (a x : List ℕ) (p : IsPlainFields names f a) → a ++ close x ≡ part_1 names f p.3.0 p.4.0 x
 parts_joined names f a x p =
     ap (λ (t : List ℕ). t ++ close x) p.2

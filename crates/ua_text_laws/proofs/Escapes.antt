@@ -108,10 +108,6 @@ same_marked marks a b h k e =
 
 -- ---- marked texts have no mark
 
--- not one of `|`, `;`, `,`, `(`, `)`, `{`, `}`
-abbrev IsPlainByte : ℕ → Type 0
-IsPlainByte b = (b ≢ 124) × (b ≢ 59) × (b ≢ 44) × (b ≢ 40) × (b ≢ 41) × (b ≢ 123) × (b ≢ 125)
-
 no_mark : (marks : _) (b : ℕ) → b ≢ 124 → b ≢ 59 → b ≢ 44 → b ≢ 40 → b ≢ 41 → b ≢ 123 → b ≢ 125 → not (is_mark marks b) ≡ true
 no_mark marks b h1 h2 h3 h4 h5 h6 h7 = grind (arith, nat_tests)
 

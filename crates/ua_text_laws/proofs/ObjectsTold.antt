@@ -7,7 +7,6 @@ use Rattle.base64.specs.GeneralPurpose.{IsBytes, IsConsistent, decode_of, encode
 use Rattle.base64.specs.declared.decode.DecodeError.{DecodeError}
 use Rattle.base64.proofs.EngineFacts.{decode_of-encode_of}
 use Rattle.json.specs.Json as json
-use Rattle.json.specs.Json.{Json}
 use Rattle.uuid.specs.Text.{hyphenated_text, lower, parsed}
 use Rattle.uuid.proofs.RoundTrips.{parses_hyphenated}
 use Rattle.uuid.proofs.TextLemmas.{all_fit}
@@ -57,9 +56,6 @@ same_guid g f h k e =
     ap (λ (u : List ℕ). let made : Guid = record { uuid = u } in made) same
 
 -- ---- NodeIds
-
-abbrev letters : Identifier → Identifier → Type 0
-letters i j = identifier_letter i ≡ identifier_letter j
 
 one_identifier : (i j : Identifier) → IdentifierKeeps i → IdentifierKeeps j → identifier_letter i ≡ identifier_letter j → identifier_json i ≡ identifier_json j
     → i ≡ j

@@ -70,10 +70,6 @@ one_part Keeps Shows name one (Some v) (Some w) a b x y h k p q s t u z e =
 
 -- ---- names
 
--- a name that is written out has no space, and is not another
-pub solid_name : (name : List ℕ) → only_test is_solid name ≡ true → Only is_solid name
-solid_name name h = Only-test is_solid name h
-
 pub other_name : (a b : List ℕ) → bytes_eq a b ≡ false → a ≡ b → ⊥
 other_name a b h e = false≢true (sym h ∙ (bytes_eq-Decides a b).1 e)
 
