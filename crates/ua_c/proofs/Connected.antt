@@ -1,5 +1,5 @@
 -- What nodes, and connections over them, do for C.
-use Rattle.std.proofs.Common.{◌≡◌, ◌<◌, ℕ, List, [], length, Option, Result, IsTrue, refl, sym, subst, ap, inl, arith}
+use Rattle.std.proofs.Common.{◌≡◌, ◌<◌, ℕ, List, [], length, Option, Result, IsTrue, sym, subst, ap, inl, arith}
 use Rattle.ua_builtin.specs.declared.date_time.DateTime.{DateTime}
 use Rattle.ua_frame.specs.declared.limits.Limits.{Limits}
 use Rattle.ua_server.specs.declared.step.Step.{Step}
@@ -16,7 +16,6 @@ use Rattle.ua_c.specs.Status.{fetch_first, other_handle}
 use Rattle.ua_c.specs.Telling.{untold_in}
 use Rattle.ua_c.specs.Texts.{IsString, IsStringOf}
 use Rattle.ua_c.specs.declared.holding.Holding.{Holding}
-use Rattle.ua_c.specs.declared.holding.Machine.{Machine}
 use Rattle.ua_c.specs.declared.holding.Machine.TheVariants as machine
 use Rattle.ua_c.specs.declared.limits.UaLimits.{UaLimits}
 use Rattle.ua_c.specs.declared.report.Report.{Report}
@@ -90,23 +89,6 @@ nodes_made file url application_uri name most old new line reason status shared 
   no_reason = no_reason;
   seated = seated;
 })
-
--- what it does where the second handle holds no nodes
-pub steps_other : (old new before after : Holding) (piece : List ℕ) (moment : DateTime) (report : Report) (was : ServedConnection)
-    → old.machine ≡ machine.Connection was → ((s : SharedNodes) → before.machine ≡ machine.Nodes s → ⊥)
-    → new ≡ old → after ≡ before → report ≡ status_report other_handle → StepsShared old new before after piece moment report
-steps_other old new before after piece moment report was was_is other same kept told =
-    subst (λ m. OfShared m before.machine (SaysOnly report before after other_handle × (new ≡ old))
-    (λ c s. WhereNone old new (SaysOnly report before after) (StepsConnection c s new before after piece moment report))) (sym was_is)
-    (by before.machine other)
-  where
-    by : (m : Machine) → ((s : SharedNodes) → m ≡ machine.Nodes s → ⊥)
-        → OfNodes m (SaysOnly report before after other_handle × (new ≡ old))
-        (λ s. WhereNone old new (SaysOnly report before after) (StepsConnection was s new before after piece moment report))
-    by (machine.Server station) none = ((told, kept), same)
-    by (machine.Client client) none = ((told, kept), same)
-    by (machine.Nodes shared) none = absurd (none shared refl)
-    by (machine.Connection connection) none = ((told, kept), same)
 
 -- what it does where octets wait
 pub steps_waiting : (old new before after : Holding) (piece : List ℕ) (moment : DateTime) (report : Report) (was : ServedConnection) (shared : SharedNodes)

@@ -4,7 +4,6 @@ use Rattle.ua_c.specs.Handled.{OfHandles, OfNodes, OfShared}
 use Rattle.ua_c.specs.Status.{other_handle}
 use Rattle.ua_c.specs.Telling.{SaysNoItem, TellsHeld, TellsNext, TellsWritten, untold_in}
 use Rattle.ua_c.specs.declared.holding.Holding.{Holding}
-use Rattle.ua_c.specs.declared.holding.Machine.{Machine}
 use Rattle.ua_c.specs.declared.holding.Machine.TheVariants as machine
 use Rattle.ua_c.specs.declared.shared.SharedNodes.{SharedNodes}
 use Rattle.ua_c.specs.declared.untold.ServedConnection.{ServedConnection}
@@ -35,21 +34,6 @@ pub tells_lent : (lent old new shown nodes : Holding) (before after : List ℕ) 
     → TellsWritten lent new shown before after told → TellsWritten old new nodes before after told × (nodes ≡ nodes)
 tells_lent lent old new shown nodes before after told is are tells =
     (subst (λ n. TellsWritten old new n before after told) are (subst (λ o. TellsWritten o new shown before after told) is tells), refl)
-
--- where the second handle holds no nodes
-pub tells_other : (old new nodes : Holding) (before after : List ℕ) (told : ToldItem) (served : ServedConnection) → old.machine ≡ machine.Connection served
-    → ((s : SharedNodes) → nodes.machine ≡ machine.Nodes s → ⊥)
-    → SaysNoItem before after told other_handle → new ≡ old → TellsWritten old new nodes before after told
-tells_other old new nodes before after told served was_is other none same =
-    subst (λ m. OfShared m nodes.machine (SaysNoItem before after told other_handle × (new ≡ old)) (λ c s. TellsHeld c s old new before after told))
-    (sym was_is) (by nodes.machine other)
-  where
-    by : (m : Machine) → ((s : SharedNodes) → m ≡ machine.Nodes s → ⊥)
-        → OfNodes m (SaysNoItem before after told other_handle × (new ≡ old)) (λ s. TellsHeld served s old new before after told)
-    by (machine.Server station) others = (none, same)
-    by (machine.Client client) others = (none, same)
-    by (machine.Nodes shared) others = absurd (others shared refl)
-    by (machine.Connection connection) others = (none, same)
 
 -- two handles that hold something
 pub of_handles : (c d n m : Option Holding) (says : ℕ → Type 0) (P : Holding → Holding → Holding → Holding → Type 0) (old new before after : Holding)

@@ -140,9 +140,6 @@ request_rows r on channel count =
     ∷ (0x807F_0000, ltb 0 count && not (eqb on channel)) ∷ []
 
 module _ (channel count on sequence request : ℕ) (body behind : List ℕ) (h : HasHeaders body on sequence request behind) where
-  abbrev opening : Opening
-  opening = record { security = Some h.header; numbers = Some (sequence, request); body = behind }
-
   -- a body that is no request
   pub refuses_body : (limits : Limits) (before : Received) → body_of (message 446 open_request) behind ≡ None
       → first_reason (server_reasons limits channel before (Opens (opening_of body))) ≡ Some 0x8007_0000

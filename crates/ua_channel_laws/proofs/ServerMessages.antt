@@ -17,9 +17,6 @@ use Rattle.ua_channel.specs.ServerRules.{server_rules}
 use Rattle.ua_channel.specs.ServerTold.{issued, opened_by, request_of, server_tells, told_under}
 use Rattle.ua_channel.proofs.OneFrameMore.{found_all, given_in}
 
-abbrev Message : Type 0
-Message = ℕ × Option (List ℕ)
-
 items_in : (token : ℕ) (items : List Item) → messages_in (map (told_under token) items) ≡ map message_of_item items
 items_in token [] = refl
 items_in token (Whole id octets ∷ is) = rw (items_in token is)

@@ -173,10 +173,6 @@ fine_abort octets chunks before c e r = record {
   chunks_fit = ap (λ b. not b && passes chunks (length (gathered before c))) e;
 }
 
-record Holds (m : Sent) (octets count : ℕ) : Type 0 where
-  octets_less : octets ≤ length (flat_map (λ p. p) (bodies_by m.end m))
-  count_less : count ≤ length (bodies_by m.end m)
-
 holds_pieces : (f : Flag) (m : Sent) (octets count : ℕ) → octets ≤ length (flat_map (λ p. p) m.pieces) → count ≤ length m.pieces
     → (octets ≤ length (flat_map (λ p. p) (bodies_by f m))) × (count ≤ length (bodies_by f m))
 holds_pieces F m octets count h k = (

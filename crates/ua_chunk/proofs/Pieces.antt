@@ -205,10 +205,6 @@ chunks_octets-one c = append-nil (frame_octets (frame_of c))
 pub extends_then : (a b c : List ℕ) → Extends a b → Extends b c → Extends a c
 extends_then a b c e f = record { more = e.more ++ f.more; parts = f.parts ∙ ap (λ (t : List ℕ). t ++ f.more) e.parts ∙ append_assoc a e.more f.more }
 
-pub cut_starts : (lane : Lane) (id from : ℕ) (body before : List ℕ) → 0 < length body → from ≤ 4294966272 → CutSoFar lane id body from before body from before
-cut_starts lane id from body before some small =
-    record { parts = refl; after = refl; some = some; small = small; extends = record { more = []; parts = sym (append-nil before) } }
-
 next_small_by : (t : Bool) (n : ℕ) → eqb n 4294966272 ≡ t → n ≤ 4294966272 → cond t 1 (n + 1) ≤ 4294966272
 next_small_by true n e h = omega arith
 next_small_by false n e h = let other : n ≡ 4294966272 → ⊥ = eqb-false n 4294966272 e in omega arith

@@ -1,6 +1,6 @@
 -- What reads and writes leave.
 use Rattle.std.proofs.Common.{◌≡◌, ◌<◌, ◌≤◌, ◌⊎◌, inl, inr, ℕ, Bool, true, false, List, [], ◌∷◌, ◌++◌, length, length-drop, take, drop}
-use Rattle.std.proofs.Common.{Option, None, Some, Result, Ok, Err, refl, sym, ap, subst, ◌∙◌, append_assoc, append-nil, arith, ◌==◌}
+use Rattle.std.proofs.Common.{Option, None, Some, Result, Err, refl, sym, ap, subst, ◌∙◌, append_assoc, append-nil, arith, ◌==◌}
 use Rattle.std.proofs.lemmas.List.{take-append-drop}
 use Rattle.std.specs.Option.{option_map}
 use Rattle.std.specs.Prelude.{cond, is_some}
@@ -11,11 +11,10 @@ use Rattle.ua_server.specs.declared.step.End.TheVariants as ending
 use Rattle.ua_concurrent.specs.Carried.{Carried, with_read, with_more_written}
 use Rattle.ua_concurrent.specs.Standing.{HasCome, TalkStands}
 use Rattle.ua_concurrent.specs.Talk.{Talk, are_there, is_going, is_ready, ready_of}
-use Rattle.ua_concurrent.specs.Turning.{SteppedAndWrote, CameTo, Failed, Finished, FinishesTalk, HadTurn, IsTalkIdle, IsTalkOver, Moves}
-use Rattle.ua_concurrent.specs.Turning.{Read, ReadsSocket, ReadsNothing, ReadsSome, Stepped, Stopped, Turned, WritesSocket, WroteToSocket}
+use Rattle.ua_concurrent.specs.Turning.{SteppedAndWrote, Failed, Finished, HadTurn, IsTalkOver, Moves}
+use Rattle.ua_concurrent.specs.Turning.{Read, ReadsSocket, ReadsNothing, Stepped, Stopped, WritesSocket, WroteToSocket}
 use Rattle.ua_concurrent.specs.declared.outcome.Failure.{Failure}
 use Rattle.ua_concurrent.specs.declared.outcome.Failure.TheVariants as failure
-use Rattle.ua_concurrent.specs.declared.outcome.Phase.{Phase}
 use Rattle.ua_concurrent.specs.declared.outcome.Phase.TheVariants as phase
 
 -- what was heard is what was heard before, with more
@@ -122,12 +121,6 @@ module _ {S : Type 0} (heard : S → Option Carried) where
   number_writes writable a b (inr (inl w)) = ap (λ (t : Talk S). t.number) w.is
   number_writes writable a b (inr (inr w)) = ap (λ (t : Talk S). t.number) w.is
 
-  pub number_reads : (readable : S → Bool) (a b : Talk S) → ReadsSocket heard readable a b → b.number ≡ a.number
-  number_reads readable a b (inl w) = ap (λ (t : Talk S). t.number) w.is
-  number_reads readable a b (inr (inl w)) = ap (λ (t : Talk S). t.number) w.is
-  number_reads readable a b (inr (inr (inl w))) = ap (λ (t : Talk S). t.number) w.is
-  number_reads readable a b (inr (inr (inr w))) = ap (λ (t : Talk S). t.number) w.is
-
   -- ---- a write reads nothing, and leaves it over only where it failed
 
   told_on : (f : Carried → Carried) (x y : Option Carried) (c : Carried) → y ≡ option_map f x → x ≡ Some c → y ≡ Some (f c)
@@ -173,9 +166,6 @@ module _ {S : Type 0} (heard : S → Option Carried) where
   stepped_nothing : (a b : Talk S) → Stepped a b → ReadsNothing heard a b
   stepped_nothing a b s = λ c e. (c, ap heard s.socket_is ∙ e, refl)
 
-  nothing_trans : (a b c : Talk S) → ReadsNothing heard a b → ReadsNothing heard b c → ReadsNothing heard a c
-  nothing_trans a b c f g = λ x e. let d = f x e in let z = g d.0 d.1 in (z.0, z.1, z.2 ∙ d.2)
-
   pub answered_stepped : (a b : Talk S) → a.outcome ≡ None → Stepped a b → SteppedAndWrote heard a b
   answered_stepped a b still s = record {
     number_is = s.number_is;
@@ -184,90 +174,9 @@ module _ {S : Type 0} (heard : S → Option Carried) where
     over = over_none b.outcome b (s.outcome_is ∙ still);
   }
 
-  pub answered_writes : (writable : S → Bool) (a b d : Talk S) → a.outcome ≡ None → Stepped a b → 0 < length b.waiting → WritesSocket heard writable b d
-      → SteppedAndWrote heard a d
-  answered_writes writable a b d still s some w = record {
-    number_is = number_writes writable b d w ∙ s.number_is;
-    fewer = subst (λ (p : Phase). (is_going p ≡ false) ⊎ (length d.unread < length a.unread)) (sym (phase_writes w))
-        (subst (λ (x : List ℕ). (is_going b.phase ≡ false) ⊎ (length x < length a.unread)) (sym (unread_writes w)) s.fewer);
-    reads = nothing_trans a b d (stepped_nothing a b s) (nothing_writes writable b d w);
-    over = over_writes writable b d (s.outcome_is ∙ still) some w;
-  }
-    where
-      phase_writes : WritesSocket heard writable b d → d.phase ≡ b.phase
-      phase_writes (inl w) = ap (λ (t : Talk S). t.phase) w.is
-      phase_writes (inr (inl w)) = ap (λ (t : Talk S). t.phase) w.is
-      phase_writes (inr (inr w)) = ap (λ (t : Talk S). t.phase) w.is
-
-      unread_writes : WritesSocket heard writable b d → d.unread ≡ b.unread
-      unread_writes (inl w) = ap (λ (t : Talk S). t.unread) w.is
-      unread_writes (inr (inl w)) = ap (λ (t : Talk S). t.unread) w.is
-      unread_writes (inr (inr w)) = ap (λ (t : Talk S). t.unread) w.is
-
   -- ---- turns
 
   module _ (readable writable : S → Bool) where
-    pub turned_answered : (a b : Talk S) → SteppedAndWrote heard a b → Turned heard readable writable a b
-    turned_answered a b s = record { number_is = s.number_is; moves = by s.fewer; over = s.over }
-      where
-        by : (is_going b.phase ≡ false) ⊎ (length b.unread < length a.unread) → Moves heard readable writable a b
-        by (inl e) = inr (inr (inr (inl e)))
-        by (inr e) = inr (inr (inl e))
-
-    came_finished : (end : End) (t : Talk S) → IsTalkIdle t → FinishesTalk end t → IsTalkOver (Some (Ok end)) t
-    came_finished ending.NoClose t i f = (i, f)
-    came_finished ending.Cut t i f = (i, f)
-    came_finished ending.Closed t i f = absurd f
-    came_finished (ending.Refused code) t i f = absurd f
-
-    ready_idle : (t : Talk S) → t.outcome ≡ None → IsTalkIdle t → is_ready readable writable t ≡ readable t.socket
-    ready_idle t still i =
-        let r = readable t.socket in
-        let w = writable t.socket in
-        ap (λ (o : Option (Result End Failure)). ready_of o t.waiting t.phase t.unread r w) still
-        ∙ ap (λ (x : List ℕ). ready_of None x t.phase t.unread r w) i.2
-        ∙ ap (λ (p : Phase). ready_of None [] p t.unread r w) i.0
-        ∙ ap (λ (x : List ℕ). ready_of None [] phase.Going x r w) i.1
-
-    pub turned_reads : (a b : Talk S) → IsTalkIdle a → a.outcome ≡ None → length b.unread ≡ 0 → ReadsSocket heard readable a b
-        → Turned heard readable writable a b
-    turned_reads a b i still none r = record { number_is = number_reads readable a b r; moves = moves r; over = over r }
-      where
-        idle_b : (t : Talk S) → b ≡ t → IsTalkIdle t → IsTalkIdle b
-        idle_b t e j = subst (λ (x : Talk S). IsTalkIdle x) (sym e) j
-
-        moves : ReadsSocket heard readable a b → Moves heard readable writable a b
-        moves (inl w) = let more : 0 < length b.unread = subst (λ (x : List ℕ). 0 < length x) (sym (ap (λ (t : Talk S). t.unread) w.is)) w.some in absurd
-            (omega (arith, none, more))
-        moves (inr (inl w)) = inl (ap (λ (t : Talk S). is_some t.outcome) w.is)
-        moves (inr (inr (inl w))) = inr (inr (inr (inr (inr (ready_idle b (ap (λ (t : Talk S). t.outcome) w.is ∙ still) (idle_b _ w.is i) ∙ w.unable)))))
-        moves (inr (inr (inr w))) = inl (ap (λ (t : Talk S). is_some t.outcome) w.is)
-
-        over : ReadsSocket heard readable a b → IsTalkOver b.outcome b
-        over (inl w) = over_none b.outcome b (ap (λ (t : Talk S). t.outcome) w.is ∙ still)
-        over (inr (inl w)) = over_as b.outcome (Some (Ok w.end)) b (ap (λ (t : Talk S). t.outcome) w.is)
-            (came_finished w.end b (idle_b _ w.is (i.0, refl, i.2)) w.fits)
-        over (inr (inr (inl w))) = over_none b.outcome b (ap (λ (t : Talk S). t.outcome) w.is ∙ still)
-        over (inr (inr (inr w))) = over_as b.outcome (Some (Err failure.Read)) b (ap (λ (t : Talk S). t.outcome) w.is) (idle_b _ w.is i)
-
-    pub turned_read_answered : (a b d : Talk S) → a.unread ≡ [] → ReadsSocket heard readable a b → 0 < length b.unread → SteppedAndWrote heard b d
-        → Turned heard readable writable a d
-    turned_read_answered a b d none r some s = record {
-      number_is = s.number_is ∙ number_reads readable a b r;
-      moves = inr (inr (inr (inr (inl (grew r)))));
-      over = s.over;
-    }
-      where
-        no : (xs : List ℕ) → b.unread ≡ xs → xs ≡ [] → ReadsSome heard a d
-        no xs e f = let z : 0 < length {A = ℕ} [] = subst (λ (x : List ℕ). 0 < length x) (e ∙ f) some in absurd (omega (arith, z))
-
-        grew : ReadsSocket heard readable a b → ReadsSome heard a d
-        grew (inl w) = λ c e. let z = s.reads (with_read w.piece c) (told_on (with_read w.piece) (heard a.socket) (heard b.socket) c w.heard_is e) in
-            (z.0, w.piece, z.1, z.2, w.some, w.within)
-        grew (inr (inl w)) = no [] (ap (λ (t : Talk S). t.unread) w.is) refl
-        grew (inr (inr (inl w))) = no a.unread (ap (λ (t : Talk S). t.unread) w.is) none
-        grew (inr (inr (inr w))) = no a.unread (ap (λ (t : Talk S). t.unread) w.is) none
-
     ready_open : (t : Talk S) → is_ready readable writable t ≡ true → t.outcome ≡ None
     ready_open t e = by t.outcome refl
       where
@@ -275,15 +184,6 @@ module _ {S : Type 0} (heard : S → Option Carried) where
         by None f = f
         by (Some o) f = let no : true ≡ false = sym e
             ∙ ap (λ (y : Option (Result End Failure)). ready_of y t.waiting t.phase t.unread (readable t.socket) (writable t.socket)) f in cc
-
-    pub had_none : (a : Talk S) → is_ready readable writable a ≡ false → HadTurn heard readable writable a a
-    had_none a e = record {
-      number_is = refl;
-      idle = λ f. refl;
-      moves = λ f. let no : true ≡ false = sym f ∙ e in cc;
-      waits = λ f c g. (c, g, refl);
-      over = λ f. over_none a.outcome a f;
-    }
 
     ready_waiting : (t : Talk S) → t.outcome ≡ None → 0 < length t.waiting → is_ready readable writable t ≡ writable t.socket
     ready_waiting t still some =
@@ -309,23 +209,3 @@ module _ {S : Type 0} (heard : S → Option Carried) where
         moves (inr (inl w)) = inr (inr (inr (inr (inr (ready_waiting b (ap (λ (t : Talk S). t.outcome) w.is ∙ ready_open a ready)
             (subst (λ (x : List ℕ). 0 < length x) (sym (ap (λ (t : Talk S). t.waiting) w.is)) some) ∙ w.unable)))))
         moves (inr (inr w)) = inl (ap (λ (t : Talk S). is_some t.outcome) w.is)
-
-    pub had_over : (a b : Talk S) (o : Result End Failure) → is_ready readable writable a ≡ true → a.waiting ≡ [] → b ≡ record a { outcome = Some o }
-        → CameTo o b → HadTurn heard readable writable a b
-    had_over a b o ready none is came = record {
-      number_is = ap (λ (t : Talk S). t.number) is;
-      idle = λ f. let no : true ≡ false = sym ready ∙ f in cc;
-      moves = λ f. inl (ap (λ (t : Talk S). is_some t.outcome) is);
-      waits = λ f. let z : 0 < length {A = ℕ} [] = subst (λ (x : List ℕ). 0 < length x) none f in absurd (omega (arith, z));
-      over = λ f. over_as b.outcome (Some o) b (ap (λ (t : Talk S). t.outcome) is) came;
-    }
-
-    pub had_turned : (a b : Talk S) → is_ready readable writable a ≡ true → a.waiting ≡ [] → Turned heard readable writable a b
-        → HadTurn heard readable writable a b
-    had_turned a b ready none t = record {
-      number_is = t.number_is;
-      idle = λ f. let no : true ≡ false = sym ready ∙ f in cc;
-      moves = λ f. t.moves;
-      waits = λ f. let z : 0 < length {A = ℕ} [] = subst (λ (x : List ℕ). 0 < length x) none f in absurd (omega (arith, z));
-      over = λ f. t.over;
-    }

@@ -1,6 +1,6 @@
 -- What a turn at one place leaves of all places.
 use Rattle.std.proofs.Common.{◌≡◌, ◌≢◌, ◌<◌, ◌≤◌, ◌+◌, ◌⊎◌, inl, inr, ℕ, zero, suc, List, [], ◌∷◌, ◌++◌, length, replicate, Option, None}
-use Rattle.std.proofs.Common.{Some, Bool, true, false, refl, sym, ap, subst, ◌∙◌, append_assoc, append-nil, arith, slice_get, slice_set}
+use Rattle.std.proofs.Common.{Some, Bool, true, false, refl, sym, ap, subst, ◌∙◌, append_assoc, arith, slice_get, slice_set}
 use Rattle.std.proofs.Math.ListN.{length-set}
 use Rattle.ua_server.specs.Sharing.{SharedEvent, opened, shared_over}
 use Rattle.ua_server.specs.State.{State}
@@ -224,12 +224,6 @@ module _ {S : Type 0} (heard : S → Option Carried) where
             v.stand;
       }
 
-  -- nothing was done
-  pub together_same : (es : List SharedEvent) (first now : State) (last : ℕ) (places : List (Option (Talk S))) → StandTogether heard es first now last places
-      → GoOn heard es first now last places
-  together_same es first now last places s =
-      record { more = []; stand = subst (λ (all : List SharedEvent). StandTogether heard all first now last places) (sym (append-nil es)) s }
-
   module _ (readable writable : S → Bool) where
     -- the places before this one had their turn
     pub record RoundTo (n : ℕ) (before after : List (Option (Talk S))) : Type 0 where
@@ -237,9 +231,6 @@ module _ {S : Type 0} (heard : S → Option Carried) where
       pub free : (p : ℕ) → IsFree before p → IsFree after p
       pub each : (p : ℕ) (a : Talk S) → p < n → IsAt before p a → (b : Talk S) × IsAt after p b × HadTurn heard readable writable a b
       pub still : (p : ℕ) → n ≤ p → slice_get after p ≡ slice_get before p
-
-    pub round_none : (places : List (Option (Talk S))) → RoundTo 0 places places
-    round_none places = record { count = refl; free = λ p f. f; each = λ p a h. absurd (omega (arith, h)); still = λ p h. refl }
 
     pub round_next : (n : ℕ) (before mid after : List (Option (Talk S))) → RoundTo n before mid → TurnsAt heard readable writable n mid after
         → RoundTo (n + 1) before after
@@ -293,12 +284,3 @@ module _ {S : Type 0} (heard : S → Option Carried) where
         together_turn es first before now last p a b places (slice_set places p (Some b)) here
         (get_same places p (Some b) within) (λ q n. get_other places p q (Some b) n) same s
         (went es s.state_is (s.each p a here))
-
-    -- the place is free
-    pub free_turn : (places : List (Option (Talk S))) (p : ℕ) → IsFree places p → TurnsAt heard readable writable p places places
-    free_turn places p f = record {
-      count = refl;
-      others = λ q n. refl;
-      free = λ e. e;
-      turn = λ a e. let no : Some (Some a) ≡ Some None = sym e ∙ f in cc;
-    }

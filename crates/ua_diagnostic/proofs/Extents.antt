@@ -78,10 +78,6 @@ product_next ds i all n h f is factor =
 abbrev pub with_sizes : List ℤ → Option (List ℤ × List ℕ) → Option (List ℤ × List ℕ)
 with_sizes ds r = r >>= λ x. Some (ds ++ x.0, x.1)
 
-pub sizes_none : (r : Option (List ℤ × List ℕ)) → with_sizes [] r ≡ r
-sizes_none None = refl
-sizes_none (Some x) = refl
-
 sizes_push : (ds : List ℤ) (d : ℤ) (r : Option (List ℤ × List ℕ)) → with_sizes ds (r >>= λ x. Some (d ∷ x.0, x.1)) ≡ with_sizes (ds ++ d ∷ []) r
 sizes_push ds d None = refl
 sizes_push ds d (Some x) = ap (λ y. Some (y, x.1)) (sym (append_assoc ds (d ∷ []) x.0))
@@ -104,9 +100,6 @@ sizes_so_far {one} {e} ds d count counter start old new lt pushed same read befo
 
 pub sizes_stop : (ds : List ℤ) (m n : ℕ) (old : List ℕ) → m ≡ suc n → size_at old ≡ None → with_sizes ds (sizes_at m old) ≡ None
 sizes_stop ds m n old e h = ap (λ k. with_sizes ds (sizes_at k old)) e ∙ ap (λ r. with_sizes ds (r >>= λ d. sizes_at n d.1 >>= λ ds. Some (d.0 ∷ ds.0, ds.1))) h
-
-pub sizes_end : (ds : List ℤ) (m : ℕ) (b : List ℕ) → m ≡ 0 → with_sizes ds (sizes_at m b) ≡ Some (ds, b)
-sizes_end ds m b e = ap (λ k. with_sizes ds (sizes_at k b)) e ∙ ap (λ r. Some (r, b)) (append-nil ds)
 
 pub never_some : {A : Type 0} (o : Option A) → ((x : A) → o ≡ Some x → ⊥) → o ≡ None
 never_some None h = refl

@@ -2,9 +2,6 @@
 use Rattle.std.specs.Prelude.{ℕ, ◌+◌, ◌*◌, ◌≤◌}
 use Rattle.std.proofs.Common.{arith}
 
-pub one_more : (a b : ℕ) → a ≤ b → a ≤ b + 1
-one_more a b h = omega (arith, h)
-
 pub twice_within : (n a : ℕ) → 2 * a + 1 ≤ 2 * (1 + n + a)
 twice_within n a = omega arith
 

@@ -92,9 +92,6 @@ module _ (h h' body piece : List ℕ) (have n : ℕ) (eight : length h ≡ 8) (e
   reaches : have + n ≡ 8
   reaches = omega arith
 
-  pub within_piece : n ≤ length piece
-  within_piece = omega arith
-
   header_is : h' ≡ take have h ++ take n piece
   header_is = sym (take_all (have + n) h' (omega (arith, reaches))) ∙ filled
 
@@ -121,9 +118,6 @@ module _ (h h' body piece : List ℕ) (have n : ℕ) (eight : length h ≡ 8) (e
 -- ---- what is made of the rest of a piece is what is made of the piece
 
 module _ (gate : Gate) (old mid piece : List ℕ) (n : ℕ) (within : n ≤ length piece) (mid_is : mid ≡ old ++ take n piece) where
-  rest_of : List ℕ
-  rest_of = take (length piece - n) (drop n piece)
-
   pub whole_behind : mid ++ take (length piece - n) (drop n piece) ≡ old ++ piece
   whole_behind =
       ap (λ (t : List ℕ). mid ++ t) (take_rest piece n)
@@ -149,9 +143,6 @@ module _ (gate : Gate) (old mid piece : List ℕ) (n : ℕ) (within : n ≤ leng
     },
     h.1,
   )
-
-  pub fails_more : (fault : FrameFault) → Fails gate (mid ++ take (length piece - n) (drop n piece)) fault → Fails gate (old ++ piece) fault
-  fails_more fault h = subst (λ (t : List ℕ). Fails gate t fault) whole_behind h
 
 -- ---- what is held is bounded
 

@@ -5,7 +5,6 @@ use Rattle.std.proofs.lemmas.List.{take_at, drop_at, drop-drop, append_cancel_le
 use Rattle.ua_wire.specs.Number.{number_octets}
 use Rattle.ua_wire.proofs.Readers.{some_is}
 use Rattle.ua_wire.proofs.NumbersRead.{length-number_octets}
-use Rattle.ua_frame.specs.declared.fault.FrameFault.{FrameFault}
 use Rattle.ua_frame.specs.declared.frame.Frame.{Frame}
 use Rattle.ua_frame.specs.declared.gate.Gate.{Gate}
 use Rattle.ua_frame.specs.declared.kind.Kind.{Kind}
@@ -55,9 +54,6 @@ frame_more_length f more = omega (arith, length-append (frame_octets f) more, le
 no_part : (gate : Gate) (f : Frame) (more : List ℕ) → IsSized f → IsPartial gate (frame_octets f ++ more) → ⊥
 no_part gate f more p (inl short) = omega (arith, frame_more_length f more)
 no_part gate f more p (inr part) = omega (arith, part.1, frame_more_length f more, size_of-frame_more f more p)
-
-faulty_not_good : (gate : Gate) (x : List ℕ) (fault : FrameFault) → header_fault gate x ≡ Some fault → header_fault gate x ≡ None → ⊥
-faulty_not_good gate x fault e n = let c : ◌≡◌ {A = Option FrameFault} (Some fault) None = sym e ∙ n in cc
 
 some_not_none : {A : Type 0} (o : Option A) (a : A) → o ≡ Some a → o ≡ None → ⊥
 some_not_none o a e n = let c : Some a ≡ None = sym e ∙ n in cc

@@ -54,12 +54,3 @@ pub encodes_body : {A : Type 0} (f : Format A) → IsLawful f → (octets : List
 unfolding decoded_whole
 encodes_body f lawful octets v h = found_all (Within f.encodes f.depth most_levels) (f.decode most_levels) (lawful.exact most_levels) octets v
     (f.decode most_levels octets) refl h
-
-no_body : {A : Type 0} (f : Format A) → IsLawful f → (octets : List ℕ) → IsWhole f octets None → (o : Option A) → decoded_whole f octets ≡ o
-    → decoded_whole f octets ≡ None
-no_body f lawful octets h None e = e
-no_body f lawful octets h (Some v) e = let b = encodes_body f lawful octets v e in absurd (h v b.1 b.0)
-
--- that no value is the whole of the octets, as a reader of bodies says it
-pub body_none : {A : Type 0} (f : Format A) → IsLawful f → (octets : List ℕ) → IsWhole f octets None → decoded_whole f octets ≡ None
-body_none f lawful octets h = no_body f lawful octets h (decoded_whole f octets) refl

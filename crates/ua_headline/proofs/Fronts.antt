@@ -6,8 +6,8 @@ use Rattle.ua_builtin.specs.declared.date_time.DateTime.{DateTime}
 use Rattle.ua_chunk.specs.declared.lane.Lane.{Lane}
 use Rattle.ua_channel.specs.declared.client.fault.AskFault.{AskFault}
 use Rattle.ua_channel_laws.specs.ClientReads.{AtClient, lane_from}
-use Rattle.ua_channel_laws.specs.Outgoing.{AreWritable, CanBeWritten, Outgoing, client_past, issued_past, number_past}
-use Rattle.ua_channel_laws.specs.Outgoing.{one_octets, one_reasons, one_told, outgoing_octets, outgoing_refusal, outgoing_told}
+use Rattle.ua_channel_laws.specs.Outgoing.{AreWritable, CanBeWritten, Outgoing, client_past, number_past}
+use Rattle.ua_channel_laws.specs.Outgoing.{one_octets, one_reasons, outgoing_octets, outgoing_refusal}
 use Rattle.ua_channel_laws.specs.Rounds.{BothEnds, round_behind, rounds_up}
 use Rattle.ua_server.specs.State.{State}
 use Rattle.ua_headline.specs.Talk.{AreRoundsAccepted, AreFirstOf, Ends, IsPrefix, left_by, rounds_from}
@@ -39,13 +39,6 @@ octets_first : (lane : Option Lane) (n id : ℕ) (os more : List Outgoing) → I
 octets_first lane n id [] more = (outgoing_octets lane n id more, refl)
 octets_first lane n id (o ∷ os) more = behind_both (one_octets lane n id o) (outgoing_octets lane (number_past lane n o) (id + 1) os)
     (outgoing_octets lane (number_past lane n o) (id + 1) (os ++ more)) (octets_first lane (number_past lane n o) (id + 1) os more)
-
-told_first : (token issued id : ℕ) (os more : List Outgoing) → IsPrefix (outgoing_told token issued id os) (outgoing_told token issued id (os ++ more))
-told_first token issued id [] more = (outgoing_told token issued id more, refl)
-told_first token issued id (o ∷ os) more =
-    behind_both (one_told token issued id o ∷ []) (outgoing_told token (issued_past issued o) (id + 1) os)
-    (outgoing_told token (issued_past issued o) (id + 1) (os ++ more))
-    (told_first token (issued_past issued o) (id + 1) os more)
 
 -- ---- the first turns
 

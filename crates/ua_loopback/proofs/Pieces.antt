@@ -1,6 +1,6 @@
 -- Pieces of lists.
-use Rattle.std.proofs.Common.{◌≡◌, ℕ, zero, suc, ◌+◌, ◌-◌, ◌≤◌, ◌<◌, ◌⊎◌, inl, inr, List, [], ◌∷◌, ◌++◌, length}
-use Rattle.std.proofs.Common.{take, drop, min, refl, sym, ◌∙◌, ap, subst, arith, length-append, drop_of_length-le}
+use Rattle.std.proofs.Common.{◌≡◌, ℕ, zero, suc, ◌+◌, ◌-◌, ◌≤◌, ◌<◌, ◌⊎◌, inl, inr, List, [], ◌++◌, length}
+use Rattle.std.proofs.Common.{take, drop, min, sym, ◌∙◌, ap, subst, arith, length-append, drop_of_length-le}
 use Rattle.std.proofs.lemmas.Bool.{cases_lt}
 use Rattle.std.proofs.lemmas.List.{drop-append-le, drop-drop, length-drop, length-take-le, take-append-drop, take-append-le}
 use Rattle.std.proofs.Math.Seq.{take-append_seam}
@@ -37,10 +37,3 @@ none_left down read room n some none roomy = by (cases_lt 0 (length down - read)
     by : ((0 < length down - read) ⊎ (length down - read ≤ 0)) → drop read down ≡ []
     by (inl left) = let h = some (some_of (length down - read) room left roomy) in absurd (omega (arith, h, none))
     by (inr few) = drop_of_length-le down (omega (arith, few))
-
--- a front of a front
-pub front_front : (n count : ℕ) (xs : List ℕ) → n ≤ count → take n (take count xs) ≡ take n xs
-front_front zero count xs h = refl
-front_front (suc n) zero xs h = absurd (omega (arith, h))
-front_front (suc n) (suc count) [] h = refl
-front_front (suc n) (suc count) (x ∷ xs) h = ap (λ (t : List ℕ). x ∷ t) (front_front n count xs (omega (arith, h)))

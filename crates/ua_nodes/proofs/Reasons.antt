@@ -1,6 +1,6 @@
 -- Reasons against a line, one at a time in their order.
 use Rattle.std.proofs.Common.{◌≡◌, ◌≢◌, ℕ, zero, suc, ◌<◌, Bool, List, [], ◌∷◌, length, slice_index_or}
-use Rattle.std.proofs.Common.{Option, Some, None, IsSome, refl, sym, ◌∙◌, ap, subst, arith}
+use Rattle.std.proofs.Common.{Option, Some, None, refl, sym, ◌∙◌, ap, subst, arith}
 use Rattle.ua_builtin.specs.Exact.{◌>>=◌}
 use Rattle.ua_builtin.specs.declared.node_id.NodeId.{NodeId}
 use Rattle.ua_nodes.specs.declared.fault.LineReason.{LineReason}
@@ -9,7 +9,7 @@ use Rattle.ua_nodes.specs.declared.node.Access.{Access as Rights}
 use Rattle.ua_nodes.specs.declared.node.Variable.{Variable}
 use Rattle.ua_variant.specs.Data.{VariantData}
 use Rattle.ua_nodes.specs.NodeFile.{fields, field, NamesId, access_denoted, name_denoted, WritesNode, HoldsAgainstLine, place, IsFirstReason}
-use Rattle.ua_nodes.specs.Table.{Nodes, node_at}
+use Rattle.ua_nodes.specs.Table.{Nodes}
 use Rattle.ua_nodes.specs.TypeName.{type_denoted}
 use Rattle.ua_nodes.specs.ValueText.{value_denoted}
 
@@ -98,9 +98,6 @@ pass_kind line a b c d e before id r n t k h p q w =
 
 -- ---- the first reason
 
-pub bad_fields : (line : List ℕ) → length (fields line) ≢ 5 → (before : Nodes) → IsFirstReason Fields before line
-bad_fields line h before = record { holds = h; first = pass_none before line }
-
 pub bad_node : (line a b c d e : List ℕ) → IsCut line a b c d e → ((id : NodeId) → ¬ (NamesId a id)) → (before : Nodes) → IsFirstReason Node before line
 bad_node line a b c d e k h before = record { holds = λ id n. h id (id_back line a b c d e id k n); first = pass_fields line a b c d e before k }
 
@@ -136,23 +133,6 @@ pub bad_value : (line a b c d e : List ℕ) (id : NodeId) (r : Rights) (n : Opti
 bad_value line a b c d e id r n t k h p q w none before =
     record { holds = both_is line a b c d e t k w ∙ none; first = pass_kind line a b c d e before id r n t k h p q w }
 
--- the node of a line whose fields are good
-pub good_node : (line a b c d e : List ℕ) (id : NodeId) (v : Variable) → IsCut line a b c d e → NamesId a id → access_denoted b ≡ Some v.access
-    → name_denoted c ≡ Some v.name
-    → type_denoted d ≡ Some (v.kind, v.array) → value_denoted v.kind v.array e ≡ Some v.value → v.status ≡ None → v.source_time ≡ None
-    → v.source_picoseconds ≡ None → WritesNode line (id, v)
-good_node line a b c d e id v k h p q w x y z u = record {
-  five = five line a b c d e k;
-  id = id_is line a b c d e id k h;
-  access = ap access_denoted (field_is 1 line a b c d e k) ∙ p;
-  name = ap name_denoted (field_is 2 line a b c d e k) ∙ q;
-  kind = ap type_denoted (field_is 3 line a b c d e k) ∙ w;
-  value = ap (value_denoted v.kind v.array) (field_is 4 line a b c d e k) ∙ x;
-  status = y;
-  source_time = z;
-  source_picoseconds = u;
-}
-
 -- ---- a node whose NodeId is there
 
 -- no reason but the last holds against a line that writes a node
@@ -167,7 +147,3 @@ pass_written line node before w = pass Value before line
     (none_some (type_denoted (field 3 line)) (node.1.kind, node.1.array) w.kind))
     (none_some (both (field 3 line) (field 4 line)) node.1.value (ap (λ (o : Option (ℕ × Bool)). o >>= λ t. value_denoted t.0 t.1 (field 4 line)) w.kind
     ∙ w.value))
-
-pub bad_duplicate : (line : List ℕ) (node : NodeId × Variable) (before : Nodes) → WritesNode line node → IsSome (node_at before node.0)
-    → IsFirstReason Duplicate before line
-bad_duplicate line node before w there = record { holds = (node.0, w.id, there); first = pass_written line node before w }

@@ -1,6 +1,5 @@
 -- A body, against the reader on lists.
-use Rattle.std.specs.Prelude.{◌≡◌, ℕ, ◌<◌, ◌≤◌, List, [], ◌∷◌, ◌++◌, length, Option, Some, None, Result, Ok, Err, IfOk, IsErrOf, IsErrAnd, ◌⊎◌}
-use Rattle.std.proofs.lemmas.Result.{err_from_is_err_and}
+use Rattle.std.specs.Prelude.{◌≡◌, ℕ, ◌<◌, ◌≤◌, List, [], ◌∷◌, ◌++◌, length, Option, Some, None, Result, Ok, Err, IfOk, IsErrOf, ◌⊎◌}
 use Rattle.std.proofs.Common.{refl, sym, ◌∙◌, ap, subst, arith, inl, inr}
 use Rattle.std.proofs.lemmas.List.{append-nil}
 use Rattle.ua_builtin.specs.Exact.{◌>>=◌, image_read}
@@ -13,9 +12,6 @@ use Rattle.ua_opening.specs.Message.{IsBody, IsNoBody, if_last, body_of, found_o
 empty_is : (octets : List ℕ) → length octets ≤ 0 → octets ≡ []
 empty_is [] h = refl
 empty_is (x ∷ octets) h = absurd (omega arith)
-
-pub all_taken : {A : Type 0} (m : A) (rest : List ℕ) → length rest ≤ 0 → ◌≡◌ {A = Option (A × List ℕ)} (Some (m, rest)) (Some (m, []))
-all_taken m rest none = ap (λ (t : List ℕ). Some (m, t)) (empty_is rest none)
 
 -- what was read took all octets
 pub whole : {A : Type 0} (f : Format A) → IsLawful f → (octets : List ℕ) (m : A) (rest : List ℕ) → f.decode most_levels octets ≡ Some (m, rest)
@@ -119,15 +115,3 @@ image_fails make read old new NoValue h = ap (λ o. o >>= λ x. Some (make x.0, 
 image_fails make read old new OutOfMemory h = tt
 
 -- ---- readers by case
-
--- a fault that `?` hands on, where the case is known
-pub handed_on : {K B : Type 0} (reads : K → List ℕ → Option (B × List ℕ)) (kind k : K) (old new : List ℕ) (e : ReadFault) (r : Result B ReadFault) → kind ≡ k
-    → IsErrAnd r (λ y. y ≡ e) → Gives (reads k) old new (Err e) → Gives (reads kind) old new r
-handed_on reads kind k old new e r is err h =
-    let p = err_from_is_err_and r err in
-    rw (is, p.1, p.2) h
-
--- what is found, where the case is known
-pub found_in : {K B : Type 0} (reads : K → List ℕ → Option (B × List ℕ)) (kind k : K) (old : List ℕ) (found : B × List ℕ) → kind ≡ k → reads k old ≡ Some found
-    → reads kind old ≡ Some found
-found_in reads kind k old found is h = ap (λ (t : _). reads t old) is ∙ h

@@ -32,7 +32,7 @@ use Rattle.ua_pair.specs.Dissected.{rules, every_frame, AddsLines, AreTexts, Are
 use Rattle.ua_pair.specs.Dissecting.{Holds, DissectorGoesOn, HasRefused, IsDissectorClosed, AreHeld, DissectorStandsAt, StandsBehind, TellsMore}
 use Rattle.ua_pair.specs.Dissecting.{IsStarved, PrintsFirst, PrintsMore, WritesPiece, PrintsPart}
 use Rattle.ua_pair.specs.Dissecting.{EndsLines, is_dissecting, MovesOn, TakesPiece, Accepts, RefusesFrame, FrameTold, TakesNone, DissectsSome}
-use Rattle.ua_pair.specs.Lines.{rest_line, refused_line}
+use Rattle.ua_pair.specs.Lines.{refused_line}
 use Rattle.ua_pair.specs.Refused.{frame_reasons}
 use Rattle.ua_pair.specs.Printing.{BreaksOffLines, EachHasText, PrintsText, PrintsLines, PrintsOrBreaks}
 use Rattle.ua_pair.specs.Styles.{style_of}
@@ -343,10 +343,6 @@ pub so_far_end : (d m e : Dissector) (piece : List ℕ) (at : ℕ) (rest a b lin
     → TakesNone m rest e lines → TakesPiece d e piece a b
 so_far_end d m e piece at rest a b lines x rest_is none = takes_end d m e piece at rest a b lines x.takes x.within rest_is none
 
--- what was added stands behind what was there
-pub so_far_extends : (d e : Dissector) (piece : List ℕ) (at : ℕ) (a b : List ℕ) → SoFar d e piece at a b → Extends a b
-so_far_extends d e piece at a b x = record { more = x.takes.lines; parts = x.takes.added }
-
 -- what was told with a piece
 pub takes_tells : {E : Type 0} (r : Result (Unit {0}) E) (d e : Dissector) (piece a b : List ℕ) → OnOk r (TakesPiece d e piece a b)
     → (options : DissectOptions) (o told : List ℕ) → StandsBehind d options o told → OnOk r (TellsMore e options (o ++ piece) told a b)
@@ -504,25 +500,6 @@ pub ends_refused : (d : Dissector) (options : DissectOptions) (o told old new : 
     → d.state ≡ state.Refused code → new ≡ old ++ refused_line d.teller.options.names d.place code.code → EndsLines options o told old new
 ends_refused d options o told old new code s refused grown = ends_at d options o told old new code s.are.frames s.are.rest s.are.end s.are.run s.are.told_are
     s.at s.place refused grown
-
--- the frames end, or octets are left
-pub ends_going : (d : Dissector) (options : DissectOptions) (o told old new : List ℕ) (held : ℕ) → StandsBehind d options o told → d.state ≡ state.Going
-    → held ≡ length d.reader.held → new ≡ old ++ rest_line d.place held → EndsLines options o told old new
-ends_going d options o told old new held s goes held_is grown =
-    let g = goes_behind d options o told s (ap is_dissecting goes) in
-    record {
-      line = rest_line d.place held;
-      added = grown;
-      are = record {
-        frames = g.frames;
-        rest = g.rest;
-        end = Going;
-        run = g.run;
-        told = told;
-        told_are = g.told_are;
-        lines_are = ap (λ (x : List ℕ). told ++ x) (ap₂ rest_line g.place (held_is ∙ ap (λ (r : Reader). length r.held) g.goes_on.holds.reader));
-      };
-    }
 
 -- the last line, made in a text of its own, was added
 pub ends_added : {E : Type 0} (r : Result (Unit {0}) E) (options : DissectOptions) (o told empty line text old new : List ℕ)

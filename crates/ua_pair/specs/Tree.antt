@@ -65,10 +65,6 @@ mutual
 abbrev pub same_leaf : List ℕ → Leaf
 same_leaf shown = fixed (λ names. shown) (λ names. shown)
 
--- the same as a tree
-abbrev pub same_text : List ℕ → Tree
-same_text shown = text (same_leaf shown)
-
 -- the elements of an array, of a list
 abbrev pub tree_elements : List Tree → Elements
 tree_elements [] = no_elements

@@ -1,13 +1,12 @@
 -- What a reading of a node file changes, one node after the other.
-use Rattle.std.proofs.Common.{◌≡◌, ◌⊎◌, inl, inr, List, ℕ, [], ◌∷◌, ◌++◌, Option, None, Some, Result}
-use Rattle.std.proofs.Common.{Ok, Err, OnErr, refl, sym, ap, ◌∙◌, append_assoc, append-nil, map}
+use Rattle.std.proofs.Common.{◌≡◌, List, [], ◌∷◌, ◌++◌, Result}
+use Rattle.std.proofs.Common.{Ok, Err, OnErr, refl, sym, ap, ◌∙◌, append_assoc, append-nil}
 use Rattle.ua_builtin.specs.declared.date_time.DateTime.{DateTime}
-use Rattle.ua_node_files.specs.Changed.{Changes, entry_of, with_all_changed, with_changed}
+use Rattle.ua_node_files.specs.Changed.{with_all_changed, with_changed}
 use Rattle.ua_nodes.specs.Table.{Nodes}
 use Rattle.ua_nodes.specs.declared.node.Node.{Node}
 use Rattle.ua_server.specs.State.{State, with_nodes}
-use Rattle.ua_serving.specs.Live.{FollowsFile, LooksAt, TakesReading, TakesSomeNodes}
-use Rattle.ua_serving.specs.declared.live.LiveFile.{LiveFile}
+use Rattle.ua_serving.specs.Live.{TakesSomeNodes}
 
 -- ---- nodes that changed
 
@@ -21,9 +20,6 @@ all_one_more : (moment : DateTime) (done : List Node) (node : Node) (nodes : Nod
     ≡ with_changed moment node (with_all_changed moment done nodes)
 all_one_more moment [] node nodes = refl
 all_one_more moment (d ∷ done) node nodes = all_one_more moment done node (with_changed moment d nodes)
-
-pub taken_none : (moment : DateTime) (all : List Node) (old : State) → TakenSo moment all all old old
-taken_none moment all old = record { done = []; parts = refl; taken = refl }
 
 pub taken_more : (moment : DateTime) (all here rest : List Node) (node : Node) (old mid new : State) → here ≡ node ∷ rest → TakenSo moment all here old mid
     → new ≡ with_nodes mid (with_changed moment node mid.nodes) → TakenSo moment all rest old new
@@ -52,37 +48,4 @@ taken_some moment all rest old mid new same so = record { first = so.done; rest 
 
 -- ---- a look at a file
 
--- a reading was taken whole
-pub took_all : (last text : List ℕ) (changed : List Node) (moment : DateTime) (old new : State) → Changes last text (map entry_of changed)
-    → new ≡ with_nodes old (with_all_changed moment changed old.nodes)
-    → TakesReading last text old new
-took_all last text changed moment old new are taken = record { text = text; changed = changed; are = are; moment = moment; taken = inl (refl, taken) }
-
--- an allocation failed
-pub took_some : (last text : List ℕ) (changed : List Node) (moment : DateTime) (old new : State) → Changes last text (map entry_of changed)
-    → TakesSomeNodes moment changed old new
-    → TakesReading last last old new
-took_some last text changed moment old new are taken = record { text = text; changed = changed; are = are; moment = moment; taken = inr (refl, taken) }
-
 -- ---- the nodes alone change
-
-by_nodes : (old new : State) (nodes : Nodes) → new ≡ with_nodes old nodes → new ≡ with_nodes old new.nodes
-by_nodes old new nodes is = is ∙ ap (λ (s : State). with_nodes old s.nodes) (sym is)
-
-reading_nodes : (last after : List ℕ) (old new : State) → TakesReading last after old new → new ≡ with_nodes old new.nodes
-reading_nodes last after old new r = by r.taken
-  where
-    by : ((after ≡ r.text) × (new ≡ with_nodes old (with_all_changed r.moment r.changed old.nodes)))
-        ⊎ ((after ≡ last) × TakesSomeNodes r.moment r.changed old new)
-        → new ≡ with_nodes old new.nodes
-    by (inl all) = by_nodes old new _ all.1
-    by (inr some) = by_nodes old new _ some.1.taken
-
-follow_nodes : {F : Type 0} (before after : LiveFile F) (old new : State) → FollowsFile before old after new → new ≡ with_nodes old new.nodes
-follow_nodes before after old new (inl same) = by_nodes old new old.nodes same.1
-follow_nodes before after old new (inr took) = reading_nodes _ _ old new took
-
-pub look_nodes : {F : Type 0} (before after : Option (LiveFile F)) (old new : State) → LooksAt before old after new → new ≡ with_nodes old new.nodes
-look_nodes None after old new looked = by_nodes old new old.nodes looked.1
-look_nodes (Some before) (Some after) old new looked = follow_nodes before after old new looked
-look_nodes (Some before) None old new looked = absurd looked

@@ -4,7 +4,7 @@ use Rattle.ua_node_files.specs.Namespaces.{AreNamed, namespace_lines}
 use Rattle.ua_node_files.specs.Standard.{lacks, standard_text}
 use Rattle.ua_nodes.specs.NodeFile.{WriteNodes, node_lines}
 use Rattle.ua_nodes.specs.Table.{Nodes}
-use Rattle.ua_report.specs.Refused.{RefusesNodeFileLine, RefusesNodes}
+use Rattle.ua_report.specs.Refused.{RefusesNodes}
 use Rattle.ua_serving.specs.Refused.{RefusesNamespace, RefusesStandard}
 use Rattle.ua_serving.specs.Served.{BeginsWith}
 use Rattle.ua_serving.specs.Standard.{BeginsStandard, IsWithStandardNodes}
@@ -38,14 +38,6 @@ of_namespaces text fault (inr bad) = inr (inl bad)
 pub of_nodes : (text : List ℕ) (fault : Fault) → RefusesNodes text fault → RefusesStandard text fault
 of_nodes text fault (inl memory) = inl memory
 of_nodes text fault (inr bad) = inr (inr (inl bad))
-
--- and for what stands behind them
-pub of_whole : (text whole passed : List ℕ) (keeps_time : Bool) (fault : Fault) → IsWithStandardNodes text keeps_time whole → passed ≡ whole
-    → RefusesNodes passed fault
-    → RefusesStandard text fault
-of_whole text whole passed keeps_time fault is same (inl memory) = inl memory
-of_whole text whole passed keeps_time fault is same (inr bad) =
-    inr (inr (inr (record { keeps_time = keeps_time; whole = whole; is = is; refused = subst (λ t. RefusesNodeFileLine t fault) same bad })))
 
 -- services over the whole text begin with what the file has
 pub begins_so : (text whole passed : List ℕ) (port : ℕ) (keeps_time : Bool) (services : State) → IsWithStandardNodes text keeps_time whole → passed ≡ whole

@@ -1,11 +1,11 @@
 -- Elements of arrays as people write them, one at a time.
 use Rattle.std.proofs.Common.{◌≡◌, ℕ, zero, suc, ◌+◌, Bool, true, List, [], ◌∷◌, ◌++◌, length, map, take, slice_get, option_map}
-use Rattle.std.proofs.Common.{Option, Some, None, ◌≤◌, refl, sym, subst, ◌∙◌, ap, arith, append-nil, append_assoc, take_all}
+use Rattle.std.proofs.Common.{Option, Some, None, refl, sym, ◌∙◌, ap, arith, append-nil, append_assoc}
 use Rattle.ua_variant.specs.Data.{LeafData, ScalarData, leaf}
 use Rattle.ua_variant.specs.View.{row}
 use Rattle.ua_texts.specs.Plain.{ArePlain, IsLeafOrOctets, IsPlainItems, IsPlainScalar}
 use Rattle.ua_texts.specs.Values.{comma_at, parted, item_text}
-use Rattle.ua_texts.proofs.Rows.{get_map, map_length, take_next, length_next, parted_more}
+use Rattle.ua_texts.proofs.Rows.{get_map, take_next, length_next, parted_more}
 
 each_push : (names : Bool) (ss : List ScalarData) (ts : List (List ℕ)) (s : ScalarData) (t : List ℕ) → ArePlain names (row ss) ts → IsPlainScalar names true s t
     → ArePlain names (row (ss ++ s ∷ [])) (ts ++ t ∷ [])
@@ -58,13 +58,6 @@ plain_next names f xs n s start now mid new e h m k =
     k.1 ∙ ap (λ (t : List ℕ). t ++ k.0) m ∙ append_assoc now (comma_at n) k.0 ∙ ap (λ (t : List ℕ). t ++ (comma_at n ++ k.0)) h.1
     ∙ append_assoc start h.0 (comma_at n ++ k.0) in
     (h.0 ++ (comma_at n ++ k.0), whole, rw next items)
-
--- all elements were added
-pub plain_all : {A : Type 0} (names : Bool) (f : A → ScalarData) (xs : List A) (n : ℕ) (start now : List ℕ) → length xs ≤ n
-    → Added names (take n (map f xs)) start now → Added names (map f xs) start now
-plain_all names f xs n start now h k =
-    let whole : take n (map f xs) ≡ map f xs = take_all n (map f xs) (omega (arith, h, map_length f xs)) in
-    subst (λ (items : List ScalarData). Added names items start now) whole k
 
 -- a scalar that holds no further value
 leaf_is : (names within : Bool) (s : ScalarData) (o : Option LeafData) (text : List ℕ) → Some s ≡ option_map leaf o → IsLeafOrOctets names within s text

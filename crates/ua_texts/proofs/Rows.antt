@@ -69,12 +69,6 @@ items_next f xs n s start now new e h k =
     k ∙ ap (λ (t : List ℕ). t ++ item_text n (scalar_text s)) h ∙ append_assoc start (items_text (take n (map f xs))) (item_text n (scalar_text s))
     ∙ ap (λ (t : List ℕ). start ++ t) (sym more) ∙ ap (λ (m : ℕ). start ++ items_text (take m (map f xs))) (sym next)
 
--- there is an element at a place within
-pub got_some : {A B : Type 0} (f : A → B) (xs : List A) (n : ℕ) → n < length xs → None ≡ option_map f (slice_get xs n) → ⊥
-got_some f [] n less e = omega arith
-got_some f (x ∷ xs) zero less e = absurd cc
-got_some f (x ∷ xs) (suc n) less e = got_some f xs n (omega arith) e
-
 -- the element at a place within
 pub at_index : {A B : Type 0} (f : A → B) (xs : List A) (n : ℕ) (x : A) → n < length xs → x ≡ get_or xs n x → Some (f x) ≡ option_map f (slice_get xs n)
 at_index f [] n x less e = absurd (omega arith)

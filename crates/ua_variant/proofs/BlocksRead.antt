@@ -1,5 +1,5 @@
 -- Arrays of a type whose values all take the same octets, read a block at a time.
-use Rattle.std.proofs.Common.{◌≡◌, ℕ, zero, suc, ◌+◌, ◌-◌, ◌*◌, ◌/◌, ◌<◌, ◌≤◌, true, false, cond, eqb, List, [], ◌∷◌, ◌++◌}
+use Rattle.std.proofs.Common.{◌≡◌, ℕ, zero, suc, ◌+◌, ◌-◌, ◌*◌, ◌<◌, true, false, cond, eqb, List, [], ◌∷◌, ◌++◌}
 use Rattle.std.proofs.Common.{length, take, map, Option, Some, None, refl, sym, subst, ap, ◌∙◌, append-nil, arith, length-append}
 use Rattle.std.proofs.lemmas.Grind.{common_steps}
 use Rattle.std.proofs.lemmas.List.{map-append}
@@ -298,10 +298,6 @@ leaf_stops p a count counter old whole lt none so_far = sym so_far ∙ row_stops
 pub leaf_ends : (p : Decoder ScalarData) (a : List ScalarData) (rest : ℕ) (old : List ℕ) (whole : Option (ScalarsData × List ℕ)) → rest ≡ 0
     → row_behind a rest p old ≡ whole → whole ≡ Some (row a, old)
 leaf_ends p a rest old whole none so_far = sym so_far ∙ row_ends p a rest old none
-
--- so many of a width lie within a block
-pub block_within : (w n : ℕ) → 0 < w → n ≤ 512 / w → n * w ≤ 512
-block_within w n h l = Prim.grind (arith, common_steps)
 
 -- ---- rows of scalars that are not packed
 

@@ -27,10 +27,6 @@ before_push : (ss : List ScalarData) (s : ScalarData) (r : ScalarsData) → befo
 before_push [] s r = refl
 before_push (x ∷ ss) s r = ap (scalar x) (before_push ss s r)
 
-pub front_none : (r : Option (ScalarsData × List ℕ)) → with_front [] r ≡ r
-front_none None = refl
-front_none (Some x) = refl
-
 front_push : (ss : List ScalarData) (s : ScalarData) (r : Option (ScalarsData × List ℕ)) → with_front ss (r >>= λ x. Some (scalar s x.0, x.1))
     ≡ with_front (ss ++ s ∷ []) r
 front_push ss s None = refl

@@ -1,9 +1,8 @@
 -- One more element of a row.
-use Rattle.std.proofs.Common.{◌≡◌, ℕ, zero, suc, ◌+◌, ◌<◌, max, List, [], ◌∷◌, ◌++◌, length, get_or, take, map, ◌≤◌, refl, sym, subst, ap, ap₂, ◌∙◌, arith}
+use Rattle.std.proofs.Common.{◌≡◌, ℕ, zero, suc, ◌+◌, ◌<◌, max, List, [], ◌∷◌, ◌++◌, length, get_or, take, map, ◌≤◌, sym, subst, ap, ap₂, ◌∙◌, arith}
 use Rattle.std.proofs.lemmas.List.{take_more, map-append}
 use Rattle.ua_variant.specs.Data.{ScalarData}
 use Rattle.ua_variant.specs.Measure.{scalar_depth, scalars_depth, scalar_count, scalars_count}
-use Rattle.ua_variant.specs.Encodable.{row_length}
 use Rattle.ua_variant.specs.View.{scalar_of, row}
 use Rattle.ua_variant.specs.declared.values.Scalar.{Scalar}
 
@@ -49,14 +48,6 @@ depth_after ss i s h is = depth_next ss i s h ∙ ap (λ x. max (scalars_depth (
 pub count_after : (ss : List Scalar) (i : ℕ) (s : Scalar) → i < length ss → s ≡ get_or ss i s
     → scalars_count (row (seen (take (i + 1) ss))) ≡ scalars_count (row (seen (take i ss))) + scalar_count (scalar_of s)
 count_after ss i s h is = count_next ss i s h ∙ ap (λ x. scalars_count (row (seen (take i ss))) + scalar_count (scalar_of x)) (sym is)
-
-length_all : (ss : List Scalar) → length ss ≡ row_length (row (map scalar_of ss))
-length_all [] = refl
-length_all (s ∷ ss) = omega (arith, length_all ss)
-
--- how many elements there are
-pub length_seen : (ss : List Scalar) (all : List ScalarData) → map scalar_of ss ≡ all → length ss ≡ row_length (row all)
-length_seen ss all e = length_all ss ∙ ap (λ xs. row_length (row xs)) e
 
 -- one more copy
 pub seen_more : (copies ss : List Scalar) (i : ℕ) (s : Scalar) → map scalar_of copies ≡ seen (take i ss) → i < length ss → s ≡ get_or ss i s

@@ -5,8 +5,8 @@ use Rattle.std.proofs.lemmas.Bool.{ltb-true}
 use Rattle.ua_wire.specs.Exact.{Exact, Follows, Joined, pair_read, Image, image_read}
 use Rattle.ua_wire.specs.Number.{IsNumber}
 use Rattle.ua_wire.specs.Format.{Flat, Format, flat, IsSound, IsLawful, Within, TakesSome}
-use Rattle.ua_wire.specs.Join.{number, nothing, only, bind, both, image, made, such, pair, struct, pair_depth, pair_count}
-use Rattle.ua_wire.proofs.Readers.{both_true, not_false, append_empty, exact_never, exact_only, exact_same, exact_bind, exact_pair, exact_image, exact_such}
+use Rattle.ua_wire.specs.Join.{number, nothing, only, both, image, made, such, pair, struct, pair_depth, pair_count}
+use Rattle.ua_wire.proofs.Readers.{both_true, not_false, append_empty, exact_never, exact_only, exact_same, exact_pair, exact_image, exact_such}
 use Rattle.ua_wire.proofs.NumbersRead.{exact_number, number_some}
 
 -- ---- no encoding is empty
@@ -33,21 +33,6 @@ sound_nothing = record { exact = exact_never; canonical_encodes = λ v h. not_fa
 
 pub sound_only : {A : Type 0} (x : A) (is : A → Bool) → ((v : A) → IsTrue (is v) → v ≡ x) → IsSound (only x is)
 sound_only x is same = record { exact = exact_only x; canonical_encodes = λ v h. (same v h, refl) }
-
-pub sound_bind : {A B : Type 0} (f : Flat A) (g : A → Flat B) (head : B → A) → IsSound f → ((x : A) → IsSound (g x)) → IsSound (bind f g head)
-sound_bind f g head first second = record {
-  exact = exact_bind f.encodes f.decode (λ x. (g x).encodes) (λ x. (g x).decode) first.exact (λ x. (second x).exact);
-  canonical_encodes = λ v h.
-      let w = both_true (f.encodable (head v)) ((g (head v)).encodable v) h in
-      record {
-        head = head v;
-        front = f.canonical (head v);
-        back = (g (head v)).canonical v;
-        parts = refl;
-        head_encoded = first.canonical_encodes (head v) w.0;
-        rest_encoded = (second (head v)).canonical_encodes v w.1;
-      };
-}
 
 pub sound_both : {A B : Type 0} {f : Flat A} {g : Flat B} → IsSound f → IsSound g → IsSound (both f g)
 sound_both {f = f} {g = g} first second = record {

@@ -1,19 +1,16 @@
 -- How many octets the encodings of each format take at least.
-use Rattle.std.specs.Prelude.{◌≡◌, ℕ, suc, ◌+◌, ◌≤◌, List, [], ◌++◌, Bool, true, false, cond, length, Option, Some, None}
+use Rattle.std.specs.Prelude.{◌≡◌, ℕ, suc, ◌+◌, ◌≤◌, List, [], ◌++◌, length, Option, Some, None}
 use Rattle.std.proofs.Common.{ap, ◌∙◌, arith, length-append}
 use Rattle.std.specs.Int.{Width}
-use Rattle.ua_wire.specs.Exact.{Follows, Joined, Image}
+use Rattle.ua_wire.specs.Exact.{Joined, Image}
 use Rattle.ua_wire.specs.Number.{IsNumber, number_octets}
-use Rattle.ua_wire.specs.Format.{Flat, TakesSome}
+use Rattle.ua_wire.specs.Format.{TakesSome}
 use Rattle.ua_wire.specs.Least.{TakesLeast}
 use Rattle.ua_wire.specs.Signed.{signed, width_octets}
 use Rattle.ua_wire.specs.FloatBits.{float_bits}
 use Rattle.ua_wire.specs.DoubleBits.{double_bits}
 use Rattle.ua_wire.specs.Counted.{AreOctets, EncodesCounted, counted, text}
 use Rattle.ua_wire.proofs.NumbersRead.{length-number_octets}
-
-pub fewer_least : {A : Type 0} (m n : ℕ) (p : A → List ℕ → Type 0) → m ≤ n → TakesLeast n p → TakesLeast m p
-fewer_least m n p h least v b e = let enough : n ≤ length b = least v b e in omega arith
 
 -- an encoding of one octet or more is not empty
 pub least_starts : {A : Type 0} (n : ℕ) (p : A → List ℕ → Type 0) → TakesLeast (suc n) p → TakesSome p
@@ -25,9 +22,6 @@ number_least k v b h = let len : length b ≡ k = ap length h.1 ∙ length-numbe
 pub octets_least : (n : ℕ) → TakesLeast n (AreOctets n)
 octets_least n v b h = omega (arith, h.0, ap length h.1)
 
-pub none_least : {A : Type 0} (p : A → List ℕ → Type 0) → TakesLeast 0 p
-none_least p v b h = omega arith
-
 both_least : (m n : ℕ) (b front back : List ℕ) → b ≡ front ++ back → m ≤ length front → n ≤ length back → m + n ≤ length b
 both_least m n b front back e h k = omega (arith, ap length e, length-append front back)
 
@@ -35,17 +29,8 @@ pub pair_least : {A B : Type 0} (m n : ℕ) (p : A → List ℕ → Type 0) (q :
     → TakesLeast (m + n) (Joined p q)
 pair_least m n p q first second v b h = both_least m n b h.front h.back h.parts (first v.0 h.front h.first_encoded) (second v.1 h.back h.second_encoded)
 
-pub bind_least : {A B : Type 0} (m n : ℕ) (p : A → List ℕ → Type 0) (q : A → B → List ℕ → Type 0) → TakesLeast m p → ((x : A) → TakesLeast n (q x))
-    → TakesLeast (m + n) (Follows p q)
-bind_least m n p q first second v b h = both_least m n b h.front h.back h.parts (first h.head h.front h.head_encoded) (second h.head v h.back h.rest_encoded)
-
 pub image_least : {A B : Type 0} (n : ℕ) (make : A → B) (p : A → List ℕ → Type 0) → TakesLeast n p → TakesLeast n (Image make p)
 image_least n make p least v b h = least h.of b h.encoded
-
--- of two formats, of which a test chooses one
-pub chosen_least : {A : Type 0} (n : ℕ) (test : Bool) (f g : Flat A) → TakesLeast n f.encodes → TakesLeast n g.encodes → TakesLeast n (cond test f g).encodes
-chosen_least n true f g one other = one
-chosen_least n false f g one other = other
 
 pub signed_least : (w : Width) → TakesLeast (width_octets w) (signed w).encodes
 signed_least w v b h = number_least (width_octets w) h.of b h.encoded

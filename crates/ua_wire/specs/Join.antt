@@ -1,6 +1,6 @@
 -- Formats made of formats.
 use Rattle.std.specs.Prelude.{ℕ, ◌+◌, ◌^◌, max, [], ◌++◌, Bool, false, ◌&&◌, nat_lt}
-use Rattle.ua_wire.specs.Exact.{Never, never_read, IsOnly, only_read, Follows, then_read, Joined, pair_read, Image, image_read, Passing, such_read}
+use Rattle.ua_wire.specs.Exact.{Never, never_read, IsOnly, only_read, Joined, pair_read, Image, image_read, Passing, such_read}
 use Rattle.ua_wire.specs.Number.{IsNumber, number_at, number_octets}
 use Rattle.ua_wire.specs.Format.{Flat, Format}
 
@@ -32,17 +32,6 @@ only x is = record {
   encodable = is;
   canonical = λ v. [];
   decode = only_read x;
-}
-
--- a head by f, and after it the value in the format that the head chooses; a writer takes the head
--- from the value
--- bind (number 1) in_form form_of: a byte for the form, and what the form has after it
-abbrev pub bind : {A B : Type 0} → Flat A → (A → Flat B) → (B → A) → Flat B
-bind f g head = record {
-  encodes = Follows f.encodes (λ x. (g x).encodes);
-  encodable = λ v. f.encodable (head v) && (g (head v)).encodable v;
-  canonical = λ v. f.canonical (head v) ++ (g (head v)).canonical v;
-  decode = then_read f.decode (λ x. (g x).decode);
 }
 
 -- two values, one after the other: both (number 2) (number 1) encodes (258, 7) by 02 01 07
