@@ -381,10 +381,12 @@ def calls(name: str) -> list[Unit]:
     return found
 
 
-def in_order(roots: list[Unit]) -> list[Unit]:
-    """The roots and all that they rest on, each before what it is made of, but where two rest on each other."""
+def in_order(roots: list[Unit], given: frozenset[str] = frozenset()) -> list[Unit]:
+    """The roots and all that they rest on, but for what `given` ones are made of; each before that, unless two rest on each other."""
+    def made_of(it: Unit) -> Iterator[Unit]:
+        return iter(()) if it.name in given else reversed(rests_on(it))
     seen, order = set(roots), []
-    stack = [(it, iter(reversed(rests_on(it)))) for it in reversed(roots)]
+    stack = [(it, made_of(it)) for it in reversed(roots)]
     while stack:
         it, rest = stack[-1]
         below = next((one for one in rest if one not in seen), None)
@@ -392,5 +394,5 @@ def in_order(roots: list[Unit]) -> list[Unit]:
             order.append(stack.pop()[0])
         else:
             seen.add(below)
-            stack.append((below, iter(reversed(rests_on(below)))))
+            stack.append((below, made_of(below)))
     return order[::-1]

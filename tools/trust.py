@@ -9,6 +9,8 @@ kit's words are not followed: the kit is trusted whole.
   --count          the counts alone
   --why WORD       how the contract comes to rest on a word: one of the shortest ways, a line a step
   --aside CRATES   definitions of these crates, as ua_wire,ua_builtin, are counted apart
+  --given WORDS    leaves out what these words are made of, as Goes,ClientGoes: a relation between a machine and what it
+                   received, which the contracts of the machine's calls establish, can be taken as they give it
 
 What a definition rests on is read from the text, as tools/definitions.py says.
 """
@@ -76,7 +78,7 @@ def counts(found: list[Unit], aside: list[str]) -> list[str]:
 
 
 def main(words: list[str]) -> int:
-    options = {it: words[words.index(it) + 1] for it in ("--why", "--aside") if it in words}
+    options = {it: words[words.index(it) + 1] for it in ("--why", "--aside", "--given") if it in words}
     names = [it for it in words if not it.startswith("--") and it not in options.values()]
     roots = [it for name in names for it in calls(name)]
     for name in names:
@@ -87,7 +89,8 @@ def main(words: list[str]) -> int:
     if "--why" in options:
         print("\n".join(show(it) for it in way_to(roots, options["--why"])) or f"{options['--why']}: not among them")
         return 0
-    found = [it for it in in_order(roots) if it not in roots]
+    given = frozenset(options.get("--given", "").split(","))
+    found = [it for it in in_order(roots, given) if it not in roots]
     if "--count" not in words:
         print("\n".join("\n    ".join([show(it), *contract_of(it)]) for it in roots))
         print("\n".join(show(it) for it in found if not it.of_kit))
