@@ -194,7 +194,7 @@ module _ (channel number id handle token lifetime : ℕ) (moment : DateTime) (is
   abbrev response : OpenResponse
   response = open_response_of moment handle channel token lifetime
 
-  abbrev answer : Opening
+  abbrev pub answer : Opening
   answer =
       record {
         security = Some (none_header channel);
@@ -208,12 +208,12 @@ module _ (channel number id handle token lifetime : ℕ) (moment : DateTime) (is
       ∙ ap Opens (opening_carried channel number id ((message 449 open_response).canonical (open_response_of moment handle channel token lifetime))
       is.channel_small (omega (arith, is.number_small)) is.id_small)
 
-  answer_is : answer_in answer ≡ Some (Open response)
+  pub answer_is : answer_in answer ≡ Some (Open response)
   unfolding answer_in
   answer_is = response_read (open_response_of moment handle channel token lifetime)
       (open_response_fits moment handle channel token lifetime is.moment_fits is.handle_small is.channel_small is.token_small is.lifetime_small)
 
-  opened_size : frame_size (opened_frame channel number id handle token lifetime moment) ≡ 135
+  pub opened_size : frame_size (opened_frame channel number id handle token lifetime moment) ≡ 135
   opened_size = omega (
     arith,
     opening_size channel number id ((message 449 open_response).canonical (open_response_of moment handle channel token lifetime)),

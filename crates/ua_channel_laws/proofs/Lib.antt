@@ -27,6 +27,7 @@ mod ClientRuns
 pub mod Groups
 mod Connected
 mod ExampleRounds
+mod ExampleMerges
 mod AskedOn
 mod AskedBefore
 pub mod Lists

@@ -228,7 +228,7 @@ id_fits : IsTrue (node_id.encodable (standard 446))
 unfolding node_id
 id_fits = refl
 
-request_read : (r : OpenRequest) → IsTrue (open_request.encodable r) → body_of (message 446 open_request) ((message 446 open_request).canonical r) ≡ Some r
+pub request_read : (r : OpenRequest) → IsTrue (open_request.encodable r) → body_of (message 446 open_request) ((message 446 open_request).canonical r) ≡ Some r
 request_read r fits =
     (body_of-found (message 446 open_request) (lawful_message 446 lawful_open_request) ((message 446 open_request).canonical r) r).1
     (body_reads_back (message 446 open_request) (lawful_message 446 lawful_open_request) r

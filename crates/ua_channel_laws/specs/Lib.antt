@@ -16,3 +16,4 @@ pub mod Rounds
 pub mod ExampleRounds
 -- Messages that come merged, with renewals among them, and the state of an end after them.
 pub mod Merges
+pub mod ExampleMerges

@@ -6,8 +6,10 @@
 //! `client_follows` say what a running channel has reported after any prefix of such bytes, and
 //! `asking_laws` where a client sends while it receives them.
 
-ghost use Rattle.std.specs.Prelude.{◌≡◌, ◌↔◌, ◌<◌, ◌+◌, ◌++◌, ◌∷◌, [], ℕ, List, length, map};
+ghost use Rattle.std.specs.Prelude.{◌≡◌, ◌↔◌, ◌<◌, ◌+◌, ◌++◌, ◌∷◌, [], ℕ, IsTrue, List, length, map};
 ghost use Rattle.std.specs.List.{AllByRecursion, filter, range_with_len};
+ghost use Rattle.ua_builtin.specs.DateTime.{date_time};
+ghost use Rattle.ua_builtin.specs.declared.date_time.DateTime.{DateTime};
 ghost use Rattle.ua_frame.specs.Frames.{frames_octets};
 ghost use Rattle.ua_frame.specs.declared.frame.Frame.{Frame};
 ghost use Rattle.ua_frame.specs.declared.limits.Limits.{Limits};
@@ -24,6 +26,10 @@ ghost use Rattle.ua_channel.specs.ClientTable.{client_rules};
 ghost use Rattle.ua_channel.specs.ClientTokens.{open_responses, tokens_of};
 ghost use Rattle.ua_channel.specs.ClientTold.{ClientTold, told_item};
 ghost use Rattle.ua_channel_laws.specs.Conversation.{FitMessages};
+ghost use Rattle.ua_channel_laws.specs.ExampleMerges.{client_opened, limits_of_merge, merge_asks, merge_down};
+ghost use Rattle.ua_channel_laws.specs.ExampleMerges.{merge_heard, merge_messages, merge_told, merge_up};
+ghost use Rattle.ua_channel_laws.specs.ExampleMerges.{opening_down, opening_heard};
+ghost use Rattle.ua_channel_laws.specs.ExampleMerges.{opening_told, opening_up, server_opened};
 ghost use Rattle.ua_channel_laws.specs.Merges.{AreMerged, ClientMerge, IsCutBody, MayComeNext};
 ghost use Rattle.ua_channel_laws.specs.Merges.{ServerMerge, is_message_under, is_told_under, placed_later};
 ghost use Rattle.ua_channel_laws.specs.Merges.{told_merged_back, told_of_merge, tokens_renewed};
@@ -127,4 +133,32 @@ pub fn client_reads_merged()
     ensures first { (limits : Limits) (asks : List Placed) (octets : List ℕ) (told : List ClientTold) (at : AtClient)
         → ClientReads limits asks octets told at →
         MayComeNext (client_rules limits asks) octets at.next }
+{}
+
+/// The premises of `server_reads_merged` and `client_reads_merged` can be met, right after the
+/// opening: by four messages whose chunks are interleaved, as many as may be unfinished at a time,
+/// one of which is aborted, with a renewal in the middle of three of them. The chunks after the
+/// renewal are under the second token. The client also sends a call in the middle of the frames,
+/// and its reply is among them.
+pub fn there_are_merges()
+    // What each end read before.
+    ensures server_reads { (asked : DateTime) → IsTrue (date_time.encodable asked)
+        → ServerReads limits_of_merge 7 (opening_up asked) opening_told server_opened }
+    ensures client_reads { (answered : DateTime) → IsTrue (date_time.encodable answered)
+        → ClientReads limits_of_merge [] (opening_down answered) opening_heard client_opened }
+    // The SequenceNumber 2 may come next there.
+    ensures server_next { (asked : DateTime) → IsTrue (date_time.encodable asked)
+        → MayComeNext (server_rules limits_of_merge 7) (opening_up asked) 2 }
+    ensures client_next { (answered : DateTime) → IsTrue (date_time.encodable answered)
+        → MayComeNext (client_rules limits_of_merge []) (opening_down answered) 2 }
+    // The frames are such a merge, numbered from 2 to 11.
+    ensures server_merges { (asked : DateTime) → IsTrue (date_time.encodable asked)
+        → ServerMerge limits_of_merge 7 server_opened merge_messages (merge_up asked) 12 }
+    ensures client_merges { (answered : DateTime) → IsTrue (date_time.encodable answered)
+        → ClientMerge limits_of_merge client_opened [] merge_asks merge_messages (merge_down answered) 12 }
+    // What they tell.
+    ensures told { (asked : DateTime) → IsTrue (date_time.encodable asked)
+        → told_of_merge merge_messages 1 (merge_up asked) ≡ merge_told }
+    ensures heard { (answered : DateTime) → IsTrue (date_time.encodable answered)
+        → told_merged_back merge_messages (merge_down answered) ≡ merge_heard }
 {}
