@@ -28,6 +28,15 @@ def library(name: str, uses: list[str], folder: str) -> str:
     return f"{name}:{','.join(dict.fromkeys(['core', *uses]))}={folder}/src/lib.rt"
 
 
+def stands(crate: Any) -> bool:
+    """Whether a library stands in its out/, proved as its sources are now."""
+    path = crate.folder + "/out/rlib/stamp"
+    if not os.path.isfile(path):
+        return False
+    with open(path, encoding="utf-8") as file:
+        return file.read() == crate.stamp()
+
+
 def words_for(kit: str, crate: Any) -> list[str]:
     """The words of a check of a crate, over libraries that are built and over sources of the others."""
     of_kit = {"core", *crate.of_kit, *(it for below in crate.below() for it in below.of_kit)}
@@ -36,7 +45,7 @@ def words_for(kit: str, crate: Any) -> list[str]:
         words += ["--extern", f"{name}={kit}/rlibs/{name}.rlib"]
     words += ["-L", f"dependency={kit}/rlibs"]
     for it in crate.below():
-        if it.is_built():
+        if stands(it):
             words += ["--extern", f"{it.name}={it.rlib}"]
         else:
             words += ["--lib", library(it.name, [*it.of_kit, *(dep.name for dep in it.deps)], it.folder)]
@@ -46,7 +55,10 @@ def words_for(kit: str, crate: Any) -> list[str]:
 def main(name: str, functions: list[str]) -> int:
     rt = toolchain()
     kit = os.path.dirname(os.path.dirname(os.path.abspath(rt.__file__)))
-    crate = next(it for it in rt.crates_of(TOP) if it.name == name)
+    rt.rtlib.Crate = rt.Crate
+    rt.Crate.cuts_libraries = True
+    rt.Crate.allowed = rt.handles_of(TOP)
+    crate = next(it for it in rt.rtlib.crates_below(TOP) if it.name == name)
     with tempfile.TemporaryDirectory() as kept:
         words = ["check", *words_for(kit, crate), "--incremental", kept, "--jobs", "1"]
         words += [word for it in functions for word in ("--only", it)]

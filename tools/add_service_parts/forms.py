@@ -81,6 +81,19 @@ impl Wire for {s.name} {{
 """
 
 
+def skip_of(s: Structure, k: Schema) -> str:
+    """Its `impl Skip`: field by field."""
+    calls = [f"{call}(alloc, src, depth)" for call in k.all("skip", s)] + ["Ok(())"] * (s.fields[-1][1] == "RequestHeader")
+    skipped = "?;\n        ".join(calls)
+    return f"""impl Skip for {s.name} {{
+    #[tactic(auto, unfolding(crate::specs::{s.spec}::{s.word}))]
+    fn skip_value<S: Source>(alloc: Global, src: &mut S, depth: u32) -> Result<(), ReadFault> {{
+        {skipped}
+    }}
+}}
+"""
+
+
 def format_of(s: Structure, k: Schema) -> str:
     """Its format, for a file of specs/."""
     tuples, record, parts = nested(s.names()), "; ".join(f"{it} = {it}" for it in s.names()), ["s." + it for it in s.names()]

@@ -2,14 +2,15 @@
 from __future__ import annotations
 
 import os
+import re
 import shutil
 import subprocess
 import tempfile
 from typing import Iterable
 
-from add_service_parts.forms import answer_of, entries_of, format_of, lemma_of, lines_of, shown_of, wire_of
+from add_service_parts.forms import answer_of, entries_of, format_of, lemma_of, lines_of, shown_of, skip_of, wire_of
 from add_service_parts.schema import File, Schema, Structure, title_case
-from add_service_parts.texts import OPENING, PAIR, ROWS, text_of
+from add_service_parts.texts import OPENING, PAIR, ROWS, STRUCTURES, text_of
 from add_service_parts.words import COMMON, SOUND_FILE, TREE_FILE
 from break_lines import settled
 
@@ -76,6 +77,20 @@ def wire_file(file: File, k: Schema) -> str:
     return head(file, "//!", f"Decodes and encodes the structures of {file.title}.") + "\n" + uses(names) + "\n" + body
 
 
+def skip_file(file: File, k: Schema) -> str:
+    """How the structures of a module are skipped."""
+    if file.crate != STRUCTURES:
+        return ""
+    body = "\n".join(skip_of(s, k) for s in file.structures)
+    origins = {s.name: f"crate::{s.declared_in}" for s in k.structures.values() if s.crate == STRUCTURES}
+    found = elements(file.structures) + [s.name for s in file.structures]
+    names = [(k.of(kind).rust, origins.get(kind, k.of(kind).library)) for kind in found if k.of(kind).library]
+    names += [("skip_one", "crate::skip"), ("skip_status_codes", "crate::skip"), ("UaArray", "ua_opening"), ("Global", "std::alloc")]
+    names += [(it, "ua_builtin") for it in ("ReadFault", "Skip", "Source")]
+    names = [it for it in names if re.search(rf"\b{it[0]}\b", body)]
+    return head(file, "//!", f"Skips the structures of {file.title}, field by field.") + "\n" + uses(names) + "\n" + body
+
+
 def format_file(file: File, k: Schema) -> str:
     """The formats of the structures of a module."""
     words = [(k.of(kind).format, k.of(kind).origin) for kind in elements(file.structures)]
@@ -128,7 +143,8 @@ def generated(k: Schema) -> dict[str, str]:
     found = {SHOWN: shown_file(k)}
     for file in k.files:
         spec = title_case(file.module)
-        found |= {f"{file.crate}/src/{file.module}_wire.rt": wire_file(file, k), f"{file.crate}/specs/{spec}.antt": format_file(file, k),
+        found |= {f"{file.crate}/src/{file.module}_wire.rt": wire_file(file, k), f"{file.crate}/src/{file.module}_skip.rt": skip_file(file, k)}
+        found |= {f"{file.crate}/specs/{spec}.antt": format_file(file, k),
                   f"{file.crate}/proofs/{spec}Sound.antt": sound_file(file, k), f"{PAIR}/src/fields/{file.module}.rt": lines_file(file, k),
                   f"{PAIR}/specs/{spec}.antt": tree_file(file, k)}
         for s in file.structures:

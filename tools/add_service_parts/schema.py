@@ -6,7 +6,7 @@ import re
 from typing import Iterable
 
 from add_service_parts.texts import NEW, STRUCTURES, TOP, Refused, braced, read, snake, stem
-from add_service_parts.words import BUILT_IN, LACKS, Word
+from add_service_parts.words import BUILT_IN, LACKS, SKIPS, Word
 
 FOLDER = "schema"
 LINE = re.compile(r"module (?P<module>[a-z][a-z0-9_]*) of (?P<crate>\w+)$|"
@@ -195,10 +195,10 @@ class Schema:
     def word(self, part: str, kind: str) -> str:
         """What a structure has in this part for a field of this type."""
         element = kind.removesuffix("[]")
-        word = str(getattr(self.of(element), part))
+        word = SKIPS.get(kind, self.word("rust", kind).replace("<", "::<") + "::skip_value") if part == "skip" else str(getattr(self.of(element), part))
         if not word:
             raise Refused(f"the type {kind}: {LACKS[part]}")
-        if element == kind:
+        if element == kind or part == "skip":
             return word
         if part == "tree":
             return f"array_of (λ e. {word.replace('@', 'e')}) @" if word.startswith("structure ") else f"array_of {word}"

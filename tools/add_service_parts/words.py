@@ -51,9 +51,13 @@ BUILT_IN = {
     "DataValue": Word("DataValue", "ua_variant", "data_value_format", "Rattle.ua_variant.specs.Formats", "", "structure (data_value_entries @)",
                       tree_file="Rattle.ua_pair.specs.DataValue"),
 }
+# The calls that skip what has no `impl Skip`.
+SKIPS = {"RequestHeader": "RequestHeader::skip_for_handle", "LocalizedText": "skip_one::<LocalizedText, S>", "StatusCode": "skip_one::<StatusCode, S>",
+         "StatusCode[]": "skip_status_codes", "LocalizedText[]": ""}
 # What is said where a type has no such word.
 LACKS = {"rust": "schema/ has no such structure, and words.py no such type",
          "lemma": "it is not sound, or words.py does not say which lemma of proofs/Sound.antt says so",
+         "skip": "ua_structures does not skip it: write how in its src/skip.rt, and in SKIPS of words.py",
          "tree": "it has no lines: write them first, in specs/Leaves.antt and src/fields/leaves.rt of ua_pair, and their word in words.py"}
 # Words that are of no one type, and the files of specs/ and proofs/ that have them.
 COMMON = {

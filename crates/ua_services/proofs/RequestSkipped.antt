@@ -57,6 +57,10 @@ skips_made f r old new (Ok done) h = same_skip f (r old) ∙ h
 skips_made f r old new (Err NoValue) h = same_skip f (r old) ∙ h
 skips_made f r old new (Err NoMemory) h = tt
 
+pub skips_kind : (kind k : RequestKind) (levels : ℕ) (old new : List ℕ) (result : Result (Unit {0}) ReadFault) → kind ≡ k
+    → Gives (skipped ((requests.format k).decode levels)) old new result → Gives (skipped (kind_at requests levels (Some kind))) old new result
+skips_kind kind k levels old new result is h = rw is (skips_made (requests.make k) ((requests.format k).decode levels) old new result h)
+
 kind_made : (k : RequestKind) (old new : List ℕ) (m : Request) → kind_at requests most_levels (Some k) old ≡ Some (m, new) → kind_of_request m ≡ k
 kind_made k old new m e =
     let s = made_of (requests.make k) ((requests.format k).decode most_levels old) m new e in

@@ -1,19 +1,22 @@
 -- A response that is skipped, against the reader on lists.
-use Rattle.std.specs.Prelude.{◌≡◌, ℕ, ◌<◌, ◌≤◌, List, length, Option, Some, None, Result, Ok, Err, ◌⊎◌}
+use Rattle.std.specs.Prelude.{◌≡◌, ℕ, ◌<◌, ◌≤◌, List, length, Some, None, Result, Ok, Err, ◌⊎◌}
 use Rattle.std.proofs.Common.{refl, sym, ◌∙◌, ap, subst, inl, inr}
 use Rattle.ua_builtin.specs.Exact.{skipped}
 use Rattle.ua_builtin.specs.Format.{Gives, most_levels}
 use Rattle.ua_builtin.specs.NodeId.{node_id}
 use Rattle.ua_builtin.specs.declared.node_id.NodeId.{NodeId}
 use Rattle.ua_wire.specs.declared.fault.ReadFault.{ReadFault}
+use Rattle.ua_opening.specs.Header.{response_header, service_fault}
 use Rattle.ua_opening.specs.Message.{kind_at}
+use Rattle.ua_opening.specs.declared.header.ServiceFault.{ServiceFault}
 use Rattle.ua_services.specs.Response.{responses, response_kind, response_read, response_kind_alone}
 use Rattle.ua_services.specs.Response.{kind_of_response, read_as_response, unread_by, ResponseStructure}
 use Rattle.ua_services.specs.declared.response.Response.{Response}
 use Rattle.ua_services.specs.declared.response.ResponseKind.{ResponseKind}
+use Rattle.ua_services.specs.declared.response.ResponseKind.TheVariants.{ServiceFault as ServiceFaultKind}
 use Rattle.ua_services.specs.declared.fault.ResponseFault.{ResponseFault}
 use Rattle.ua_services.specs.declared.fault.ResponseFault.TheVariants.{Unknown, Unreadable, OutOfMemory}
-use Rattle.ua_services.proofs.RequestSkipped.{image_err, made_of}
+use Rattle.ua_services.proofs.RequestSkipped.{image_err, made_of, skips_made}
 use Rattle.ua_services.proofs.ResponseLawful.{is_response}
 use Rattle.ua_services.proofs.ResponseRead.{Reads, id_fails, kind_fails, kind_found, kind_left, kind_whole, unknown}
 
@@ -26,6 +29,19 @@ skips r expected (inl h) = inl (ap response_kind_alone h)
 skips r expected (inr h) = inr (ap response_kind_alone h)
 
 -- ---- a response behind its NodeId
+
+-- the reader of a kind that is skipped is that of its structure
+pub skips_kind : (kind k : ResponseKind) (levels : ℕ) (old new : List ℕ) (result : Result (Unit {0}) ReadFault) → kind ≡ k
+    → Gives (skipped ((responses.format k).decode levels)) old new result → Gives (skipped (kind_at responses levels (Some kind))) old new result
+skips_kind kind k levels old new result is h = rw is (skips_made (responses.make k) ((responses.format k).decode levels) old new result h)
+
+-- a ServiceFault is its header (OPC 10000-4, 7.35)
+pub skips_fault : (kind : ResponseKind) (levels : ℕ) (old new : List ℕ) (result : Result (Unit {0}) ReadFault) → kind ≡ ServiceFaultKind
+    → Gives (skipped (response_header.decode levels)) old new result → Gives (skipped (kind_at responses levels (Some kind))) old new result
+unfolding service_fault
+skips_fault kind levels old new result is h =
+    skips_kind kind ServiceFaultKind levels old new result is
+    (skips_made {M = ServiceFault} (λ header. record { response_header = header }) (response_header.decode levels) old new result h)
 
 kind_made : (k : ResponseKind) (old new : List ℕ) (m : Response) → kind_at responses most_levels (Some k) old ≡ Some (m, new) → kind_of_response m ≡ k
 kind_made k old new m e =

@@ -66,8 +66,30 @@ macro_rules! message_of_kind {
     };
 }
 
+/// The structure of a kind, skipped.
+macro_rules! skip_of_kind {
+    ($all:ident $kinds:ident [$($kind:ident($held:ident) = $of:literal,)+] $of_kind:expr, $alloc:expr, $src:expr,
+        $depth:expr) => {
+        match $of_kind {
+            $($kinds::$kind => skip_structure!($held, $alloc, $src, $depth),)+
+        }
+    };
+}
+
+/// A structure, skipped. A ServiceFault is its header (OPC 10000-4, 7.35).
+macro_rules! skip_structure {
+    (ServiceFault, $alloc:expr, $src:expr, $depth:expr) => {
+        ResponseHeader::skip_value($alloc, $src, $depth)
+    };
+    ($held:ident, $alloc:expr, $src:expr, $depth:expr) => {
+        $held::skip_value($alloc, $src, $depth)
+    };
+}
+
 pub(crate) use kind_of;
 pub(crate) use message_of_kind;
 pub(crate) use name_of;
 pub(crate) use number_of;
 pub(crate) use numbered;
+pub(crate) use skip_of_kind;
+pub(crate) use skip_structure;

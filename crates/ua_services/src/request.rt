@@ -10,7 +10,7 @@ ghost use Rattle.ua_services.specs.Request.{request, requests, request_kind, req
 ghost use Rattle.ua_services.specs.Request.{read_as_request, kind_alone, request_read, thin_read, MisreadRequest};
 
 use crate::fault::RequestFault;
-use crate::kinds::{kind_of, message_of_kind, name_of, numbered};
+use crate::kinds::{kind_of, message_of_kind, name_of, numbered, skip_of_kind, skip_structure};
 use crate::{by_kind, requests};
 use std::alloc::{AllocError, Global};
 use ua_builtin::{MOST_LEVELS, NodeId, ReadFault, Skip, Source, Wire, WriteFault};
@@ -393,8 +393,8 @@ pub fn read_request_for<S: Source, T: TakesTypes>(
     }
 }
 
-// Skips the structure of a request of that kind. Of a Read and a Write no item is kept.
-#[tactic(auto, unfolding(crate::specs::Request::request_of_kind))]
+// Skips the structure of a request of that kind, field by field.
+#[tactic(auto, using(crate::proofs::RequestSkipped::skips_kind))]
 fn skip_kind<S: Source>(
     alloc: Global,
     src: &mut S,
@@ -405,15 +405,7 @@ fn skip_kind<S: Source>(
     ensures exact { Gives (skipped (kind_at requests depth (Some kind))) (S.octets src.old) (S.octets src.new) result }
     ensures behind { StaysBehind (S.octets src.old) (S.octets src.new) }
 {
-    match kind {
-        RequestKind::Read => ReadRequest::skip_value(alloc, src, depth),
-        RequestKind::Write => WriteRequest::skip_value(alloc, src, depth),
-        _ => {
-            let request = read_kind(alloc, src, depth, kind)?;
-            drop(request);
-            Ok(())
-        }
-    }
+    requests!(skip_of_kind, kind, alloc, src, depth)
 }
 
 // Skips a request of that kind after its NodeId, and nothing after it.
@@ -435,10 +427,9 @@ fn skip_last<S: Source>(
     Ok(kind)
 }
 
-/// The kind of the request that [`read_request`] would decode from this body. No item of a Read or
-/// a Write is kept: no more memory is allocated than one field, one scalar of a value, or a part of
-/// an array needs at a time. A request of another kind is decoded and dropped. After an error,
-/// discard the source.
+/// The kind of the request that [`read_request`] would decode from this body, of which nothing is
+/// kept: no more memory is allocated than one scalar, as a String, or a part of an array needs at a
+/// time. After an error, discard the source.
 pub fn skip_request<S: Source>(alloc: Global, src: &mut S) -> Result<RequestKind, RequestFault>
     ensures kind { (result ≡ kind_alone (request_read (S.octets src.old))) ⊎ (result ≡ Err RequestFault.OutOfMemory) }
 {

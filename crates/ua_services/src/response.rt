@@ -11,7 +11,9 @@ ghost use Rattle.ua_services.specs.Response.{read_as_response, response_kind_alo
 ghost use Rattle.ua_services.specs.Response.{response_read, MisreadResponse};
 
 use crate::fault::ResponseFault;
-use crate::kinds::{kind_of, message_of_kind, name_of, number_of, numbered};
+use crate::kinds::{
+    kind_of, message_of_kind, name_of, number_of, numbered, skip_of_kind, skip_structure,
+};
 use crate::request::RequestKind;
 use crate::{by_kind, requests, responses};
 use std::alloc::{AllocError, Global};
@@ -315,8 +317,8 @@ pub fn read_response<S: Source>(alloc: Global, src: &mut S) -> Result<Response, 
     }
 }
 
-// Skips the structure of a response of that kind. Of a Read no result is kept.
-#[tactic(auto, unfolding(crate::specs::Response::response_of_kind))]
+// Skips the structure of a response of that kind, field by field.
+#[tactic(auto, using(crate::proofs::ResponseSkipped::skips_kind))]
 fn skip_kind<S: Source>(
     alloc: Global,
     src: &mut S,
@@ -327,14 +329,7 @@ fn skip_kind<S: Source>(
     ensures exact { Gives (skipped (kind_at responses depth (Some kind))) (S.octets src.old) (S.octets src.new) result }
     ensures behind { StaysBehind (S.octets src.old) (S.octets src.new) }
 {
-    match kind {
-        ResponseKind::Read => ReadResponse::skip_value(alloc, src, depth),
-        _ => {
-            let response = read_kind(alloc, src, depth, kind)?;
-            drop(response);
-            Ok(())
-        }
-    }
+    responses!(skip_of_kind, kind, alloc, src, depth)
 }
 
 // Skips a response of that kind after its NodeId, and nothing after it.
@@ -355,10 +350,9 @@ fn skip_last<S: Source>(
     Ok(kind)
 }
 
-/// The kind of the response that [`read_response`] would decode from this body. No result of a Read
-/// is kept: no more memory is allocated than one field, one scalar of a value, or a part of an array
-/// needs at a time. A response of another kind is decoded and dropped. After an error, discard the
-/// source.
+/// The kind of the response that [`read_response`] would decode from this body, of which nothing is
+/// kept: no more memory is allocated than one scalar, as a String, or a part of an array needs at a
+/// time. After an error, discard the source.
 pub fn skip_response<S: Source>(alloc: Global, src: &mut S) -> Result<ResponseKind, ResponseFault>
     ensures kind { (result ≡ response_kind_alone (response_read (S.octets src.old)))
         ⊎ (result ≡ Err ResponseFault.OutOfMemory) }

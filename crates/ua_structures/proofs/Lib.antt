@@ -1,5 +1,6 @@
 pub mod PlainFits
 mod Ahead
+mod CodesSkipped
 mod ValueAlone
 mod Thinned
 pub mod AttributeLawful

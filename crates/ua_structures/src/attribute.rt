@@ -18,7 +18,7 @@ ghost use Rattle.ua_structures.specs.Plain.{value_for_node, read_of, write_of, r
 use crate::data_values::read_data_values;
 use std::alloc::{AllocError, Global};
 use ua_builtin::{
-    DoubleBits, NodeId, QualifiedName, ReadFault, Skip, Source, StatusCode, UaString, Wire,
+    DoubleBits, NodeId, QualifiedName, ReadFault, Source, StatusCode, UaString, Wire,
 };
 use ua_opening::{RequestHeader, ResponseHeader, UaArray};
 use ua_variant::{DataValue, DiagnosticInfo};
@@ -57,16 +57,6 @@ impl ReadValueId {
                 name: UaString::null(),
             },
         }
-    }
-}
-
-impl Skip for ReadValueId {
-    #[tactic(auto, unfolding(crate::specs::Attribute::read_value_id))]
-    fn skip_value<S: Source>(alloc: Global, src: &mut S, depth: u32) -> Result<(), ReadFault> {
-        NodeId::skip_value(alloc, src, depth)?;
-        u32::skip_value(alloc, src, depth)?;
-        UaString::skip_value(alloc, src, depth)?;
-        QualifiedName::skip_value(alloc, src, depth)
     }
 }
 
@@ -150,16 +140,6 @@ impl ReadRequest {
     }
 }
 
-impl Skip for ReadRequest {
-    #[tactic(auto, unfolding(crate::specs::Attribute::read_request))]
-    fn skip_value<S: Source>(alloc: Global, src: &mut S, depth: u32) -> Result<(), ReadFault> {
-        RequestHeader::skip_for_handle(alloc, src, depth)?;
-        DoubleBits::skip_value(alloc, src, depth)?;
-        i32::skip_value(alloc, src, depth)?;
-        UaArray::<ReadValueId>::skip_value(alloc, src, depth)
-    }
-}
-
 /// The response to a [`ReadRequest`] (OPC 10000-4, 5.11.2).
 #[derive(Debug, Drop)]
 pub struct ReadResponse {
@@ -218,15 +198,6 @@ impl ReadResponse {
         self.results = read_data_values(alloc, src, depth)?;
         self.diagnostic_infos = UaArray::read_value(alloc, src, depth)?;
         Ok(())
-    }
-}
-
-impl Skip for ReadResponse {
-    #[tactic(auto, unfolding(crate::specs::Attribute::read_response))]
-    fn skip_value<S: Source>(alloc: Global, src: &mut S, depth: u32) -> Result<(), ReadFault> {
-        ResponseHeader::skip_value(alloc, src, depth)?;
-        UaArray::<DataValue>::skip_value(alloc, src, depth)?;
-        UaArray::<DiagnosticInfo>::skip_value(alloc, src, depth)
     }
 }
 
@@ -310,16 +281,6 @@ impl WriteValue {
     }
 }
 
-impl Skip for WriteValue {
-    #[tactic(auto, unfolding(crate::specs::Attribute::write_value))]
-    fn skip_value<S: Source>(alloc: Global, src: &mut S, depth: u32) -> Result<(), ReadFault> {
-        NodeId::skip_value(alloc, src, depth)?;
-        u32::skip_value(alloc, src, depth)?;
-        UaString::skip_value(alloc, src, depth)?;
-        DataValue::skip_value(alloc, src, depth)
-    }
-}
-
 /// The Write request: sets attributes of nodes (OPC 10000-4, 5.11.4).
 #[derive(Debug, Drop)]
 pub struct WriteRequest {
@@ -365,14 +326,6 @@ impl WriteRequest {
         let mut items = Vec::new(alloc);
         items.push(item)?;
         Ok(WriteRequest::with_items(request_header, items))
-    }
-}
-
-impl Skip for WriteRequest {
-    #[tactic(auto, unfolding(crate::specs::Attribute::write_request))]
-    fn skip_value<S: Source>(alloc: Global, src: &mut S, depth: u32) -> Result<(), ReadFault> {
-        RequestHeader::skip_for_handle(alloc, src, depth)?;
-        UaArray::<WriteValue>::skip_value(alloc, src, depth)
     }
 }
 

@@ -17,14 +17,18 @@
 #![tactic(auto)]
 
 mod attribute;
+mod attribute_skip;
 mod attribute_wire;
 mod data_values;
 mod discovery;
+mod discovery_skip;
 mod discovery_wire;
 pub mod laws;
 mod session;
+mod session_skip;
 mod session_wire;
 mod signature;
+mod skip;
 mod thin;
 
 pub use attribute::{

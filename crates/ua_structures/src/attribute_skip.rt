@@ -1,0 +1,67 @@
+//! Written by `tools/add_service.py --write` from `schema/attribute.txt`.
+//! Skips the structures of the services Read and Write, field by field.
+
+use crate::attribute::{
+    ReadRequest, ReadResponse, ReadValueId, WriteRequest, WriteResponse, WriteValue,
+};
+use crate::skip::skip_status_codes;
+use std::alloc::Global;
+use ua_builtin::{DoubleBits, NodeId, QualifiedName, ReadFault, Skip, Source, UaString};
+use ua_opening::{RequestHeader, ResponseHeader, UaArray};
+use ua_variant::{DataValue, DiagnosticInfo};
+
+impl Skip for ReadValueId {
+    #[tactic(auto, unfolding(crate::specs::Attribute::read_value_id))]
+    fn skip_value<S: Source>(alloc: Global, src: &mut S, depth: u32) -> Result<(), ReadFault> {
+        NodeId::skip_value(alloc, src, depth)?;
+        u32::skip_value(alloc, src, depth)?;
+        UaString::skip_value(alloc, src, depth)?;
+        QualifiedName::skip_value(alloc, src, depth)
+    }
+}
+
+impl Skip for ReadRequest {
+    #[tactic(auto, unfolding(crate::specs::Attribute::read_request))]
+    fn skip_value<S: Source>(alloc: Global, src: &mut S, depth: u32) -> Result<(), ReadFault> {
+        RequestHeader::skip_for_handle(alloc, src, depth)?;
+        DoubleBits::skip_value(alloc, src, depth)?;
+        i32::skip_value(alloc, src, depth)?;
+        UaArray::<ReadValueId>::skip_value(alloc, src, depth)
+    }
+}
+
+impl Skip for ReadResponse {
+    #[tactic(auto, unfolding(crate::specs::Attribute::read_response))]
+    fn skip_value<S: Source>(alloc: Global, src: &mut S, depth: u32) -> Result<(), ReadFault> {
+        ResponseHeader::skip_value(alloc, src, depth)?;
+        UaArray::<DataValue>::skip_value(alloc, src, depth)?;
+        UaArray::<DiagnosticInfo>::skip_value(alloc, src, depth)
+    }
+}
+
+impl Skip for WriteValue {
+    #[tactic(auto, unfolding(crate::specs::Attribute::write_value))]
+    fn skip_value<S: Source>(alloc: Global, src: &mut S, depth: u32) -> Result<(), ReadFault> {
+        NodeId::skip_value(alloc, src, depth)?;
+        u32::skip_value(alloc, src, depth)?;
+        UaString::skip_value(alloc, src, depth)?;
+        DataValue::skip_value(alloc, src, depth)
+    }
+}
+
+impl Skip for WriteRequest {
+    #[tactic(auto, unfolding(crate::specs::Attribute::write_request))]
+    fn skip_value<S: Source>(alloc: Global, src: &mut S, depth: u32) -> Result<(), ReadFault> {
+        RequestHeader::skip_for_handle(alloc, src, depth)?;
+        UaArray::<WriteValue>::skip_value(alloc, src, depth)
+    }
+}
+
+impl Skip for WriteResponse {
+    #[tactic(auto, unfolding(crate::specs::Attribute::write_response))]
+    fn skip_value<S: Source>(alloc: Global, src: &mut S, depth: u32) -> Result<(), ReadFault> {
+        ResponseHeader::skip_value(alloc, src, depth)?;
+        skip_status_codes(alloc, src, depth)?;
+        UaArray::<DiagnosticInfo>::skip_value(alloc, src, depth)
+    }
+}
