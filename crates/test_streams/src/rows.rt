@@ -82,6 +82,7 @@ impl Rows {
                 .sharing
                 .answer(&self.given, kind, words, told),
             "converse" => served::answer(&self.given, &self.serving, words, told),
+            "converse-at" => served::answer_at(&self.given, &self.serving, words, told),
             _ => self.answer_alone(kind, words, told),
         }
     }

@@ -5,8 +5,8 @@ use crate::given::Given;
 use crate::requests::requests_of;
 use crate::serving::{Serving, services_over, tell_end};
 use crate::told::Told;
-use crate::words::{front, lengths_of, text_of};
-use ua_builtin::Wire;
+use crate::words::{front, lengths_of, moment_of, moments_of, text_of};
+use ua_builtin::{DateTime, Wire};
 use ua_client::ClientFault;
 use ua_loopback::{ConversationLog, Fragments, Operation, ServerSetup, Stage, converse};
 use ua_services::Request;
@@ -15,6 +15,42 @@ use ua_services::Request;
 /// written and returns what it sends in fragments of at most the lengths that words say, and tells
 /// what the first word asks for: the bytes `up` or `down`, the `replies`, or how much `came`.
 pub fn answer(given: &Given, serving: &Serving, words: &str, told: &mut Told) {
+    let later = Vec::new(told.alloc());
+    answer_dated(given, serving, given.moment, later, words, told);
+}
+
+/// The same where the server's answers have the times of the first word, joined by `,`. The first
+/// is also the client's.
+pub fn answer_at(given: &Given, serving: &Serving, words: &str, told: &mut Told) {
+    let (times, words) = front(words);
+    let (first, times) = times.split_once(',').unwrap_or((times, ""));
+    let moment = DateTime {
+        ticks: moment_of(first, told),
+    };
+    let later = dates_of(times, told);
+    answer_dated(given, serving, moment, later, words, told);
+}
+
+/// The times that are joined by `,`, as DateTimes.
+fn dates_of(word: &str, told: &mut Told) -> Vec<DateTime> {
+    let mut dates = Vec::new(told.alloc());
+    for ticks in &moments_of(word, told) {
+        if dates.push(DateTime { ticks: *ticks }).is_err() {
+            told.refused();
+        }
+    }
+    dates
+}
+
+/// The same where the first answer has this time, and those after it the later ones.
+fn answer_dated(
+    given: &Given,
+    serving: &Serving,
+    moment: DateTime,
+    later: Vec<DateTime>,
+    words: &str,
+    told: &mut Told,
+) {
     let (what, words) = front(words);
     let (writes, words) = front(words);
     let (reads, words) = front(words);
@@ -38,7 +74,8 @@ pub fn answer(given: &Given, serving: &Serving, words: &str, told: &mut Told) {
         limits,
         channel_id: serving.channel,
         services,
-        moment: given.moment,
+        moment,
+        later,
     };
     let found = converse(told.alloc(), server, url, turns.as_slice(), fragments);
     tell(given, what, found, told);

@@ -69,6 +69,7 @@ fn conversed(
         channel_id: CHANNEL_ID,
         services,
         moment,
+        later: Vec::new(alloc),
     };
     Ok(converse(alloc, server, address, turns, fragments))
 }

@@ -82,9 +82,9 @@ some_failures f old new none is line =
     omega (arith, one)
 
 pub fails_on : (r told : Result (Unit {0}) ClientFault) (far : Stage) (b : Beginning) (limits : Limits) (channel : ℕ) (services : State) (url : Option (List ℕ))
-    (moment : DateTime) (turns : List (Option (List Request))) (place : ℕ) (old new : Served) (replies : List Reply)
-    → told ≡ outcome_at far r → b ≡ record { limits = limits; channel = channel; first = services; moments = λ (n : ℕ). moment }
-    → CanOpenTo (record { limits = limits; channel = channel; first = services; moments = λ (n : ℕ). moment }) limits url moment → IsSoundState services
+    (moment : DateTime) (times : ℕ → DateTime) (turns : List (Option (List Request))) (place : ℕ) (old new : Served) (replies : List Reply)
+    → told ≡ outcome_at far r → b ≡ record { limits = limits; channel = channel; first = services; moments = times }
+    → CanOpenTo (record { limits = limits; channel = channel; first = services; moments = times }) limits url moment → IsSoundState services
     → old.up ≡ [] → old.read ≡ 0 → old.failures ≡ 0 → new.failures ≡ failures_behind old.failures r → (0 < new.failures → IsOver far) → EndsAtStage far b new.up
     → length (server_output b new.up) < most_reads
     → IfErr r (λ f. (b' : Beginning) → CanOpenTo b' limits url moment → IsLineTo b' [] [] (Some (traffic_of b old)) → url_length url ≤ 4095
@@ -94,13 +94,15 @@ pub fails_on : (r told : Result (Unit {0}) ClientFault) (far : Stage) (b : Begin
     → IfErr r (λ f. IsTurnFault f → (b' : Beginning) → CanOpenTo b' limits url moment → IsLineTo b' [] [] (Some (traffic_of b old))
     → WentBefore b' limits url moment turns place (Some (traffic_of b old)) (Some (traffic_of b new)) replies)
     → IfErr told (λ f. url_length url ≤ 4095 → FailsAtStage far f)
-fails_on (Ok found) told far b limits channel services url moment turns place old new replies told_is is able sound none nothing_read no_failure failed over
+fails_on (Ok found) told far b limits channel services url moment times turns place old new replies told_is is able sound none nothing_read no_failure failed
+    over
     ends few t u before =
     subst (λ (r : Result (Unit {0}) ClientFault). IfErr r (λ f. url_length url ≤ 4095 → FailsAtStage far f)) (sym told_is) tt
-fails_on (Err f) told far b limits channel services url moment turns place old new replies told_is is able sound none nothing_read no_failure failed over ends
+fails_on (Err f) told far b limits channel services url moment times turns place old new replies told_is is able sound none nothing_read no_failure failed over
+    ends
     few t u before =
     subst (λ (r : Result (Unit {0}) ClientFault). IfErr r (λ g. url_length url ≤ 4095 → FailsAtStage far g)) (sym told_is) (λ short.
-    let begun : Beginning = record { limits = limits; channel = channel; first = services; moments = λ (n : ℕ). moment } in
+    let begun : Beginning = record { limits = limits; channel = channel; first = services; moments = times } in
     let can : CanOpenTo b limits url moment = subst (λ (d : Beginning). CanOpenTo d limits url moment) (sym is) able in
     let line : IsLineTo b [] [] (Some (traffic_of b old)) = line_begins b old none nothing_read in
     let stops = u b can line short in

@@ -74,13 +74,13 @@ can_open_to b limits url moment can receive send octets chunks dated url_fits =
 -- the same of a server with the same limits
 pub can_open : (limits : Limits) (channel : ℕ) (first : State) (url : Option (List ℕ)) (moment : DateTime) → Fits w32 limits.receive_buffer_size
     → Fits w32 limits.send_buffer_size → Fits w32 limits.max_message_size → Fits w32 limits.max_chunk_count
-    → Fits w32 channel → FitsSigned w64 moment.ticks → IsTrue (text.encodable url)
-    → CanOpenTo (record { limits = limits; channel = channel; first = first; moments = λ (n : ℕ). moment }) limits url moment
-can_open limits channel first url moment receive send octets chunks small dated url_fits =
-    can_open_to (record { limits = limits; channel = channel; first = first; moments = λ (n : ℕ). moment }) limits url moment
+    → Fits w32 channel → FitsSigned w64 moment.ticks → (times : ℕ → DateTime) → ((n : ℕ) → IsTrue (date_time.encodable (times n))) → IsTrue (text.encodable url)
+    → CanOpenTo (record { limits = limits; channel = channel; first = first; moments = times }) limits url moment
+can_open limits channel first url moment receive send octets chunks small dated times all url_fits =
+    can_open_to (record { limits = limits; channel = channel; first = first; moments = times }) limits url moment
     (record {
       octets = below limits.max_message_size octets;
       chunks = below limits.max_chunk_count chunks;
       on = below channel small;
-      dated = λ n. moment_fits moment dated;
+      dated = all;
     }) receive send octets chunks dated url_fits

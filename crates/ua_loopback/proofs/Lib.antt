@@ -1,4 +1,5 @@
 pub mod Saying
+mod Clocks
 pub mod Stepped
 mod Pieces
 mod Lines

@@ -50,6 +50,7 @@ pub record Ran : Type 0 where
   pub services : State
   pub url : Option (List ℕ)
   pub moment : DateTime
+  pub times : ℕ → DateTime
   pub turns : List (Option (List Request))
   pub old : Served
   pub new : Served
@@ -62,8 +63,8 @@ pub record Ran : Type 0 where
   pub down : List ℕ
   pub left : State
   -- the server begins as the caller says, with sound services, and both can open; the line is new
-  pub begun_is : begun ≡ record { limits = limits; channel = channel; first = services; moments = λ (n : ℕ). moment }
-  pub able : CanOpenTo (record { limits = limits; channel = channel; first = services; moments = λ (n : ℕ). moment }) limits url moment
+  pub begun_is : begun ≡ record { limits = limits; channel = channel; first = services; moments = times }
+  pub able : CanOpenTo (record { limits = limits; channel = channel; first = services; moments = times }) limits url moment
   pub sound : IsSoundState services
   pub none : old.up ≡ []
   pub nothing_read : old.read ≡ 0
@@ -116,7 +117,7 @@ reason_then (Err f) P Q by p = λ reason. by f (p reason)
 module _ (q : Ran) where
   -- the server, as the caller says that it begins
   abbrev server : Beginning
-  server = record { limits = q.limits; channel = q.channel; first = q.services; moments = λ (n : ℕ). q.moment }
+  server = record { limits = q.limits; channel = q.channel; first = q.services; moments = q.times }
 
   abbrev was : Option Traffic
   was = Some (traffic_of q.begun q.old)
@@ -172,7 +173,7 @@ module _ (q : Ran) where
     did_leave = subst (λ (s : Stage). LeavesAtStage s q.begun q.up q.left) did_end told_services
 
     -- the state that all of it leaves
-    did_leave_all : q.left ≡ turns_state q.services (λ (n : ℕ). q.moment) 1 q.turns
+    did_leave_all : q.left ≡ turns_state q.services q.times 1 q.turns
     did_leave_all =
         did_leave
         ∙ (left_by_run q.begun q.up did_close_there.frames [] Over did_close_there.run
@@ -211,7 +212,7 @@ module _ (q : Ran) where
   pub told_replied : OnOk q.told (map (λ (r : Reply). Some r) q.replies ≡ replies_to_turns server q.limits q.url q.services 1 1 q.turns)
   told_replied = told_so _ did_reply
 
-  pub told_state : OnOk q.told (q.left ≡ turns_state q.services (λ (n : ℕ). q.moment) 1 q.turns)
+  pub told_state : OnOk q.told (q.left ≡ turns_state q.services q.times 1 q.turns)
   told_state = told_so _ did_leave_all
 
   pub told_accepted : OnOk q.told (AreAcceptedUnder (acknowledged q.limits q.limits q.url) q.turns)
@@ -244,5 +245,5 @@ module _ (q : Ran) where
 
   pub told_fails : IfErr q.told (λ f. url_length q.url ≤ 4095 → FailsAtStage q.far f)
   told_fails =
-      fails_on q.outcome q.told q.far q.begun q.limits q.channel q.services q.url q.moment q.turns q.taken q.old q.new q.replies q.told_is
+      fails_on q.outcome q.told q.far q.begun q.limits q.channel q.services q.url q.moment q.times q.turns q.taken q.old q.new q.replies q.told_is
       q.begun_is q.able q.sound q.none q.nothing_read q.no_failure q.failed q.over ends_there q.few q.fails q.stops q.before

@@ -4,6 +4,7 @@ use Rattle.std.proofs.Math.Nat.{le_refl}
 use Rattle.ua_builtin.specs.declared.date_time.DateTime.{DateTime}
 use Rattle.ua_frame.specs.declared.limits.Limits.{Limits}
 use Rattle.ua_server.specs.State.{State, fresh}
+use Rattle.ua_loopback.specs.Times.{time_at}
 use Rattle.ua_loopback.specs.declared.server_setup.ServerSetup.{ServerSetup}
 
 -- its limits, its SecureChannelId, its services when the connection began, and the time of each of
@@ -14,9 +15,10 @@ pub record Beginning : Type 0 where
   pub first : State
   pub moments : ℕ → DateTime
 
--- how a server begins that is set up so: all its answers have the one time
+-- how a server begins that is set up so: its answers have its timestamp and the later ones, in
+-- order, and then the last of all again and again
 abbrev pub beginning_of : ServerSetup → Beginning
-beginning_of s = record { limits = s.limits; channel = s.channel_id; first = s.services; moments = λ (n : ℕ). s.moment }
+beginning_of s = record { limits = s.limits; channel = s.channel_id; first = s.services; moments = time_at s.moment s.later.items }
 
 -- the least limits
 abbrev pub least_server_limits : Limits

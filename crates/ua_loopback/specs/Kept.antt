@@ -1,10 +1,11 @@
 -- What a transport to a server keeps.
-use Rattle.std.specs.Prelude.{◌≡◌, ◌≤◌, ◌++◌, ℕ, List, length, drop}
+use Rattle.std.specs.Prelude.{◌≡◌, ◌≤◌, ◌+◌, ◌++◌, ℕ, List, length, drop}
 use Rattle.ua_builtin.specs.declared.date_time.DateTime.{DateTime}
 use Rattle.ua_channel.specs.Line.{Traffic}
 use Rattle.ua_frame.specs.Run.{End as run}
 use Rattle.ua_channel.specs.ServerStands.{channel_of, limits_of}
 use Rattle.ua_channel.specs.ServerTold.{Told}
+use Rattle.ua_server.specs.Said.{used_in}
 use Rattle.ua_server.specs.Served.{channel_in}
 use Rattle.ua_server.specs.State.{State}
 use Rattle.ua_server.specs.Stepping.{ServerStands}
@@ -43,18 +44,19 @@ BreaksAtWrite Going new = new ≡ Broken
 BreaksAtWrite (Ended end) new = new ≡ Ended end
 BreaksAtWrite Broken new = new ≡ Broken
 
--- the server took all that was written
-pub record HasTakenAll (b : Beginning) (server : Server) (now : State) (up : List ℕ) : Type 0 where
+-- the server took all that was written, and its further answers have these times
+pub record HasTakenAll (b : Beginning) (server : Server) (times : ℕ → DateTime) (now : State) (up : List ℕ) : Type 0 where
   pub told : List Told
   pub stands : ServerStands (channel_in server) up told b.first (answer_times told b.moments) now
   pub limits_are : limits_of (channel_in server) ≡ b.limits
   pub channel_is : channel_of (channel_in server) ≡ b.channel
+  pub times_are : (n : ℕ) → b.moments (used_in told + n) ≡ times n
 
 -- the state of the server: that after all that was written while the connection goes on
-abbrev pub ServesAtStage : Stage → Beginning → Server → State → List ℕ → Type 0
-ServesAtStage Going b server now up = HasTakenAll b server now up
-ServesAtStage (Ended end) b server now up = Unit {0}
-ServesAtStage Broken b server now up = Unit {0}
+abbrev pub ServesAtStage : Stage → Beginning → Server → (ℕ → DateTime) → State → List ℕ → Type 0
+ServesAtStage Going b server times now up = HasTakenAll b server times now up
+ServesAtStage (Ended end) b server times now up = Unit {0}
+ServesAtStage Broken b server times now up = Unit {0}
 
 -- the services are what all that was written leaves, unless an allocation failed
 abbrev pub LeavesAtStage : Stage → Beginning → List ℕ → State → Type 0
@@ -73,11 +75,10 @@ EndsAtStage (Ended ending.NoClose) b up = ⊥
 EndsAtStage (Ended ending.Cut) b up = ⊥
 EndsAtStage Broken b up = end_by b up ≡ run.Going
 
--- what a transport to a server that began in this way keeps, whose answers all have this time
-pub record Keeps (b : Beginning) (server : Server) (now : State) (moment : DateTime) (up down : List ℕ) (read : ℕ) (stage : Stage) : Type 0 where
-  pub moments_are : (n : ℕ) → b.moments n ≡ moment
+-- what a transport to a server that began in this way keeps, whose further answers have these times
+pub record Keeps (b : Beginning) (server : Server) (now : State) (times : ℕ → DateTime) (up down : List ℕ) (read : ℕ) (stage : Stage) : Type 0 where
   pub down_is : down ≡ server_output b up
   pub within : read ≤ length down
-  pub serves : ServesAtStage stage b server now up
+  pub serves : ServesAtStage stage b server times now up
   pub leaves : LeavesAtStage stage b up now
   pub ends : EndsAtStage stage b up

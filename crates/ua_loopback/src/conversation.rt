@@ -2,6 +2,8 @@
 
 ghost use Rattle.std.specs.Prelude.{◌≡◌, ◌<◌, ◌≤◌, ◌∷◌, ◌++◌, [], ℕ, List, Option};
 ghost use Rattle.std.specs.Prelude.{Some, IsTrue, IfErr, IfOk, OnOk, length, map};
+ghost use Rattle.std.specs.List.{list_all};
+ghost use Rattle.ua_builtin.specs.DateTime.{date_time};
 ghost use Rattle.ua_wire.specs.Counted.{text};
 ghost use Rattle.ua_frame.specs.Agreement.{url_length};
 ghost use Rattle.ua_frame.specs.declared.limits.Limits.{Limits};
@@ -36,6 +38,7 @@ use crate::server_setup::ServerSetup;
 use crate::stage::Stage;
 use std::alloc::Global;
 use std::marker::Brand;
+use ua_builtin::laws::moment_is_encodable;
 use ua_builtin::{DateTime, UaString};
 use ua_channel::Line;
 use ua_client::laws::{calls_are_told_behind, clients_are_settled};
@@ -267,6 +270,15 @@ fn fewer_than_reads(octets: &[u8])
     let _len = octets.len();
 }
 
+/// Each timestamp can be encoded.
+fn times_are_encodable(times: &[DateTime])
+    ensures { IsTrue (list_all date_time.encodable times.now) }
+{
+    for time in times {
+        moment_is_encodable(time);
+    }
+}
+
 /// The fault that is reported over a transport whose connection is at this stage: where the
 /// transport is broken, an error of the client's operation becomes a failed allocation.
 fn fault_at(stage: Stage, fault: ClientFault) -> ClientFault
@@ -334,6 +346,7 @@ fn converse_with<T: AsOperation, W: Began>(
         result.up.items result.replies.items) }
 {
     services_are_sound(&server.services);
+    times_are_encodable(&server.later);
     let setup = ClientSetup {
         limits: server.limits,
         url,
@@ -364,7 +377,7 @@ fn converse_with<T: AsOperation, W: Began>(
 /// both with the same limits. It gives the bytes each way, the replies, and the services afterwards.
 /// No clause mentions the fragment lengths: the result is the same for all of them.
 ///
-/// The timestamp of each answer is also that of each OPN and of the CLO. If the client did not
+/// The timestamp of the first answer is also that of each OPN and of the CLO. If the client did not
 /// complete all operations, the outcome gives the reason, and the transcript has the bytes and the
 /// state up to then.
 pub fn converse<T: AsOperation>(

@@ -6,6 +6,7 @@
 //! The [`talking_laws`] give the result of each call of a client, over any transport to a server.
 #![tactic(auto)]
 
+mod answer_clock;
 mod conversation;
 mod cuts;
 mod fragments;

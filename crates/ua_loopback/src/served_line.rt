@@ -7,13 +7,13 @@ ghost use Rattle.ua_loopback.specs.Kept.{EndsAtStage, IsOver, Keeps, LeavesAtSta
 ghost use Rattle.ua_loopback.specs.Says.{server_output};
 ghost use Rattle.ua_loopback.specs.declared.stage.Stage.TheVariants.{Going};
 
+use crate::answer_clock::AnswerClock;
 use crate::cuts::Cuts;
 use crate::fragments::Fragments;
 use crate::server_setup::ServerSetup;
 use crate::stage::Stage;
 use std::alloc::{AllocError, Global};
 use std::marker::{Brand, Model, PhantomData};
-use ua_builtin::DateTime;
 use ua_channel::{Line, LineFault};
 use ua_server::{Server, Services};
 
@@ -54,7 +54,7 @@ fn add_both(
 
 /// A transport whose other end is a server over its services. The server takes what is written to
 /// it, in fragments of at most the lengths given, and what is read from it is the server's output,
-/// in fragments too. Each answer of the server has the same timestamp.
+/// in fragments too. The answers of the server have the timestamps of its setup, in order.
 ///
 /// A write fails once the connection ended at the server. Where a write fails before that, the
 /// transport is broken from then on.
@@ -62,7 +62,7 @@ fn add_both(
 pub struct ServedLine<W: Began> {
     server: Server,
     services: Services,
-    moment: DateTime,
+    clock: AnswerClock,
     up: Vec<u8>,
     down: Vec<u8>,
     read: usize,
@@ -78,6 +78,7 @@ impl<W: Began> Model for ServedLine<W> {
     ghost use Rattle.ua_nodes.specs.contracts.node.NodeValue as value;
     ghost use Rattle.std.specs.Prelude.{◌<◌};
     ghost use Rattle.ua_loopback.specs.Kept.{IsOver, Keeps, Served};
+    ghost use Rattle.ua_loopback.specs.Times.{times_of};
 
     ghost Value = { Served };
 
@@ -92,8 +93,8 @@ impl<W: Began> Model for ServedLine<W> {
       failures = l.failures;
     } };
 
-    ghost invariant = { λ l. Keeps W.beginning l.server l.services l.moment l.up.items l.down.items l.read l.stage
-        × (0 < l.failures → IsOver l.stage) };
+    ghost invariant = { λ l. Keeps W.beginning l.server l.services (times_of l.clock) l.up.items l.down.items l.read
+        l.stage × (0 < l.failures → IsOver l.stage) };
 }
 
 impl<W: Began> ServedLine<W> {
@@ -106,7 +107,7 @@ impl<W: Began> ServedLine<W> {
         ServedLine {
             server: Server::new(alloc, server.limits, server.channel_id),
             services: server.services,
-            moment: server.moment,
+            clock: AnswerClock::new(server.moment, server.later),
             up: Vec::new(alloc),
             down: Vec::new(alloc),
             read: 0,
@@ -172,7 +173,8 @@ impl<W: Began> ServedLine<W> {
         if self.stage != Stage::Going {
             return None;
         }
-        let step = match self.server.step(&mut self.services, piece, self.moment) {
+        let moment = self.clock.moment();
+        let step = match self.server.step(&mut self.services, piece, moment) {
             Ok(step) => step,
             Err(_) => {
                 self.stage = Stage::Broken;
@@ -184,8 +186,9 @@ impl<W: Began> ServedLine<W> {
             self.stage = Stage::Broken;
             return None;
         };
-        if let Some(end) = step.end {
-            self.stage = Stage::Ended(end);
+        match step.end {
+            Some(end) => self.stage = Stage::Ended(end),
+            None => self.clock.note(&step.out),
         }
         Some(taken)
     }

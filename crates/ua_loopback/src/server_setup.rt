@@ -11,6 +11,9 @@ pub struct ServerSetup {
     /// The SecureChannelId.
     pub channel_id: u32,
     pub services: Services,
-    /// The timestamp of each of its answers.
+    /// The timestamp of its first answer after the ACK, the OPN response.
     pub moment: DateTime,
+    /// Those of its further answers, in order; each answer after the last of them has the last. If
+    /// there are none, each answer has the first one's.
+    pub later: Vec<DateTime>,
 }

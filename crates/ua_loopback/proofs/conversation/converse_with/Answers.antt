@@ -1,10 +1,15 @@
-use Rattle.std.proofs.Common.{◌≡◌, ◌<◌, Fits, FitsSigned, List, ap, length, map, rules, subst, w32, w64, ℕ}
+use Rattle.std.proofs.Common.{◌≡◌, ◌<◌, Fits, FitsSigned, IsTrue, List, ap, length, map, rules, subst, w32, w64, ℕ}
+use Rattle.std.specs.List.{list_all}
+use Rattle.ua_builtin.specs.DateTime.{date_time}
+use Rattle.ua_builtin.specs.declared.date_time.DateTime.{DateTime}
 use Rattle.ua_client.specs.Hearing.{most_reads}
 use Rattle.ua_loopback.specs.Beginning.{beginning_of}
 use Rattle.ua_loopback.specs.Kept.{Served}
+use Rattle.ua_loopback.specs.Times.{time_at}
 use Rattle.ua_loopback.specs.inside.Talking.{CanOpenTo}
+use Rattle.ua_loopback.proofs.Clocks.{times_encodable}
 use Rattle.ua_loopback.proofs.Failing.{ok_told}
-use Rattle.ua_loopback.proofs.Fitting.{can_open}
+use Rattle.ua_loopback.proofs.Fitting.{can_open, moment_fits}
 use Rattle.ua_loopback.proofs.Outcomes.{Ran, told_accepted, told_before, told_closed, told_converses, told_ends, told_fails, told_heard}
 use Rattle.ua_loopback.proofs.Outcomes.{told_left, told_refused, told_replied, told_sent, told_services, told_state}
 use Rattle.ua_loopback.proofs.conversation.converse_with.Given.{Over as Given}
@@ -20,7 +25,9 @@ able g c =
     let octets : Fits w32 c.args.server.limits.max_message_size = search rules in
     let chunks : Fits w32 c.args.server.limits.max_chunk_count = search rules in
     can_open c.args.server.limits c.args.server.channel_id c.args.server.services c.args.url c.args.server.moment receive send octets chunks channel dated
-    c.requires.url
+    (time_at c.args.server.moment c.args.server.later.items)
+    (times_encodable c.args.server.moment c.args.server.later.items (moment_fits c.args.server.moment dated)
+    (subst (λ (times : List DateTime). IsTrue (list_all date_time.encodable times)) c.deref.ensures.value c.times_are_encodable.ensures)) c.requires.url
 
 -- the client that ran, and what its call and those of the line say
 abbrev ran : (g : Given) → goal.After-outcome_at-told g → Ran
@@ -31,6 +38,7 @@ ran g c = record {
   services = c.args.server.services;
   url = c.args.url;
   moment = c.args.server.moment;
+  times = time_at c.args.server.moment c.args.server.later.items;
   turns = map g.T.AsOperation.turn c.args.turns.now;
   old = c.new-line.result;
   new = c.talk-outcome.new.line;
