@@ -161,6 +161,47 @@ returns c = {proof}
 """
 
 
+def has_array(s: Structure, k: Schema) -> bool:
+    """Whether it holds an array, or a structure that does: then it is printed as it is read, an element at a time."""
+    return any(kind.endswith("[]") or kind in k.structures and has_array(k.structures[kind], k) for _, kind in s.fields)
+
+
+def printed_of(s: Structure, k: Schema) -> str:
+    """How it is printed: whole, or field by field as it is read."""
+    body = ""
+    if has_array(s, k):
+        rust, names = k.all("rust", s), [f'"{it}"' for it in s.names()]
+        body = f"""
+    fn print<S: Source, O: Write>(
+        alloc: Global,
+        src: &mut S,
+        place: Place,
+        text: &mut String,
+        out: &mut O,
+    ) -> Result<(), TellFault> {{
+        let names = {nested(names)};
+        <{nested(rust[:-1] + [f"Last<{rust[-1]}>"])}>::print_fields(alloc, src, place, names, text, out)
+    }}
+"""
+    return f"impl Printed for {s.name} {{\n    fn is_structure() -> bool {{\n        true\n    }}\n{body}}}\n"
+
+
+def printed_answer_of(s: Structure, k: Schema) -> str:
+    """That the lines of its fields are those of the structure."""
+    return f"""use Rattle.std.proofs.Common.{{refl}}
+use Rattle.{s.library}.specs.{s.spec}.{{{s.word}}}
+use Rattle.ua_pair.specs.{s.spec}.{{{s.word}_entries}}
+use Rattle.ua_pair.proofs.Printings.{{struct_printed}}
+use Rattle.ua_pair.proofs.fields.{s.module}.{s.name}Printed.print.Goals as goal
+
+pub returns : goal.returns
+unfolding {s.word} {s.word}_entries
+returns g c =
+    struct_printed c.args.place.style c.args.place.margin.now c.args.place.path.now _ _ {s.word} {s.word}_entries _ _ _ _ _ _
+    c.print_fields.result refl c.print_fields.ensures
+"""
+
+
 def title_of(s: Structure, message: str) -> str:
     """What it is called: a message by its service.
 

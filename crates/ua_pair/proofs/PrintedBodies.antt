@@ -9,11 +9,6 @@ use Rattle.ua_opening.specs.Header.{service_fault}
 use Rattle.ua_opening.specs.Message.{body_of, found_or, if_last, kind_at, message}
 use Rattle.ua_opening.specs.Open.{answer_read}
 use Rattle.ua_opening.specs.SecureChannel.{close_request, open_request}
-use Rattle.ua_structures.specs.Attribute.{read_request, read_response, write_request, write_response}
-use Rattle.ua_structures.specs.declared.attribute.ReadRequest.{ReadRequest}
-use Rattle.ua_structures.specs.declared.attribute.ReadResponse.{ReadResponse}
-use Rattle.ua_structures.specs.declared.attribute.WriteRequest.{WriteRequest}
-use Rattle.ua_structures.specs.declared.attribute.WriteResponse.{WriteResponse}
 use Rattle.ua_services.proofs.RequestLawful.{is_request}
 use Rattle.ua_services.proofs.ResponseLawful.{is_response}
 use Rattle.ua_services.specs.Request.{RequestStructure, kind_alone, kind_of_request, request, request_kind as request_kind_of, request_read, requests}
@@ -24,17 +19,12 @@ use Rattle.ua_services.specs.declared.fault.RequestFault.TheVariants as request_
 use Rattle.ua_services.specs.declared.fault.ResponseFault.{ResponseFault}
 use Rattle.ua_services.specs.declared.fault.ResponseFault.TheVariants as response_fault
 use Rattle.ua_services.specs.declared.request.Request.{Request}
-use Rattle.ua_services.specs.declared.request.Request.TheVariants as request_message
 use Rattle.ua_services.specs.declared.request.RequestKind.{RequestKind}
-use Rattle.ua_services.specs.declared.request.RequestKind.TheVariants as request_kind
 use Rattle.ua_services.specs.declared.response.Response.{Response}
-use Rattle.ua_services.specs.declared.response.Response.TheVariants as response_message
 use Rattle.ua_services.specs.declared.response.ResponseKind.{ResponseKind}
-use Rattle.ua_services.specs.declared.response.ResponseKind.TheVariants as response_kind
 use Rattle.ua_wire.proofs.Readers.{some_is}
 use Rattle.ua_wire.specs.declared.fault.ReadFault.{ReadFault}
 use Rattle.ua_wire.specs.declared.fault.ReadFault.TheVariants as read_fault
-use Rattle.ua_pair.specs.Attribute.{read_request_entries, read_response_entries, write_request_entries, write_response_entries}
 use Rattle.ua_texts.specs.PlainLeaf.{Either}
 use Rattle.ua_pair.specs.Bodies.{IsBodyText, IsFound, IsHeaderText, behind_id}
 use Rattle.ua_pair.specs.Messages.{AreMessageLines, close_request_tree, open_answer_tree, open_request_tree, request_tree, response_tree, service_fault_tree}
@@ -42,7 +32,7 @@ use Rattle.ua_pair.specs.Printing.{BreaksOffLines, BreaksRead, EachHasText, IsTe
 use Rattle.ua_pair.specs.Printing.{behind_id_read, tell_fault}
 use Rattle.ua_pair.specs.Styles.{style_of}
 use Rattle.ua_pair.specs.Told.{IsHeaderOf}
-use Rattle.ua_pair.specs.Tree.{Tree, structure}
+use Rattle.ua_pair.specs.Tree.{Tree}
 use Rattle.ua_pair.specs.declared.fields.body.BodyKind.{BodyKind}
 use Rattle.ua_pair.specs.declared.fields.body.BodyKind.TheVariants as body
 use Rattle.ua_pair.specs.declared.options.DissectOptions.{DissectOptions}
@@ -116,201 +106,127 @@ response_kind_is : {A : Type 0} (make : A → Response) (j k : ResponseKind) →
 response_kind_is make j k is None fault e = absurd cc
 response_kind_is make j k is (Some x) fault e = response_alone make j k x.0 x.1 fault (is x.0) e
 
--- ---- ReadRequest
+-- what is printed is so as well
+pub printed_as : (style : FieldStyle) (r : Result (Unit {0}) PrintFault) (a b : Option (List ℕ)) (ka kb : List ℕ) (Holds Wanted : List ℕ → Type 0)
+    → ((text : List ℕ) → Holds text → Wanted text) → PrintsOrBreaks style a ka b kb Holds r → PrintsOrBreaks style a ka b kb Wanted r
+printed_as style (Ok u) a b ka kb Holds Wanted w h = record { lines = h.lines; printed = h.printed; holds = w h.lines h.holds }
+printed_as style (Err print.OutOfMemory) a b ka kb Holds Wanted w h = breaks_as style a b ka Holds Wanted w h
+printed_as style (Err (print.Output error)) a b ka kb Holds Wanted w h = tt
 
-read_request_kind : (rest : List ℕ) (o : Option RequestKind) (fault : RequestFault)
-    → ◌≡◌ {A = Result RequestKind RequestFault} (Ok request_kind.Read)
-    (kind_alone (found_or (kind_at requests most_levels o rest >>= λ x. if_last x.0 x.1) fault))
-    → (o ≡ Some request_kind.Read) × ((s : ReadRequest) × (read_request.decode most_levels rest ≡ Some (s, [])))
-read_request_kind rest None fault e = absurd cc
-read_request_kind rest (Some k) fault e =
-    let is : request_kind.Read ≡ k = request_kind_is (requests.make k) k request_kind.Read
-    (λ s. ap (λ (p : (j : RequestKind) × RequestStructure j). p.0) ((is_request k).forth s)) ((requests.format k).decode most_levels rest) fault e in
-    let known = subst (λ (j : RequestKind). ◌≡◌ {A = Result RequestKind RequestFault} (Ok request_kind.Read)
-    (kind_alone (found_or (kind_at requests most_levels (Some j) rest >>= λ x. if_last x.0 x.1) fault))) (sym is) e in
-    (ap Some (sym is), request_body request_message.Read request_kind.Read (read_request.decode most_levels rest) fault known)
+-- ---- a request of each kind
 
-read_request_by : (o : Option (NodeId × List ℕ)) (fault : RequestFault)
-    → ◌≡◌ {A = Result RequestKind RequestFault} (Ok request_kind.Read)
+request_of : (k : RequestKind) (rest : List ℕ) (o : Option RequestKind) (fault : RequestFault)
+    → ◌≡◌ {A = Result RequestKind RequestFault} (Ok k) (kind_alone (found_or (kind_at requests most_levels o rest >>= λ x. if_last x.0 x.1) fault))
+    → (o ≡ Some k) × ((s : RequestStructure k) × ((requests.format k).decode most_levels rest ≡ Some (s, [])))
+request_of k rest None fault e = absurd cc
+request_of k rest (Some j) fault e =
+    let is : k ≡ j = request_kind_is (requests.make j) j k
+    (λ s. ap (λ (p : (i : RequestKind) × RequestStructure i). p.0) ((is_request j).forth s)) ((requests.format j).decode most_levels rest) fault e in
+    let known = subst (λ (i : RequestKind). ◌≡◌ {A = Result RequestKind RequestFault} (Ok k)
+    (kind_alone (found_or (kind_at requests most_levels (Some i) rest >>= λ x. if_last x.0 x.1) fault))) (sym is) e in
+    (ap Some (sym is), request_body (requests.make k) k ((requests.format k).decode most_levels rest) fault known)
+
+request_by : (k : RequestKind) (o : Option (NodeId × List ℕ)) (fault : RequestFault)
+    → ◌≡◌ {A = Result RequestKind RequestFault} (Ok k)
     (kind_alone (found_or ((o >>= λ x. kind_at requests most_levels (request_kind_of x.0) x.1) >>= λ x. if_last x.0 x.1) fault))
-    → (s : ReadRequest) × ((o >>= λ x. read_request.decode most_levels x.1) ≡ Some (s, []))
-    × (((o >>= λ x. kind_at requests most_levels (request_kind_of x.0) x.1) >>= λ x. if_last x.0 x.1) ≡ Some (request_message.Read s))
-read_request_by None fault e = absurd cc
-read_request_by (Some x) fault e =
-    let k = read_request_kind x.1 (request_kind_of x.0) fault e in (
-      k.1.0,
-      k.1.1,
-      ap (λ o. kind_at requests most_levels o x.1 >>= λ y. if_last y.0 y.1) k.0
-          ∙ ap (λ o. last_of (made request_message.Read o)) k.1.1,
+    → (s : RequestStructure k) × ((o >>= λ x. (requests.format k).decode most_levels x.1) ≡ Some (s, []))
+    × (((o >>= λ x. kind_at requests most_levels (request_kind_of x.0) x.1) >>= λ x. if_last x.0 x.1) ≡ Some (requests.make k s))
+request_by k None fault e = absurd cc
+request_by k (Some x) fault e =
+    let found = request_of k x.1 (request_kind_of x.0) fault e in (
+      found.1.0,
+      found.1.1,
+      ap (λ o. kind_at requests most_levels o x.1 >>= λ y. if_last y.0 y.1) found.0
+          ∙ ap (λ o. last_of (made (requests.make k) o)) found.1.1,
     )
 
 -- a body of this kind: the structure behind its NodeId, which is the message
-pub read_request_known : (octets : List ℕ) → ◌≡◌ {A = Result RequestKind RequestFault} (Ok request_kind.Read) (kind_alone (request_read octets))
-    → (s : ReadRequest) × (behind_id_read read_request octets ≡ Some (s, [])) × (body_of request octets ≡ Some (request_message.Read s))
+request_known : (k : RequestKind) (octets : List ℕ) → ◌≡◌ {A = Result RequestKind RequestFault} (Ok k) (kind_alone (request_read octets))
+    → (s : RequestStructure k) × (behind_id_read (requests.format k) octets ≡ Some (s, [])) × (body_of request octets ≡ Some (requests.make k s))
 unfolding request request_read
-read_request_known octets e = read_request_by (node_id.decode octets) _ e
+request_known k octets e = request_by k (node_id.decode octets) _ e
 
--- ---- WriteRequest
+pub request_whole : (k : RequestKind) (octets : List ℕ) → ◌≡◌ {A = Result RequestKind RequestFault} (Ok k) (kind_alone (request_read octets))
+    → IsWholeBehind (requests.format k) octets
+request_whole k octets e = let found = request_known k octets e in (found.0, found.1)
 
-write_request_kind : (rest : List ℕ) (o : Option RequestKind) (fault : RequestFault)
-    → ◌≡◌ {A = Result RequestKind RequestFault} (Ok request_kind.Write)
-    (kind_alone (found_or (kind_at requests most_levels o rest >>= λ x. if_last x.0 x.1) fault))
-    → (o ≡ Some request_kind.Write) × ((s : WriteRequest) × (write_request.decode most_levels rest ≡ Some (s, [])))
-write_request_kind rest None fault e = absurd cc
-write_request_kind rest (Some k) fault e =
-    let is : request_kind.Write ≡ k = request_kind_is (requests.make k) k request_kind.Write
-    (λ s. ap (λ (p : (j : RequestKind) × RequestStructure j). p.0) ((is_request k).forth s)) ((requests.format k).decode most_levels rest) fault e in
-    let known = subst (λ (j : RequestKind). ◌≡◌ {A = Result RequestKind RequestFault} (Ok request_kind.Write)
-    (kind_alone (found_or (kind_at requests most_levels (Some j) rest >>= λ x. if_last x.0 x.1) fault))) (sym is) e in
-    (ap Some (sym is), request_body request_message.Write request_kind.Write (write_request.decode most_levels rest) fault known)
+-- its lines are those of the body
+request_text : (k : RequestKind) (style : FieldStyle) (octets text : List ℕ)
+    → ◌≡◌ {A = Result RequestKind RequestFault} (Ok k) (kind_alone (request_read octets))
+    → IsTextBehind (requests.format k) (λ v. AreMessageLines style (request_tree (requests.make k v))) octets text → IsBodyText style body.Request octets text
+request_text k style octets text e t =
+    let found = request_known k octets e in
+    let both = some_is (t.0, t.1) (found.0, []) (sym t.2 ∙ found.1) in
+    let same : t.0 ≡ found.0 = ap (λ p. p.0) both in
+    subst (λ o. IsFound (λ m. AreMessageLines style (request_tree m)) o text) (sym found.2)
+    (subst (λ (v : RequestStructure k). AreMessageLines style (request_tree (requests.make k v)) text) same t.3)
 
-write_request_by : (o : Option (NodeId × List ℕ)) (fault : RequestFault)
-    → ◌≡◌ {A = Result RequestKind RequestFault} (Ok request_kind.Write)
-    (kind_alone (found_or ((o >>= λ x. kind_at requests most_levels (request_kind_of x.0) x.1) >>= λ x. if_last x.0 x.1) fault))
-    → (s : WriteRequest) × ((o >>= λ x. write_request.decode most_levels x.1) ≡ Some (s, []))
-    × (((o >>= λ x. kind_at requests most_levels (request_kind_of x.0) x.1) >>= λ x. if_last x.0 x.1) ≡ Some (request_message.Write s))
-write_request_by None fault e = absurd cc
-write_request_by (Some x) fault e =
-    let k = write_request_kind x.1 (request_kind_of x.0) fault e in (
-      k.1.0,
-      k.1.1,
-      ap (λ o. kind_at requests most_levels o x.1 >>= λ y. if_last y.0 y.1) k.0
-          ∙ ap (λ o. last_of (made request_message.Write o)) k.1.1,
-    )
+-- what is printed of it is so of the body
+pub request_printed : (k : RequestKind) (style : FieldStyle) (octets : List ℕ) (r : Result (Unit {0}) PrintFault) (a b : Option (List ℕ))
+    (ka kb : List ℕ) → ◌≡◌ {A = Result RequestKind RequestFault} (Ok k) (kind_alone (request_read octets))
+    → PrintsOrBreaks style a ka b kb (IsTextBehind (requests.format k) (λ v. AreMessageLines style (request_tree (requests.make k v))) octets) r
+    → PrintsOrBreaks style a ka b kb (IsBodyText style body.Request octets) r
+request_printed k style octets r a b ka kb is h =
+    printed_as style r a b ka kb (IsTextBehind (requests.format k) (λ v. AreMessageLines style (request_tree (requests.make k v))) octets)
+    (IsBodyText style body.Request octets) (λ text t. request_text k style octets text is t) h
 
--- a body of this kind: the structure behind its NodeId, which is the message
-pub write_request_known : (octets : List ℕ) → ◌≡◌ {A = Result RequestKind RequestFault} (Ok request_kind.Write) (kind_alone (request_read octets))
-    → (s : WriteRequest) × (behind_id_read write_request octets ≡ Some (s, [])) × (body_of request octets ≡ Some (request_message.Write s))
-unfolding request request_read
-write_request_known octets e = write_request_by (node_id.decode octets) _ e
+-- ---- a response of each kind
 
--- ---- ReadResponse
+response_of : (k : ResponseKind) (rest : List ℕ) (o : Option ResponseKind) (fault : ResponseFault)
+    → ◌≡◌ {A = Result ResponseKind ResponseFault} (Ok k) (response_kind_alone (found_or (kind_at responses most_levels o rest >>= λ x. if_last x.0 x.1) fault))
+    → (o ≡ Some k) × ((s : ResponseStructure k) × ((responses.format k).decode most_levels rest ≡ Some (s, [])))
+response_of k rest None fault e = absurd cc
+response_of k rest (Some j) fault e =
+    let is : k ≡ j = response_kind_is (responses.make j) j k
+    (λ s. ap (λ (p : (i : ResponseKind) × ResponseStructure i). p.0) ((is_response j).forth s)) ((responses.format j).decode most_levels rest) fault e in
+    let known = subst (λ (i : ResponseKind). ◌≡◌ {A = Result ResponseKind ResponseFault} (Ok k)
+    (response_kind_alone (found_or (kind_at responses most_levels (Some i) rest >>= λ x. if_last x.0 x.1) fault))) (sym is) e in
+    (ap Some (sym is), response_body (responses.make k) k ((responses.format k).decode most_levels rest) fault known)
 
-read_response_kind : (rest : List ℕ) (o : Option ResponseKind) (fault : ResponseFault)
-    → ◌≡◌ {A = Result ResponseKind ResponseFault} (Ok response_kind.Read)
-    (response_kind_alone (found_or (kind_at responses most_levels o rest >>= λ x. if_last x.0 x.1) fault))
-    → (o ≡ Some response_kind.Read) × ((s : ReadResponse) × (read_response.decode most_levels rest ≡ Some (s, [])))
-read_response_kind rest None fault e = absurd cc
-read_response_kind rest (Some k) fault e =
-    let is : response_kind.Read ≡ k = response_kind_is (responses.make k) k response_kind.Read
-    (λ s. ap (λ (p : (j : ResponseKind) × ResponseStructure j). p.0) ((is_response k).forth s)) ((responses.format k).decode most_levels rest) fault e in
-    let known = subst (λ (j : ResponseKind). ◌≡◌ {A = Result ResponseKind ResponseFault} (Ok response_kind.Read)
-    (response_kind_alone (found_or (kind_at responses most_levels (Some j) rest >>= λ x. if_last x.0 x.1) fault))) (sym is) e in
-    (ap Some (sym is), response_body response_message.Read response_kind.Read (read_response.decode most_levels rest) fault known)
-
-read_response_by : (o : Option (NodeId × List ℕ)) (fault : ResponseFault)
-    → ◌≡◌ {A = Result ResponseKind ResponseFault} (Ok response_kind.Read)
+response_by : (k : ResponseKind) (o : Option (NodeId × List ℕ)) (fault : ResponseFault)
+    → ◌≡◌ {A = Result ResponseKind ResponseFault} (Ok k)
     (response_kind_alone (found_or ((o >>= λ x. kind_at responses most_levels (response_kind_of x.0) x.1) >>= λ x. if_last x.0 x.1) fault))
-    → (s : ReadResponse) × ((o >>= λ x. read_response.decode most_levels x.1) ≡ Some (s, []))
-    × (((o >>= λ x. kind_at responses most_levels (response_kind_of x.0) x.1) >>= λ x. if_last x.0 x.1) ≡ Some (response_message.Read s))
-read_response_by None fault e = absurd cc
-read_response_by (Some x) fault e =
-    let k = read_response_kind x.1 (response_kind_of x.0) fault e in (
-      k.1.0,
-      k.1.1,
-      ap (λ o. kind_at responses most_levels o x.1 >>= λ y. if_last y.0 y.1) k.0
-          ∙ ap (λ o. last_of (made response_message.Read o)) k.1.1,
+    → (s : ResponseStructure k) × ((o >>= λ x. (responses.format k).decode most_levels x.1) ≡ Some (s, []))
+    × (((o >>= λ x. kind_at responses most_levels (response_kind_of x.0) x.1) >>= λ x. if_last x.0 x.1) ≡ Some (responses.make k s))
+response_by k None fault e = absurd cc
+response_by k (Some x) fault e =
+    let found = response_of k x.1 (response_kind_of x.0) fault e in (
+      found.1.0,
+      found.1.1,
+      ap (λ o. kind_at responses most_levels o x.1 >>= λ y. if_last y.0 y.1) found.0
+          ∙ ap (λ o. last_of (made (responses.make k) o)) found.1.1,
     )
 
 -- a body of this kind: the structure behind its NodeId, which is the message
-pub read_response_known : (octets : List ℕ) → ◌≡◌ {A = Result ResponseKind ResponseFault} (Ok response_kind.Read) (response_kind_alone (response_read octets))
-    → (s : ReadResponse) × (behind_id_read read_response octets ≡ Some (s, [])) × (body_of response octets ≡ Some (response_message.Read s))
+response_known : (k : ResponseKind) (octets : List ℕ) → ◌≡◌ {A = Result ResponseKind ResponseFault} (Ok k) (response_kind_alone (response_read octets))
+    → (s : ResponseStructure k) × (behind_id_read (responses.format k) octets ≡ Some (s, [])) × (body_of response octets ≡ Some (responses.make k s))
 unfolding response response_read
-read_response_known octets e = read_response_by (node_id.decode octets) _ e
+response_known k octets e = response_by k (node_id.decode octets) _ e
 
--- ---- WriteResponse
-
-write_response_kind : (rest : List ℕ) (o : Option ResponseKind) (fault : ResponseFault)
-    → ◌≡◌ {A = Result ResponseKind ResponseFault} (Ok response_kind.Write)
-    (response_kind_alone (found_or (kind_at responses most_levels o rest >>= λ x. if_last x.0 x.1) fault))
-    → (o ≡ Some response_kind.Write) × ((s : WriteResponse) × (write_response.decode most_levels rest ≡ Some (s, [])))
-write_response_kind rest None fault e = absurd cc
-write_response_kind rest (Some k) fault e =
-    let is : response_kind.Write ≡ k = response_kind_is (responses.make k) k response_kind.Write
-    (λ s. ap (λ (p : (j : ResponseKind) × ResponseStructure j). p.0) ((is_response k).forth s)) ((responses.format k).decode most_levels rest) fault e in
-    let known = subst (λ (j : ResponseKind). ◌≡◌ {A = Result ResponseKind ResponseFault} (Ok response_kind.Write)
-    (response_kind_alone (found_or (kind_at responses most_levels (Some j) rest >>= λ x. if_last x.0 x.1) fault))) (sym is) e in
-    (ap Some (sym is), response_body response_message.Write response_kind.Write (write_response.decode most_levels rest) fault known)
-
-write_response_by : (o : Option (NodeId × List ℕ)) (fault : ResponseFault)
-    → ◌≡◌ {A = Result ResponseKind ResponseFault} (Ok response_kind.Write)
-    (response_kind_alone (found_or ((o >>= λ x. kind_at responses most_levels (response_kind_of x.0) x.1) >>= λ x. if_last x.0 x.1) fault))
-    → (s : WriteResponse) × ((o >>= λ x. write_response.decode most_levels x.1) ≡ Some (s, []))
-    × (((o >>= λ x. kind_at responses most_levels (response_kind_of x.0) x.1) >>= λ x. if_last x.0 x.1) ≡ Some (response_message.Write s))
-write_response_by None fault e = absurd cc
-write_response_by (Some x) fault e =
-    let k = write_response_kind x.1 (response_kind_of x.0) fault e in (
-      k.1.0,
-      k.1.1,
-      ap (λ o. kind_at responses most_levels o x.1 >>= λ y. if_last y.0 y.1) k.0
-          ∙ ap (λ o. last_of (made response_message.Write o)) k.1.1,
-    )
-
--- a body of this kind: the structure behind its NodeId, which is the message
-pub write_response_known : (octets : List ℕ) → ◌≡◌ {A = Result ResponseKind ResponseFault} (Ok response_kind.Write) (response_kind_alone (response_read octets))
-    → (s : WriteResponse) × (behind_id_read write_response octets ≡ Some (s, [])) × (body_of response octets ≡ Some (response_message.Write s))
-unfolding response response_read
-write_response_known octets e = write_response_by (node_id.decode octets) _ e
-
-pub read_request_whole : (octets : List ℕ) → ◌≡◌ {A = Result RequestKind RequestFault} (Ok request_kind.Read) (kind_alone (request_read octets))
-    → IsWholeBehind read_request octets
-read_request_whole octets e = let k = read_request_known octets e in (k.0, k.1)
+pub response_whole : (k : ResponseKind) (octets : List ℕ) → ◌≡◌ {A = Result ResponseKind ResponseFault} (Ok k) (response_kind_alone (response_read octets))
+    → IsWholeBehind (responses.format k) octets
+response_whole k octets e = let found = response_known k octets e in (found.0, found.1)
 
 -- its lines are those of the body
-pub read_request_text : (style : FieldStyle) (octets text : List ℕ)
-    → ◌≡◌ {A = Result RequestKind RequestFault} (Ok request_kind.Read) (kind_alone (request_read octets))
-    → IsTextBehind read_request (λ v. AreMessageLines style (structure (read_request_entries v))) octets text → IsBodyText style body.Request octets text
-read_request_text style octets text e t =
-    let k = read_request_known octets e in
-    let both = some_is (t.0, t.1) (k.0, []) (sym t.2 ∙ k.1) in
-    let same : t.0 ≡ k.0 = ap (λ p. p.0) both in
-    subst (λ o. IsFound (λ m. AreMessageLines style (request_tree m)) o text) (sym k.2)
-    (subst (λ v. AreMessageLines style (structure (read_request_entries v)) text) same t.3)
+response_text : (k : ResponseKind) (style : FieldStyle) (octets text : List ℕ)
+    → ◌≡◌ {A = Result ResponseKind ResponseFault} (Ok k) (response_kind_alone (response_read octets))
+    → IsTextBehind (responses.format k) (λ v. AreMessageLines style (response_tree (responses.make k v))) octets text
+    → IsBodyText style body.Response octets text
+response_text k style octets text e t =
+    let found = response_known k octets e in
+    let both = some_is (t.0, t.1) (found.0, []) (sym t.2 ∙ found.1) in
+    let same : t.0 ≡ found.0 = ap (λ p. p.0) both in
+    subst (λ o. IsFound (λ m. AreMessageLines style (response_tree m)) o text) (sym found.2)
+    (subst (λ (v : ResponseStructure k). AreMessageLines style (response_tree (responses.make k v)) text) same t.3)
 
-pub write_request_whole : (octets : List ℕ) → ◌≡◌ {A = Result RequestKind RequestFault} (Ok request_kind.Write) (kind_alone (request_read octets))
-    → IsWholeBehind write_request octets
-write_request_whole octets e = let k = write_request_known octets e in (k.0, k.1)
-
--- its lines are those of the body
-pub write_request_text : (style : FieldStyle) (octets text : List ℕ)
-    → ◌≡◌ {A = Result RequestKind RequestFault} (Ok request_kind.Write) (kind_alone (request_read octets))
-    → IsTextBehind write_request (λ v. AreMessageLines style (structure (write_request_entries v))) octets text → IsBodyText style body.Request octets text
-write_request_text style octets text e t =
-    let k = write_request_known octets e in
-    let both = some_is (t.0, t.1) (k.0, []) (sym t.2 ∙ k.1) in
-    let same : t.0 ≡ k.0 = ap (λ p. p.0) both in
-    subst (λ o. IsFound (λ m. AreMessageLines style (request_tree m)) o text) (sym k.2)
-    (subst (λ v. AreMessageLines style (structure (write_request_entries v)) text) same t.3)
-
-pub read_response_whole : (octets : List ℕ) → ◌≡◌ {A = Result ResponseKind ResponseFault} (Ok response_kind.Read) (response_kind_alone (response_read octets))
-    → IsWholeBehind read_response octets
-read_response_whole octets e = let k = read_response_known octets e in (k.0, k.1)
-
--- its lines are those of the body
-pub read_response_text : (style : FieldStyle) (octets text : List ℕ)
-    → ◌≡◌ {A = Result ResponseKind ResponseFault} (Ok response_kind.Read) (response_kind_alone (response_read octets))
-    → IsTextBehind read_response (λ v. AreMessageLines style (structure (read_response_entries v))) octets text → IsBodyText style body.Response octets text
-read_response_text style octets text e t =
-    let k = read_response_known octets e in
-    let both = some_is (t.0, t.1) (k.0, []) (sym t.2 ∙ k.1) in
-    let same : t.0 ≡ k.0 = ap (λ p. p.0) both in
-    subst (λ o. IsFound (λ m. AreMessageLines style (response_tree m)) o text) (sym k.2)
-    (subst (λ v. AreMessageLines style (structure (read_response_entries v)) text) same t.3)
-
-pub write_response_whole : (octets : List ℕ) → ◌≡◌ {A = Result ResponseKind ResponseFault} (Ok response_kind.Write) (response_kind_alone (response_read octets))
-    → IsWholeBehind write_response octets
-write_response_whole octets e = let k = write_response_known octets e in (k.0, k.1)
-
--- its lines are those of the body
-pub write_response_text : (style : FieldStyle) (octets text : List ℕ)
-    → ◌≡◌ {A = Result ResponseKind ResponseFault} (Ok response_kind.Write) (response_kind_alone (response_read octets))
-    → IsTextBehind write_response (λ v. AreMessageLines style (structure (write_response_entries v))) octets text → IsBodyText style body.Response octets text
-write_response_text style octets text e t =
-    let k = write_response_known octets e in
-    let both = some_is (t.0, t.1) (k.0, []) (sym t.2 ∙ k.1) in
-    let same : t.0 ≡ k.0 = ap (λ p. p.0) both in
-    subst (λ o. IsFound (λ m. AreMessageLines style (response_tree m)) o text) (sym k.2)
-    (subst (λ v. AreMessageLines style (structure (write_response_entries v)) text) same t.3)
+-- what is printed of it is so of the body
+pub response_printed : (k : ResponseKind) (style : FieldStyle) (octets : List ℕ) (r : Result (Unit {0}) PrintFault) (a b : Option (List ℕ))
+    (ka kb : List ℕ) → ◌≡◌ {A = Result ResponseKind ResponseFault} (Ok k) (response_kind_alone (response_read octets))
+    → PrintsOrBreaks style a ka b kb (IsTextBehind (responses.format k) (λ v. AreMessageLines style (response_tree (responses.make k v))) octets) r
+    → PrintsOrBreaks style a ka b kb (IsBodyText style body.Response octets) r
+response_printed k style octets r a b ka kb is h =
+    printed_as style r a b ka kb (IsTextBehind (responses.format k) (λ v. AreMessageLines style (response_tree (responses.make k v))) octets)
+    (IsBodyText style body.Response octets) (λ text t. response_text k style octets text is t) h
 
 -- ---- what is printed
 
@@ -325,13 +241,6 @@ pub response_is : (octets : List ℕ) (r : Result ResponseKind ResponseFault) (k
     → ◌≡◌ {A = Result ResponseKind ResponseFault} (Ok k) (response_kind_alone (response_read octets))
 response_is octets r k (inl h) e = sym e ∙ h
 response_is octets r k (inr h) e = let both = sym e ∙ h in absurd cc
-
--- what is printed is so as well
-pub printed_as : (style : FieldStyle) (r : Result (Unit {0}) PrintFault) (a b : Option (List ℕ)) (ka kb : List ℕ) (Holds Wanted : List ℕ → Type 0)
-    → ((text : List ℕ) → Holds text → Wanted text) → PrintsOrBreaks style a ka b kb Holds r → PrintsOrBreaks style a ka b kb Wanted r
-printed_as style (Ok u) a b ka kb Holds Wanted w h = record { lines = h.lines; printed = h.printed; holds = w h.lines h.holds }
-printed_as style (Err print.OutOfMemory) a b ka kb Holds Wanted w h = breaks_as style a b ka Holds Wanted w h
-printed_as style (Err (print.Output error)) a b ka kb Holds Wanted w h = tt
 
 -- where a structure behind a NodeId is there, the NodeId and the structure are
 structure_there : {A : Type 0} (format : Format A) (octets mid : List ℕ) (id : NodeId) (value : A) (rest : List ℕ) → node_id.decode octets ≡ Some (id, mid)

@@ -248,6 +248,29 @@ value_breaks style tree margin path read octets new Old Printed known after kept
     λ value rest e. nothing_breaks style known after kept (IsBehind style margin path [] (tree value)) h (λ t. tree_has style t margin path [] (tree value))
 value_breaks style tree margin path read octets new Old Printed known after kept (Output error) h = tt
 
+-- nothing was printed of a value
+pub unprinted : (style : FieldStyle) {A : Type 0} (tree : A → Tree) (margin : A → List ℕ) (path : List ℕ) (read : List ℕ → Option (A × List ℕ))
+    (octets : List ℕ) (known : Option (List ℕ)) (kept : List ℕ)
+    → BreaksRead style read octets known kept known (λ value. IsBehind style (margin value) path [] (tree value))
+unprinted style tree margin path read octets known kept = λ value rest e.
+    nothing_breaks style known known kept (IsBehind style (margin value) path [] (tree value)) refl
+    (λ t. tree_has style t (margin value) path [] (tree value))
+
+-- a value was printed as one that has this margin
+pub field_printed : (style : FieldStyle) {A : Type 0} (tree : A → Tree) (margin inner path : List ℕ) (read : List ℕ → Option (A × List ℕ))
+    (octets new : List ℕ) (a b : Option (List ℕ)) (ka kb : List ℕ) (r : Result (Unit {0}) TellFault)
+    → ((value : A) → field_margin margin (tree value) ≡ inner)
+    → PrintsRead read octets new (λ v. PrintsText a ka b kb (IsBehind style inner path [] (tree v)))
+    (BreaksRead style read octets a ka b (λ v. IsBehind style inner path [] (tree v))) r
+    → PrintsRead read octets new (λ v. PrintsText a ka b kb (IsBehind style (field_margin margin (tree v)) path [] (tree v)))
+    (BreaksRead style read octets a ka b (λ v. IsBehind style (field_margin margin (tree v)) path [] (tree v))) r
+field_printed style tree margin inner path read octets new a b ka kb (Ok x) at h =
+    (h.0, h.1, subst (λ (m : List ℕ). PrintsText a ka b kb (IsBehind style m path [] (tree h.0))) (sym (at h.0)) h.2)
+field_printed style tree margin inner path read octets new a b ka kb (Err NoValue) at h = h
+field_printed style tree margin inner path read octets new a b ka kb (Err OutOfMemory) at h = λ value rest e.
+    subst (λ (m : List ℕ). BreaksOffLines style a ka b (IsBehind style m path [] (tree value))) (sym (at value)) (h value rest e)
+field_printed style tree margin inner path read octets new a b ka kb (Err (Output error)) at h = tt
+
 -- ---- elements
 
 -- one more element at the end
@@ -336,10 +359,31 @@ items_long {A = A} read zero octets items rest e = sym (ap (λ p. length p.0) (s
 items_long read (suc n) octets items rest e =
     one_longer n (read octets) (items_at read n) items rest (λ o xs r h. items_long read n o xs r h) e
 
+-- what stands behind elements that were read
 front_of : {A : Type 0} (xs : List A) (o : Option (List A × List ℕ)) (value : List A) (rest : List ℕ) → with_front xs o ≡ Some (value, rest)
-    → (ys : List A) × (xs ++ ys ≡ value)
+    → (ys : List A) × (mid : List ℕ) × (o ≡ Some (ys, mid)) × (xs ++ ys ≡ value)
 front_of xs None value rest e = absurd cc
-front_of xs (Some y) value rest e = (y.0, ap (λ p. p.0) (some_is (xs ++ y.0, y.1) (value, rest) e))
+front_of xs (Some y) value rest e = (y.0, y.1, refl, ap (λ p. p.0) (some_is (xs ++ y.0, y.1) (value, rest) e))
+
+one_more : (index all : ℕ) → index < all → all - index ≡ suc (all - suc index)
+one_more index all less = omega (arith, less)
+
+tail_of : {A : Type 0} (x : A) (o : Option (List A × List ℕ)) (items : List A) (rest : List ℕ)
+    → ◌>>=◌ {B = List A × List ℕ} o (λ xs. Some (x ∷ xs.0, xs.1)) ≡ Some (items, rest) → (xs : List A) × (x ∷ xs ≡ items)
+tail_of x None items rest e = absurd cc
+tail_of {A = A} x (Some xs) items rest e = (xs.0, ap (λ p. p.0) (some_is {A = List A × List ℕ} (x ∷ xs.0, xs.1) (items, rest) e))
+
+head_from : {A : Type 0} (o : Option (A × List ℕ)) (rest_of : List ℕ → Option (List A × List ℕ)) (items : List A) (rest : List ℕ)
+    → ◌>>=◌ {B = List A × List ℕ} o (λ x. ◌>>=◌ {B = List A × List ℕ} (rest_of x.1) (λ xs. Some (x.0 ∷ xs.0, xs.1))) ≡ Some (items, rest)
+    → (x : A) × (mid : List ℕ) × (xs : List A) × (o ≡ Some (x, mid)) × (x ∷ xs ≡ items)
+head_from None rest_of items rest e = absurd cc
+head_from (Some x) rest_of items rest e = let t = tail_of x.0 (rest_of x.1) items rest e in (x.0, x.1, t.0, refl, t.1)
+
+-- the first of so many elements
+head_of : {A : Type 0} (read : List ℕ → Option (A × List ℕ)) (n : ℕ) (octets : List ℕ) (items : List A) (rest : List ℕ)
+    → items_at read (suc n) octets ≡ Some (items, rest) → (x : A) × (mid : List ℕ) × (xs : List A) × (read octets ≡ Some (x, mid)) × (x ∷ xs ≡ items)
+unfolding items_at
+head_of read n octets items rest e = head_from (read octets) (items_at read n) items rest e
 
 -- so many elements have lines, and those after them too
 elements_continue : (style : FieldStyle) → EachHasText style → {A : Type 0} (tree : A → Tree) (margin path : List ℕ) (index : ℕ) (old : List ℕ)
@@ -356,32 +400,59 @@ elements_continue style t tree margin path index old (x ∷ xs) ys mid h =
     let rest = elements_continue style t tree margin path (index + 1) h.0 xs ys mid h.2 in
     (rest.0, (h.0, h.1, rest.1))
 
+-- the same lines, of more elements
+elements_extend : (style : FieldStyle) {A : Type 0} (tree : A → Tree) (margin path : List ℕ) (a b : Option (List ℕ)) (ka : List ℕ) (xs ys : List A)
+    → BreaksOffLines style a ka b (AreElementsBehind style margin path 0 [] (tree_elements (map tree xs)))
+    → BreaksOffLines style a ka b (AreElementsBehind style margin path 0 [] (tree_elements (map tree (xs ++ ys))))
+elements_extend style tree margin path a b ka xs ys h = record {
+  lost = h.lost;
+  lines = h.lines;
+  printed = h.printed;
+  front = λ t.
+      let one = h.front t in
+      let more = elements_continue style t tree margin path 0 [] xs ys (h.lines ++ one.0) one.1 in (
+        one.0 ++ more.0,
+        subst (AreElementsBehind style margin path 0 [] (tree_elements (map tree (xs ++ ys)))) (append_assoc h.lines one.0 more.0) more.1,
+      );
+}
+
+joined : {A : Type 0} (xs ys zs value : List A) (x : A) → x ∷ zs ≡ ys → xs ++ ys ≡ value → (xs ++ x ∷ []) ++ zs ≡ value
+joined {A = A} xs ys zs value x e h =
+    let first : (xs ++ x ∷ []) ++ zs ≡ xs ++ x ∷ zs = append_assoc xs (x ∷ []) zs in
+    let next : xs ++ x ∷ zs ≡ xs ++ ys = ap (λ (l : List A). xs ++ l) e in
+    first ∙ next ∙ h
+
 elements_break : (style : FieldStyle) {A : Type 0} (tree : A → Tree) (margin path : List ℕ) (read : List ℕ → Option (A × List ℕ)) (all index : ℕ)
-    (first now : List ℕ) (a b c : Option (List ℕ)) (ka kb : List ℕ) → ElementsSoFar style tree margin path read all index first now a ka b kb → c ≡ b
+    (first now : List ℕ) (a b c : Option (List ℕ)) (ka kb : List ℕ) → index < all
+    → ElementsSoFar style tree margin path read all index first now a ka b kb
+    → BreaksRead style read now b kb c (λ x. IsBehind style margin (element_path path index) [] (tree x))
     → BreaksRead style (items_at read all) first a ka c (λ value. AreElementsBehind style margin path 0 [] (tree_elements (map tree value)))
-elements_break style tree margin path read all index first now a b c ka kb s same = λ value rest e.
+elements_break style {A = A} tree margin path read all index first now a b c ka kb less s h = λ value rest e.
     let f = front_of s.items (items_at read (all - index) now) value rest (s.so_far ∙ e) in
-    let so_far : BreaksOffLines style a ka b (AreElementsBehind style margin path 0 [] (tree_elements (map tree (s.items ++ f.0)))) = record {
-      lost = kb;
-      lines = s.prints.lines;
-      printed = s.prints.printed;
-      front = λ t. elements_continue style t tree margin path 0 [] s.items f.0 s.prints.lines s.prints.holds;
-    } in
-    subst (λ v. BreaksOffLines style a ka c (AreElementsBehind style margin path 0 [] (tree_elements (map tree v)))) f.1
-    (subst (λ (o : Option (List ℕ)). BreaksOffLines style a ka o (AreElementsBehind style margin path 0 [] (tree_elements (map tree (s.items ++ f.0)))))
-    (sym same)
-    so_far)
+    let next = head_of read (all - suc index) now f.0 f.1
+    (subst (λ (n : ℕ). items_at read n now ≡ Some (f.0, f.1)) (one_more index all less) f.2) in
+    let x = next.0 in
+    subst (λ (v : List A). BreaksOffLines style a ka c (AreElementsBehind style margin path 0 [] (tree_elements (map tree v))))
+    (joined s.items f.0 next.2 value x next.4 f.3)
+    (elements_extend style tree margin path a c ka (s.items ++ x ∷ []) next.2
+    (second_breaks style a b c ka kb (AreElementsBehind style margin path 0 [] (tree_elements (map tree s.items)))
+    (IsBehind style margin (element_path path index) [] (tree x))
+    (AreElementsBehind style margin path 0 [] (tree_elements (map tree (s.items ++ x ∷ []))))
+    (λ one two p q. elements_more style tree margin path 0 s.items x [] one (one ++ two) p
+    (subst (λ (i : ℕ). IsBehind style margin (element_path path i) one (tree x) (one ++ two)) (from_first index (length s.items) s.long)
+    (behind_lines style margin (element_path path index) one (tree x) two q)))
+    s.prints (h x next.1 next.3)))
 
 pub elements_fail : (style : FieldStyle) {A : Type 0} (tree : A → Tree) (margin path : List ℕ) (read : List ℕ → Option (A × List ℕ)) (all index : ℕ)
     (first now new : List ℕ) (a b c : Option (List ℕ)) (ka kb : List ℕ) (Old : A → Type 0) (Printed : List A → Type 0) (e : TellFault) → index < all
     → ElementsSoFar style tree margin path read all index first now a ka b kb
-    → PrintsRead read now new Old (c ≡ b) (Err e)
+    → PrintsRead read now new Old (BreaksRead style read now b kb c (λ x. IsBehind style margin (element_path path index) [] (tree x))) (Err e)
     → PrintsRead (items_at read all) first new Printed
     (BreaksRead style (items_at read all) first a ka c (λ value. AreElementsBehind style margin path 0 [] (tree_elements (map tree value)))) (Err e)
 elements_fail style tree margin path read all index first now new a b c ka kb Old Printed NoValue less s h =
     fault_ends (λ v. v) read fault.NoValue s.items all index first now [] less h s.so_far
 elements_fail style tree margin path read all index first now new a b c ka kb Old Printed OutOfMemory less s h =
-    elements_break style tree margin path read all index first now a b c ka kb s h
+    elements_break style tree margin path read all index first now a b c ka kb less s h
 elements_fail style tree margin path read all index first now new a b c ka kb Old Printed (Output error) less s h = tt
 
 -- ---- arrays
@@ -403,13 +474,6 @@ pub array_unread : {A : Type 0} (f : Format A) (octets new : List ℕ) (Printed 
 unfolding array_format
 array_unread f octets new Printed known fault.NoValue h = ap (λ o. o >>= λ (c : ℕ × List ℕ). array_behind_count (f.decode most_levels) c.0 c.1) h
 array_unread f octets new Printed known fault.OutOfMemory h = refl
-
--- an array of which nothing is printed
-pub array_breaks : (style : FieldStyle) {A : Type 0} (tree : A → Tree) (f : Format A) (margin path octets : List ℕ) (known : Option (List ℕ)) (kept : List ℕ)
-    → BreaksRead style ((array_format f).decode most_levels) octets known kept known (λ value. IsBehind style margin path [] (array_of tree value))
-array_breaks style tree f margin path octets known kept = λ value rest e.
-    nothing_breaks style known known kept (IsBehind style margin path [] (array_of tree value)) refl
-    (λ t. tree_has style t margin path [] (array_of tree value))
 
 not_less : (n most : ℕ) → most ≤ n → nat_lt n most ≡ false
 not_less n most h = le-ltb n most h
@@ -563,7 +627,7 @@ image_there {B = B} make (Some v) value rest e =
     (v.0, ap (λ (r : List ℕ). Some (v.0, r)) (ap (λ p. p.1) both), ap (λ p. p.0) both)
 
 -- a structure was, or not
-pub structure_printed : (style : FieldStyle) (margin path : List ℕ) {A B : Type 0} (make : A → B) (fields : B → Fields) (read : List ℕ → Option (A × List ℕ))
+structure_printed : (style : FieldStyle) (margin path : List ℕ) {A B : Type 0} (make : A → B) (fields : B → Fields) (read : List ℕ → Option (A × List ℕ))
     (octets new : List ℕ) (a b : Option (List ℕ)) (ka kb : List ℕ) (r : Result (Unit {0}) TellFault)
     → PrintsRead read octets new (λ v. PrintsText a ka b kb (AreFieldsBehind style margin path [] (fields (make v))))
     (BreaksRead style read octets a ka b (λ v. AreFieldsBehind style margin path [] (fields (make v)))) r
@@ -575,3 +639,16 @@ structure_printed style margin path make fields read octets new a b ka kb (Err O
     let there = image_there make (read octets) value rest e in
     subst (λ v. BreaksOffLines style a ka b (IsBehind style margin path [] (structure (fields v)))) there.2 (h there.0 rest there.1)
 structure_printed style margin path make fields read octets new a b ka kb (Err (Output error)) h = tt
+
+-- a structure of this format was
+pub struct_printed : (style : FieldStyle) (margin path : List ℕ) {A B : Type 0} (make : A → B) (read : List ℕ → Option (A × List ℕ)) (format : Format B)
+    (fields : B → Fields) (octets new : List ℕ) (a b : Option (List ℕ)) (ka kb : List ℕ) (r : Result (Unit {0}) TellFault)
+    → format.decode most_levels ≡ image_read make read
+    → PrintsRead read octets new (λ v. PrintsText a ka b kb (AreFieldsBehind style margin path [] (fields (make v))))
+    (BreaksRead style read octets a ka b (λ v. AreFieldsBehind style margin path [] (fields (make v)))) r
+    → PrintsRead (format.decode most_levels) octets new (λ v. PrintsText a ka b kb (IsBehind style margin path [] (structure (fields v))))
+    (BreaksRead style (format.decode most_levels) octets a ka b (λ v. IsBehind style margin path [] (structure (fields v)))) r
+struct_printed style margin path {B = B} make read format fields octets new a b ka kb r e h =
+    subst (λ (f : List ℕ → Option (B × List ℕ)). PrintsRead f octets new (λ v. PrintsText a ka b kb (IsBehind style margin path [] (structure (fields v))))
+    (BreaksRead style f octets a ka b (λ v. IsBehind style margin path [] (structure (fields v)))) r) (sym e)
+    (structure_printed style margin path make fields read octets new a b ka kb r h)

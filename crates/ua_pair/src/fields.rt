@@ -20,6 +20,7 @@ mod secure_channel;
 mod security_token;
 mod session;
 mod text;
+mod whole;
 
 pub(crate) use body::{push_body_text, push_header_fields};
 pub use body::{BodyKind, push_body_fields};

@@ -2,10 +2,16 @@
 //! The structures of the services Read and Write, as lines.
 
 use crate::fields::lines::{Lines, Place, push_fields};
+use crate::fields::printing::{Last, Printed, PrintedFields};
+use crate::printing::TellFault;
 use std::alloc::{AllocError, Global};
+use std::io::Write;
+use ua_builtin::{DoubleBits, Source, StatusCode};
 use ua_services::{
-    ReadRequest, ReadResponse, ReadValueId, WriteRequest, WriteResponse, WriteValue,
+    ReadRequest, ReadResponse, ReadValueId, RequestHeader, ResponseHeader, UaArray, WriteRequest,
+    WriteResponse, WriteValue,
 };
+use ua_variant::{DataValue, DiagnosticInfo};
 
 impl Lines for ReadValueId {
     ghost use Rattle.ua_pair.specs.Tree.{structure};
@@ -19,6 +25,12 @@ impl Lines for ReadValueId {
             push_field node_id, push_field attribute_id, push_field index_range,
             push_field data_encoding
         )
+    }
+}
+
+impl Printed for ReadValueId {
+    fn is_structure() -> bool {
+        true
     }
 }
 
@@ -37,6 +49,29 @@ impl Lines for ReadRequest {
     }
 }
 
+impl Printed for ReadRequest {
+    fn is_structure() -> bool {
+        true
+    }
+
+    fn print<S: Source, O: Write>(
+        alloc: Global,
+        src: &mut S,
+        place: Place,
+        text: &mut String,
+        out: &mut O,
+    ) -> Result<(), TellFault> {
+        let names = (
+            "request_header",
+            ("max_age", ("timestamps_to_return", "nodes_to_read")),
+        );
+        <(
+            RequestHeader,
+            (DoubleBits, (i32, Last<UaArray<ReadValueId>>)),
+        )>::print_fields(alloc, src, place, names, text, out)
+    }
+}
+
 impl Lines for ReadResponse {
     ghost use Rattle.ua_pair.specs.Tree.{structure};
     ghost use Rattle.ua_pair.specs.Attribute.{read_response_entries};
@@ -48,6 +83,26 @@ impl Lines for ReadResponse {
         push_fields!(self, alloc, out, place =>
             push_part response_header, push_field results, push_field diagnostic_infos
         )
+    }
+}
+
+impl Printed for ReadResponse {
+    fn is_structure() -> bool {
+        true
+    }
+
+    fn print<S: Source, O: Write>(
+        alloc: Global,
+        src: &mut S,
+        place: Place,
+        text: &mut String,
+        out: &mut O,
+    ) -> Result<(), TellFault> {
+        let names = ("response_header", ("results", "diagnostic_infos"));
+        <(
+            ResponseHeader,
+            (UaArray<DataValue>, Last<UaArray<DiagnosticInfo>>),
+        )>::print_fields(alloc, src, place, names, text, out)
     }
 }
 
@@ -65,6 +120,12 @@ impl Lines for WriteValue {
     }
 }
 
+impl Printed for WriteValue {
+    fn is_structure() -> bool {
+        true
+    }
+}
+
 impl Lines for WriteRequest {
     ghost use Rattle.ua_pair.specs.Tree.{structure};
     ghost use Rattle.ua_pair.specs.Attribute.{write_request_entries};
@@ -74,6 +135,25 @@ impl Lines for WriteRequest {
     #[tactic(auto, unfolding(crate::specs::Attribute::write_request_entries))]
     fn push_lines(&self, alloc: Global, out: &mut String, place: Place) -> Result<(), AllocError> {
         push_fields!(self, alloc, out, place => push_part request_header, push_field nodes_to_write)
+    }
+}
+
+impl Printed for WriteRequest {
+    fn is_structure() -> bool {
+        true
+    }
+
+    fn print<S: Source, O: Write>(
+        alloc: Global,
+        src: &mut S,
+        place: Place,
+        text: &mut String,
+        out: &mut O,
+    ) -> Result<(), TellFault> {
+        let names = ("request_header", "nodes_to_write");
+        <(RequestHeader, Last<UaArray<WriteValue>>)>::print_fields(
+            alloc, src, place, names, text, out,
+        )
     }
 }
 
@@ -88,5 +168,25 @@ impl Lines for WriteResponse {
         push_fields!(self, alloc, out, place =>
             push_part response_header, push_field results, push_field diagnostic_infos
         )
+    }
+}
+
+impl Printed for WriteResponse {
+    fn is_structure() -> bool {
+        true
+    }
+
+    fn print<S: Source, O: Write>(
+        alloc: Global,
+        src: &mut S,
+        place: Place,
+        text: &mut String,
+        out: &mut O,
+    ) -> Result<(), TellFault> {
+        let names = ("response_header", ("results", "diagnostic_infos"));
+        <(
+            ResponseHeader,
+            (UaArray<StatusCode>, Last<UaArray<DiagnosticInfo>>),
+        )>::print_fields(alloc, src, place, names, text, out)
     }
 }

@@ -2,10 +2,14 @@
 //! The structures of the service GetEndpoints, as lines.
 
 use crate::fields::lines::{Lines, Place, push_fields};
+use crate::fields::printing::{Last, Printed, PrintedFields};
+use crate::printing::TellFault;
 use std::alloc::{AllocError, Global};
+use std::io::Write;
+use ua_builtin::{LocalizedText, Source, UaBytes, UaString};
 use ua_services::{
     ApplicationDescription, EndpointDescription, GetEndpointsRequest, GetEndpointsResponse,
-    UserTokenPolicy,
+    RequestHeader, ResponseHeader, UaArray, UserTokenPolicy,
 };
 
 impl Lines for ApplicationDescription {
@@ -24,6 +28,47 @@ impl Lines for ApplicationDescription {
     }
 }
 
+impl Printed for ApplicationDescription {
+    fn is_structure() -> bool {
+        true
+    }
+
+    fn print<S: Source, O: Write>(
+        alloc: Global,
+        src: &mut S,
+        place: Place,
+        text: &mut String,
+        out: &mut O,
+    ) -> Result<(), TellFault> {
+        let names = (
+            "application_uri",
+            (
+                "product_uri",
+                (
+                    "application_name",
+                    (
+                        "application_type",
+                        (
+                            "gateway_server_uri",
+                            ("discovery_profile_uri", "discovery_urls"),
+                        ),
+                    ),
+                ),
+            ),
+        );
+        <(
+            UaString,
+            (
+                UaString,
+                (
+                    LocalizedText,
+                    (i32, (UaString, (UaString, Last<UaArray<UaString>>))),
+                ),
+            ),
+        )>::print_fields(alloc, src, place, names, text, out)
+    }
+}
+
 impl Lines for UserTokenPolicy {
     ghost use Rattle.ua_pair.specs.Tree.{structure};
     ghost use Rattle.ua_pair.specs.Discovery.{user_token_policy_entries};
@@ -36,6 +81,12 @@ impl Lines for UserTokenPolicy {
             push_field policy_id, push_field token_type, push_field issued_token_type,
             push_field issuer_endpoint_url, push_field security_policy_uri
         )
+    }
+}
+
+impl Printed for UserTokenPolicy {
+    fn is_structure() -> bool {
+        true
     }
 }
 
@@ -56,6 +107,53 @@ impl Lines for EndpointDescription {
     }
 }
 
+impl Printed for EndpointDescription {
+    fn is_structure() -> bool {
+        true
+    }
+
+    fn print<S: Source, O: Write>(
+        alloc: Global,
+        src: &mut S,
+        place: Place,
+        text: &mut String,
+        out: &mut O,
+    ) -> Result<(), TellFault> {
+        let names = (
+            "endpoint_url",
+            (
+                "server",
+                (
+                    "server_certificate",
+                    (
+                        "security_mode",
+                        (
+                            "security_policy_uri",
+                            (
+                                "user_identity_tokens",
+                                ("transport_profile_uri", "security_level"),
+                            ),
+                        ),
+                    ),
+                ),
+            ),
+        );
+        <(
+            UaString,
+            (
+                ApplicationDescription,
+                (
+                    UaBytes,
+                    (
+                        i32,
+                        (UaString, (UaArray<UserTokenPolicy>, (UaString, Last<u8>))),
+                    ),
+                ),
+            ),
+        )>::print_fields(alloc, src, place, names, text, out)
+    }
+}
+
 impl Lines for GetEndpointsRequest {
     ghost use Rattle.ua_pair.specs.Tree.{structure};
     ghost use Rattle.ua_pair.specs.Discovery.{get_endpoints_request_entries};
@@ -71,6 +169,29 @@ impl Lines for GetEndpointsRequest {
     }
 }
 
+impl Printed for GetEndpointsRequest {
+    fn is_structure() -> bool {
+        true
+    }
+
+    fn print<S: Source, O: Write>(
+        alloc: Global,
+        src: &mut S,
+        place: Place,
+        text: &mut String,
+        out: &mut O,
+    ) -> Result<(), TellFault> {
+        let names = (
+            "request_header",
+            ("endpoint_url", ("locale_ids", "profile_uris")),
+        );
+        <(
+            RequestHeader,
+            (UaString, (UaArray<UaString>, Last<UaArray<UaString>>)),
+        )>::print_fields(alloc, src, place, names, text, out)
+    }
+}
+
 impl Lines for GetEndpointsResponse {
     ghost use Rattle.ua_pair.specs.Tree.{structure};
     ghost use Rattle.ua_pair.specs.Discovery.{get_endpoints_response_entries};
@@ -80,5 +201,24 @@ impl Lines for GetEndpointsResponse {
     #[tactic(auto, unfolding(crate::specs::Discovery::get_endpoints_response_entries))]
     fn push_lines(&self, alloc: Global, out: &mut String, place: Place) -> Result<(), AllocError> {
         push_fields!(self, alloc, out, place => push_part response_header, push_field endpoints)
+    }
+}
+
+impl Printed for GetEndpointsResponse {
+    fn is_structure() -> bool {
+        true
+    }
+
+    fn print<S: Source, O: Write>(
+        alloc: Global,
+        src: &mut S,
+        place: Place,
+        text: &mut String,
+        out: &mut O,
+    ) -> Result<(), TellFault> {
+        let names = ("response_header", "endpoints");
+        <(ResponseHeader, Last<UaArray<EndpointDescription>>)>::print_fields(
+            alloc, src, place, names, text, out,
+        )
     }
 }

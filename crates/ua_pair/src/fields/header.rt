@@ -2,8 +2,13 @@
 //! The structures of the headers and the ServiceFault, as lines.
 
 use crate::fields::lines::{Lines, Place, push_fields};
+use crate::fields::printing::{Last, Printed, PrintedFields};
+use crate::printing::TellFault;
 use std::alloc::{AllocError, Global};
-use ua_services::{RequestHeader, ResponseHeader, ServiceFault};
+use std::io::Write;
+use ua_builtin::{DateTime, ExtensionObject, Source, StatusCode, UaString};
+use ua_services::{RequestHeader, ResponseHeader, ServiceFault, UaArray};
+use ua_variant::DiagnosticInfo;
 
 impl Lines for RequestHeader {
     ghost use Rattle.ua_pair.specs.Tree.{structure};
@@ -18,6 +23,12 @@ impl Lines for RequestHeader {
             push_field return_diagnostics, push_field audit_entry_id, push_field timeout_hint,
             push_field additional_header
         )
+    }
+}
+
+impl Printed for RequestHeader {
+    fn is_structure() -> bool {
+        true
     }
 }
 
@@ -36,6 +47,41 @@ impl Lines for ResponseHeader {
     }
 }
 
+impl Printed for ResponseHeader {
+    fn is_structure() -> bool {
+        true
+    }
+
+    fn print<S: Source, O: Write>(
+        alloc: Global,
+        src: &mut S,
+        place: Place,
+        text: &mut String,
+        out: &mut O,
+    ) -> Result<(), TellFault> {
+        let names = (
+            "timestamp",
+            (
+                "request_handle",
+                (
+                    "service_result",
+                    ("service_diagnostics", ("string_table", "additional_header")),
+                ),
+            ),
+        );
+        <(
+            DateTime,
+            (
+                u32,
+                (
+                    StatusCode,
+                    (DiagnosticInfo, (UaArray<UaString>, Last<ExtensionObject>)),
+                ),
+            ),
+        )>::print_fields(alloc, src, place, names, text, out)
+    }
+}
+
 impl Lines for ServiceFault {
     ghost use Rattle.ua_pair.specs.Tree.{structure};
     ghost use Rattle.ua_pair.specs.Header.{service_fault_entries};
@@ -45,5 +91,22 @@ impl Lines for ServiceFault {
     #[tactic(auto, unfolding(crate::specs::Header::service_fault_entries))]
     fn push_lines(&self, alloc: Global, out: &mut String, place: Place) -> Result<(), AllocError> {
         push_fields!(self, alloc, out, place => push_part response_header)
+    }
+}
+
+impl Printed for ServiceFault {
+    fn is_structure() -> bool {
+        true
+    }
+
+    fn print<S: Source, O: Write>(
+        alloc: Global,
+        src: &mut S,
+        place: Place,
+        text: &mut String,
+        out: &mut O,
+    ) -> Result<(), TellFault> {
+        let names = "response_header";
+        <Last<ResponseHeader>>::print_fields(alloc, src, place, names, text, out)
     }
 }

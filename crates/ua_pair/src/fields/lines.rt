@@ -78,8 +78,8 @@ pub(crate) fn path_of_field(alloc: Global, path: &str, name: &str) -> Result<Str
     Ok(inner)
 }
 
-/// The path of an element.
-fn path_of_element(alloc: Global, path: &str, index: usize) -> Result<String, AllocError>
+/// The path of an element, as a text of its own.
+pub(crate) fn path_of_element(alloc: Global, path: &str, index: usize) -> Result<String, AllocError>
     ensures { IfOk result (λ inner. string_bytes inner ≡ element_path path.now index) }
 {
     let mut inner = String::with_capacity(alloc, path.len().saturating_add(INDEX_LEN))?;

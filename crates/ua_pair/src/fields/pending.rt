@@ -1,7 +1,7 @@
 //! The fields of a whole message, as lines that are printed as it is read.
 
 ghost use Rattle.std.specs.List.{concat};
-ghost use Rattle.std.specs.Prelude.{List, ℕ, [], string_bytes};
+ghost use Rattle.std.specs.Prelude.{◌≡◌, List, ℕ, [], Result, Ok, string_bytes};
 ghost use Rattle.ua_pair.specs.Bodies.{IsBodyText};
 ghost use Rattle.ua_pair.specs.Messages.{AreMessageLines};
 ghost use Rattle.ua_pair.specs.Names.{message_kind};
@@ -9,6 +9,10 @@ ghost use Rattle.ua_pair.specs.Printing.{BreaksRead, IsTextBehind, IsWholeBehind
 ghost use Rattle.ua_pair.specs.Printing.{PrintsText, PrintsOrBreaks, PrintsRead};
 ghost use Rattle.ua_pair.specs.Printing.{behind_id_read};
 ghost use Rattle.ua_pair.specs.declared.fields.body.BodyKind.TheVariants as body;
+ghost use Rattle.ua_services.specs.Request.{kind_alone, request_read};
+ghost use Rattle.ua_services.specs.Response.{response_kind_alone, response_read};
+ghost use Rattle.ua_services.specs.declared.fault.RequestFault.{RequestFault};
+ghost use Rattle.ua_services.specs.declared.fault.ResponseFault.{ResponseFault};
 
 use crate::fields::body::{BodyKind, push_body_text};
 use crate::fields::lines::Place;
@@ -20,10 +24,7 @@ use std::alloc::Global;
 use std::io::Write;
 use ua_builtin::{MOST_LEVELS, NodeId, Parts, Source, Wire};
 use ua_chunk::Message;
-use ua_services::{
-    ReadRequest, ReadResponse, RequestKind, ResponseKind, WriteRequest, WriteResponse,
-    skip_request, skip_response,
-};
+use ua_services::{RequestKind, ResponseKind, requests, responses, skip_request, skip_response};
 
 /// Reads the NodeId at the start of the source, and the structure after it, and prints the lines of
 /// the structure.
@@ -90,8 +91,32 @@ fn print_whole<O: Write>(
     Ok(())
 }
 
-/// Prints the lines of the request that a message is: those of an item of a Read or a Write at a
-/// time.
+/// Prints the lines of a message of a kind, as the structure that it holds is read.
+macro_rules! print_of_kind {
+    ($all:ident $kinds:ident [$($kind:ident($held:ident) = $of:literal,)+] $of_kind:expr, $out:ident, $given:tt) => {
+        match $of_kind {
+            $($kinds::$kind => print_known::<ua_services::$held, $out> $given,)+
+        }
+    };
+}
+
+/// Prints the lines of a request of a kind.
+fn print_request_of<O: Write>(
+    alloc: Global,
+    kind: RequestKind,
+    style: FieldStyle,
+    message: &Message,
+    text: &mut String,
+    out: &mut O,
+) -> Result<(), PrintFault>
+    requires { ◌≡◌ {A = Result RequestKind RequestFault} (Ok kind) (kind_alone (request_read (concat message.now))) }
+    ensures { PrintsOrBreaks style (O.contents out.old) (string_bytes text.old) (O.contents out.new)
+        (string_bytes text.new) (IsBodyText style body.Request (concat message.now)) result }
+{
+    requests!(print_of_kind, kind, O, (alloc, style, message, text, out))
+}
+
+/// Prints the lines of the request that a message is, or none.
 fn print_request<O: Write>(
     alloc: Global,
     style: FieldStyle,
@@ -102,16 +127,30 @@ fn print_request<O: Write>(
     ensures { PrintsOrBreaks style (O.contents out.old) (string_bytes text.old) (O.contents out.new)
         (string_bytes text.new) (IsBodyText style body.Request (concat message.now)) result }
 {
-    let kind = skip_request(alloc, &mut message.source());
-    match kind {
-        Ok(RequestKind::Read) => print_known::<ReadRequest, O>(alloc, style, message, text, out),
-        Ok(RequestKind::Write) => print_known::<WriteRequest, O>(alloc, style, message, text, out),
-        _ => print_whole(alloc, BodyKind::Request, style, message, text, out),
+    match skip_request(alloc, &mut message.source()) {
+        Ok(kind) => print_request_of(alloc, kind, style, message, text, out),
+        Err(_) => print_whole(alloc, BodyKind::Request, style, message, text, out),
     }
 }
 
-/// Prints the lines of the response that a message is: those of a result of a Read or a
-/// Write at a time.
+/// Prints the lines of a response of a kind.
+fn print_response_of<O: Write>(
+    alloc: Global,
+    kind: ResponseKind,
+    style: FieldStyle,
+    message: &Message,
+    text: &mut String,
+    out: &mut O,
+) -> Result<(), PrintFault>
+    requires { ◌≡◌ {A = Result ResponseKind ResponseFault} (Ok kind)
+        (response_kind_alone (response_read (concat message.now))) }
+    ensures { PrintsOrBreaks style (O.contents out.old) (string_bytes text.old) (O.contents out.new)
+        (string_bytes text.new) (IsBodyText style body.Response (concat message.now)) result }
+{
+    responses!(print_of_kind, kind, O, (alloc, style, message, text, out))
+}
+
+/// Prints the lines of the response that a message is, or none.
 fn print_response<O: Write>(
     alloc: Global,
     style: FieldStyle,
@@ -122,13 +161,9 @@ fn print_response<O: Write>(
     ensures { PrintsOrBreaks style (O.contents out.old) (string_bytes text.old) (O.contents out.new)
         (string_bytes text.new) (IsBodyText style body.Response (concat message.now)) result }
 {
-    let kind = skip_response(alloc, &mut message.source());
-    match kind {
-        Ok(ResponseKind::Read) => print_known::<ReadResponse, O>(alloc, style, message, text, out),
-        Ok(ResponseKind::Write) => {
-            print_known::<WriteResponse, O>(alloc, style, message, text, out)
-        }
-        _ => print_whole(alloc, BodyKind::Response, style, message, text, out),
+    match skip_response(alloc, &mut message.source()) {
+        Ok(kind) => print_response_of(alloc, kind, style, message, text, out),
+        Err(_) => print_whole(alloc, BodyKind::Response, style, message, text, out),
     }
 }
 

@@ -1,30 +1,34 @@
 //! Values that are printed as they are read.
 
-ghost use Rattle.std.specs.Prelude.{◌≡◌, [], length, map, string_bytes};
+ghost use Rattle.std.specs.Prelude.{◌≡◌, ℕ, List, [], length, map, string_bytes};
 ghost use Rattle.ua_builtin.specs.Format.{most_levels};
 ghost use Rattle.ua_opening.specs.Array.{array as array_format, items_at};
 ghost use Rattle.ua_pair.specs.Printing.{BreaksRead, PrintsText, PrintsRead};
-ghost use Rattle.ua_pair.specs.Tree.{AreElementsBehind, IsBehind, array_of, deeper, element_path, field_path};
-ghost use Rattle.ua_pair.specs.Tree.{tree_elements};
+ghost use Rattle.ua_pair.specs.Tree.{AreElementsBehind, AreFieldsBehind, IsBehind, array_of, element_path};
+ghost use Rattle.ua_pair.specs.Tree.{field_margin, field_path, tree_elements};
 
 use crate::fields::array::push_count;
-use crate::fields::lines::{Lines, Place, deeper_margin, path_of_field, push_line};
+use crate::fields::lines::{
+    Lines, Place, deeper_margin, path_of_element, path_of_field, push_line,
+};
 use crate::printing::{TellFault, write_full};
 use std::alloc::Global;
 use std::io::Write;
-use ua_builtin::{DoubleBits, FIRST_NEGATIVE, MOST_LEVELS, Source, StatusCode, Wire};
-use ua_services::{
-    ReadRequest, ReadResponse, ReadValueId, RequestHeader, ResponseHeader, WriteRequest,
-    WriteResponse, WriteValue,
-};
-use ua_variant::{DataValue, DiagnosticInfo};
+use ua_builtin::{FIRST_NEGATIVE, MOST_LEVELS, Source, Wire};
+use ua_services::UaArray;
 
-/// A structure that is printed as it is read, and never held.
-pub(crate) trait Printed: Lines + Wire {
-    ghost use Rattle.std.specs.Prelude.{[], string_bytes};
+/// A value that is printed as it is read. One that holds no array is read whole, and dropped before
+/// the next one is read; one that does has a `print` of its own, which reads an element at a time.
+pub(crate) trait Printed: Lines + Wire + Drop {
+    ghost use Rattle.std.specs.Prelude.{◌≡◌, ℕ, List, [], cond, string_bytes};
     ghost use Rattle.ua_builtin.specs.Format.{most_levels};
     ghost use Rattle.ua_pair.specs.Printing.{BreaksRead, PrintsText, PrintsRead};
-    ghost use Rattle.ua_pair.specs.Tree.{IsBehind};
+    ghost use Rattle.ua_pair.specs.Tree.{IsBehind, deeper, field_margin};
+
+    /// Whether it is a structure, which has no line of its own: its fields are one level deeper.
+    fn is_structure() -> bool
+        ensures { (margin : List ℕ) (value : Self)
+            → field_margin margin (Self.tree value) ≡ cond result (deeper margin) margin };
 
     /// Reads the value at the start of the source, and prints its lines. After an error, discard
     /// the source.
@@ -42,11 +46,18 @@ pub(crate) trait Printed: Lines + Wire {
             (BreaksRead place.entry.style (Self.format.decode most_levels) (S.octets src.old)
             (O.contents out.old) (string_bytes text.old) (O.contents out.new)
             (λ value. IsBehind place.entry.style place.entry.margin.now place.entry.path.now [] (Self.tree value)))
-            result };
+            result }
+    {
+        let value = Self::read_value(alloc, src, MOST_LEVELS)?;
+        value.push_lines(alloc, text, place)?;
+        drop(value);
+        write_full(text, out)?;
+        Ok(())
+    }
 }
 
-/// Reads the field at the start of the source, which is no structure, and prints its lines.
-fn print_field<T: Lines + Wire + Drop, S: Source, O: Write>(
+/// Reads the field at the start of the source, and prints its lines.
+pub(crate) fn print_field<T: Printed, S: Source, O: Write>(
     alloc: Global,
     src: &mut S,
     place: Place<'_>,
@@ -56,41 +67,33 @@ fn print_field<T: Lines + Wire + Drop, S: Source, O: Write>(
 ) -> Result<(), TellFault>
     ensures { PrintsRead (T.format.decode most_levels) (S.octets src.old) (S.octets src.new)
         (λ value. PrintsText (O.contents out.old) (string_bytes text.old) (O.contents out.new) (string_bytes text.new)
-        (IsBehind place.entry.style place.entry.margin.now (field_path place.entry.path.now name.now) []
-        (T.tree value)))
-        (O.contents out.new ≡ O.contents out.old) result }
+        (IsBehind place.entry.style (field_margin place.entry.margin.now (T.tree value))
+        (field_path place.entry.path.now name.now) [] (T.tree value)))
+        (BreaksRead place.entry.style (T.format.decode most_levels) (S.octets src.old)
+        (O.contents out.old) (string_bytes text.old) (O.contents out.new)
+        (λ value. IsBehind place.entry.style (field_margin place.entry.margin.now (T.tree value))
+        (field_path place.entry.path.now name.now) [] (T.tree value))) result }
 {
-    let value = T::read_value(alloc, src, MOST_LEVELS)?;
-    place.push_field(alloc, text, name, &value)?;
-    drop(value);
-    write_full(text, out)?;
-    Ok(())
-}
-
-/// Reads the structure at the start of the source, and prints its lines.
-fn print_part<T: Lines + Wire + Drop, S: Source, O: Write>(
-    alloc: Global,
-    src: &mut S,
-    place: Place<'_>,
-    name: &str,
-    text: &mut String,
-    out: &mut O,
-) -> Result<(), TellFault>
-    ensures { PrintsRead (T.format.decode most_levels) (S.octets src.old) (S.octets src.new)
-        (λ value. PrintsText (O.contents out.old) (string_bytes text.old) (O.contents out.new) (string_bytes text.new)
-        (IsBehind place.entry.style (deeper place.entry.margin.now) (field_path place.entry.path.now name.now) []
-        (T.tree value)))
-        (O.contents out.new ≡ O.contents out.old) result }
-{
-    let value = T::read_value(alloc, src, MOST_LEVELS)?;
-    place.push_part(alloc, text, name, &value)?;
-    drop(value);
-    write_full(text, out)?;
-    Ok(())
+    let path = path_of_field(alloc, place.path, name)?;
+    let inner = Place {
+        style: place.style,
+        margin: place.margin,
+        path: &path,
+    };
+    if !T::is_structure() {
+        return T::print(alloc, src, inner, text, out);
+    }
+    let margin = deeper_margin(alloc, place.margin)?;
+    let deeper = Place {
+        style: place.style,
+        margin: &margin,
+        path: inner.path,
+    };
+    T::print(alloc, src, deeper, text, out)
 }
 
 /// Reads the element at the start of the source, and prints its lines.
-fn print_element<T: Lines + Wire + Drop, S: Source, O: Write>(
+fn print_element<T: Printed, S: Source, O: Write>(
     alloc: Global,
     src: &mut S,
     place: Place<'_>,
@@ -101,17 +104,22 @@ fn print_element<T: Lines + Wire + Drop, S: Source, O: Write>(
     ensures { PrintsRead (T.format.decode most_levels) (S.octets src.old) (S.octets src.new)
         (λ value. PrintsText (O.contents out.old) (string_bytes text.old) (O.contents out.new) (string_bytes text.new)
         (IsBehind place.entry.style place.entry.margin.now (element_path place.entry.path.now index) [] (T.tree value)))
-        (O.contents out.new ≡ O.contents out.old) result }
+        (BreaksRead place.entry.style (T.format.decode most_levels) (S.octets src.old)
+        (O.contents out.old) (string_bytes text.old) (O.contents out.new)
+        (λ value. IsBehind place.entry.style place.entry.margin.now (element_path place.entry.path.now index) []
+        (T.tree value))) result }
 {
-    let value = T::read_value(alloc, src, MOST_LEVELS)?;
-    place.push_element(alloc, text, index, &value)?;
-    drop(value);
-    write_full(text, out)?;
-    Ok(())
+    let path = path_of_element(alloc, place.path, index)?;
+    let inner = Place {
+        style: place.style,
+        margin: place.margin,
+        path: &path,
+    };
+    T::print(alloc, src, inner, text, out)
 }
 
 /// Reads that many elements, one after the other, and prints the lines of each.
-fn print_elements<T: Lines + Wire + Drop, S: Source, O: Write>(
+fn print_elements<T: Printed, S: Source, O: Write>(
     alloc: Global,
     src: &mut S,
     place: Place<'_>,
@@ -136,7 +144,7 @@ fn print_elements<T: Lines + Wire + Drop, S: Source, O: Write>(
 }
 
 /// Reads the array at the start of the source, element by element, and prints its lines.
-fn print_array<T: Lines + Wire + Drop, S: Source, O: Write>(
+fn print_array<T: Printed, S: Source, O: Write>(
     alloc: Global,
     src: &mut S,
     place: Place<'_>,
@@ -171,34 +179,11 @@ fn print_array<T: Lines + Wire + Drop, S: Source, O: Write>(
     print_elements::<T, S, O>(alloc, src, inner, count, text, out)
 }
 
-/// Reads the array at the start of the source, and prints its lines as those of a field.
-fn print_array_field<T: Lines + Wire + Drop, S: Source, O: Write>(
-    alloc: Global,
-    src: &mut S,
-    place: Place<'_>,
-    name: &str,
-    text: &mut String,
-    out: &mut O,
-) -> Result<(), TellFault>
-    ensures { PrintsRead ((array_format T.format).decode most_levels) (S.octets src.old) (S.octets src.new)
-        (λ value. PrintsText (O.contents out.old) (string_bytes text.old) (O.contents out.new) (string_bytes text.new)
-        (IsBehind place.entry.style place.entry.margin.now (field_path place.entry.path.now name.now) []
-        (array_of T.tree value)))
-        (BreaksRead place.entry.style ((array_format T.format).decode most_levels) (S.octets src.old)
-        (O.contents out.old) (string_bytes text.old) (O.contents out.new)
-        (λ value. IsBehind place.entry.style place.entry.margin.now (field_path place.entry.path.now name.now) []
-        (array_of T.tree value))) result }
-{
-    let path = path_of_field(alloc, place.path, name)?;
-    let inner = Place {
-        style: place.style,
-        margin: place.margin,
-        path: &path,
-    };
-    print_array::<T, S, O>(alloc, src, inner, text, out)
-}
+impl<T: Printed> Printed for UaArray<T> {
+    fn is_structure() -> bool {
+        false
+    }
 
-impl Printed for ReadRequest {
     fn print<S: Source, O: Write>(
         alloc: Global,
         src: &mut S,
@@ -206,50 +191,89 @@ impl Printed for ReadRequest {
         text: &mut String,
         out: &mut O,
     ) -> Result<(), TellFault> {
-        print_part::<RequestHeader, S, O>(alloc, src, place, "request_header", text, out)?;
-        print_field::<DoubleBits, S, O>(alloc, src, place, "max_age", text, out)?;
-        print_field::<i32, S, O>(alloc, src, place, "timestamps_to_return", text, out)?;
-        print_array_field::<ReadValueId, S, O>(alloc, src, place, "nodes_to_read", text, out)
+        print_array::<T, S, O>(alloc, src, place, text, out)
     }
 }
 
-impl Printed for ReadResponse {
-    fn print<S: Source, O: Write>(
+/// The fields of a structure in their order, as nested pairs with the last one in [`Last`]: those of
+/// a Read are `(RequestHeader, (DoubleBits, (i32, Last<UaArray<ReadValueId>>)))`.
+pub(crate) trait PrintedFields {
+    ghost use Rattle.std.specs.Prelude.{[], string_bytes};
+    ghost use Rattle.ua_builtin.specs.Format.{most_levels};
+    ghost use Rattle.ua_pair.specs.Printing.{BreaksRead, PrintsText, PrintsRead};
+    ghost use Rattle.ua_pair.specs.Tree.{AreFieldsBehind, Fields};
+
+    /// The values of the fields.
+    type Values: Wire + Drop;
+
+    /// Their names.
+    type Names: Drop;
+
+    /// Their trees, by their names.
+    ghost fields: { Self.Names → Self.Values → Fields };
+
+    /// Reads the fields at the start of the source, one after the other, and prints their lines.
+    fn print_fields<S: Source, O: Write>(
         alloc: Global,
         src: &mut S,
         place: Place,
+        names: Self::Names,
+        text: &mut String,
+        out: &mut O,
+    ) -> Result<(), TellFault>
+        ensures { PrintsRead (Self.Values.format.decode most_levels) (S.octets src.old) (S.octets src.new)
+            (λ value. PrintsText (O.contents out.old) (string_bytes text.old) (O.contents out.new)
+            (string_bytes text.new)
+            (AreFieldsBehind place.entry.style place.entry.margin.now place.entry.path.now [] (fields names value)))
+            (BreaksRead place.entry.style (Self.Values.format.decode most_levels) (S.octets src.old)
+            (O.contents out.old) (string_bytes text.old) (O.contents out.new)
+            (λ value. AreFieldsBehind place.entry.style place.entry.margin.now place.entry.path.now []
+            (fields names value))) result };
+}
+
+/// The last field of a structure.
+pub(crate) struct Last<T>(T);
+
+impl<T: Printed> PrintedFields for Last<T> {
+    ghost use Rattle.ua_pair.specs.Tree.{field, no_fields};
+
+    type Values = T;
+
+    type Names = &'static str;
+
+    ghost fields = { λ name value. field name.now (T.tree value) no_fields };
+
+    fn print_fields<S: Source, O: Write>(
+        alloc: Global,
+        src: &mut S,
+        place: Place,
+        name: &'static str,
         text: &mut String,
         out: &mut O,
     ) -> Result<(), TellFault> {
-        print_part::<ResponseHeader, S, O>(alloc, src, place, "response_header", text, out)?;
-        print_array_field::<DataValue, S, O>(alloc, src, place, "results", text, out)?;
-        print_array_field::<DiagnosticInfo, S, O>(alloc, src, place, "diagnostic_infos", text, out)
+        print_field::<T, S, O>(alloc, src, place, name, text, out)
     }
 }
 
-impl Printed for WriteRequest {
-    fn print<S: Source, O: Write>(
-        alloc: Global,
-        src: &mut S,
-        place: Place,
-        text: &mut String,
-        out: &mut O,
-    ) -> Result<(), TellFault> {
-        print_part::<RequestHeader, S, O>(alloc, src, place, "request_header", text, out)?;
-        print_array_field::<WriteValue, S, O>(alloc, src, place, "nodes_to_write", text, out)
-    }
-}
+impl<A: Printed, B: PrintedFields> PrintedFields for (A, B) {
+    ghost use Rattle.ua_pair.specs.Tree.{field};
 
-impl Printed for WriteResponse {
-    fn print<S: Source, O: Write>(
+    type Values = (A, B::Values);
+
+    type Names = (&'static str, B::Names);
+
+    ghost fields = { λ names value. field names.0.now (A.tree value.0) (B.fields names.1 value.1) };
+
+    fn print_fields<S: Source, O: Write>(
         alloc: Global,
         src: &mut S,
         place: Place,
+        names: (&'static str, B::Names),
         text: &mut String,
         out: &mut O,
     ) -> Result<(), TellFault> {
-        print_part::<ResponseHeader, S, O>(alloc, src, place, "response_header", text, out)?;
-        print_array_field::<StatusCode, S, O>(alloc, src, place, "results", text, out)?;
-        print_array_field::<DiagnosticInfo, S, O>(alloc, src, place, "diagnostic_infos", text, out)
+        let (name, others) = names;
+        print_field::<A, S, O>(alloc, src, place, name, text, out)?;
+        B::print_fields(alloc, src, place, others, text, out)
     }
 }

@@ -2,11 +2,17 @@
 //! The structures of the Session services, as lines.
 
 use crate::fields::lines::{Lines, Place, push_fields};
+use crate::fields::printing::{Last, Printed, PrintedFields};
+use crate::printing::TellFault;
 use std::alloc::{AllocError, Global};
+use std::io::Write;
+use ua_builtin::{DoubleBits, ExtensionObject, NodeId, Source, StatusCode, UaBytes, UaString};
 use ua_services::{
-    ActivateSessionRequest, ActivateSessionResponse, CloseSessionRequest, CloseSessionResponse,
-    CreateSessionRequest, CreateSessionResponse, SignatureData, SignedSoftwareCertificate,
+    ActivateSessionRequest, ActivateSessionResponse, ApplicationDescription, CloseSessionRequest,
+    CloseSessionResponse, CreateSessionRequest, CreateSessionResponse, EndpointDescription,
+    RequestHeader, ResponseHeader, SignatureData, SignedSoftwareCertificate, UaArray,
 };
+use ua_variant::DiagnosticInfo;
 
 impl Lines for SignedSoftwareCertificate {
     ghost use Rattle.ua_pair.specs.Tree.{structure};
@@ -20,6 +26,12 @@ impl Lines for SignedSoftwareCertificate {
     }
 }
 
+impl Printed for SignedSoftwareCertificate {
+    fn is_structure() -> bool {
+        true
+    }
+}
+
 impl Lines for SignatureData {
     ghost use Rattle.ua_pair.specs.Tree.{structure};
     ghost use Rattle.ua_pair.specs.Session.{signature_data_entries};
@@ -29,6 +41,12 @@ impl Lines for SignatureData {
     #[tactic(auto, unfolding(crate::specs::Session::signature_data_entries))]
     fn push_lines(&self, alloc: Global, out: &mut String, place: Place) -> Result<(), AllocError> {
         push_fields!(self, alloc, out, place => push_field algorithm, push_field signature)
+    }
+}
+
+impl Printed for SignatureData {
+    fn is_structure() -> bool {
+        true
     }
 }
 
@@ -46,6 +64,56 @@ impl Lines for CreateSessionRequest {
             push_field client_certificate, push_field requested_session_timeout,
             push_field max_response_message_size
         )
+    }
+}
+
+impl Printed for CreateSessionRequest {
+    fn is_structure() -> bool {
+        true
+    }
+
+    fn print<S: Source, O: Write>(
+        alloc: Global,
+        src: &mut S,
+        place: Place,
+        text: &mut String,
+        out: &mut O,
+    ) -> Result<(), TellFault> {
+        let names = (
+            "request_header",
+            (
+                "client_description",
+                (
+                    "server_uri",
+                    (
+                        "endpoint_url",
+                        (
+                            "session_name",
+                            (
+                                "client_nonce",
+                                (
+                                    "client_certificate",
+                                    ("requested_session_timeout", "max_response_message_size"),
+                                ),
+                            ),
+                        ),
+                    ),
+                ),
+            ),
+        );
+        <(
+            RequestHeader,
+            (
+                ApplicationDescription,
+                (
+                    UaString,
+                    (
+                        UaString,
+                        (UaString, (UaBytes, (UaBytes, (DoubleBits, Last<u32>)))),
+                    ),
+                ),
+            ),
+        )>::print_fields(alloc, src, place, names, text, out)
     }
 }
 
@@ -67,6 +135,71 @@ impl Lines for CreateSessionResponse {
     }
 }
 
+impl Printed for CreateSessionResponse {
+    fn is_structure() -> bool {
+        true
+    }
+
+    fn print<S: Source, O: Write>(
+        alloc: Global,
+        src: &mut S,
+        place: Place,
+        text: &mut String,
+        out: &mut O,
+    ) -> Result<(), TellFault> {
+        let names = (
+            "response_header",
+            (
+                "session_id",
+                (
+                    "authentication_token",
+                    (
+                        "revised_session_timeout",
+                        (
+                            "server_nonce",
+                            (
+                                "server_certificate",
+                                (
+                                    "server_endpoints",
+                                    (
+                                        "server_software_certificates",
+                                        ("server_signature", "max_request_message_size"),
+                                    ),
+                                ),
+                            ),
+                        ),
+                    ),
+                ),
+            ),
+        );
+        <(
+            ResponseHeader,
+            (
+                NodeId,
+                (
+                    NodeId,
+                    (
+                        DoubleBits,
+                        (
+                            UaBytes,
+                            (
+                                UaBytes,
+                                (
+                                    UaArray<EndpointDescription>,
+                                    (
+                                        UaArray<SignedSoftwareCertificate>,
+                                        (SignatureData, Last<u32>),
+                                    ),
+                                ),
+                            ),
+                        ),
+                    ),
+                ),
+            ),
+        )>::print_fields(alloc, src, place, names, text, out)
+    }
+}
+
 impl Lines for ActivateSessionRequest {
     ghost use Rattle.ua_pair.specs.Tree.{structure};
     ghost use Rattle.ua_pair.specs.Session.{activate_session_request_entries};
@@ -80,6 +213,44 @@ impl Lines for ActivateSessionRequest {
             push_field client_software_certificates, push_field locale_ids,
             push_field user_identity_token, push_part user_token_signature
         )
+    }
+}
+
+impl Printed for ActivateSessionRequest {
+    fn is_structure() -> bool {
+        true
+    }
+
+    fn print<S: Source, O: Write>(
+        alloc: Global,
+        src: &mut S,
+        place: Place,
+        text: &mut String,
+        out: &mut O,
+    ) -> Result<(), TellFault> {
+        let names = (
+            "request_header",
+            (
+                "client_signature",
+                (
+                    "client_software_certificates",
+                    (
+                        "locale_ids",
+                        ("user_identity_token", "user_token_signature"),
+                    ),
+                ),
+            ),
+        );
+        <(
+            RequestHeader,
+            (
+                SignatureData,
+                (
+                    UaArray<SignedSoftwareCertificate>,
+                    (UaArray<UaString>, (ExtensionObject, Last<SignatureData>)),
+                ),
+            ),
+        )>::print_fields(alloc, src, place, names, text, out)
     }
 }
 
@@ -98,6 +269,32 @@ impl Lines for ActivateSessionResponse {
     }
 }
 
+impl Printed for ActivateSessionResponse {
+    fn is_structure() -> bool {
+        true
+    }
+
+    fn print<S: Source, O: Write>(
+        alloc: Global,
+        src: &mut S,
+        place: Place,
+        text: &mut String,
+        out: &mut O,
+    ) -> Result<(), TellFault> {
+        let names = (
+            "response_header",
+            ("server_nonce", ("results", "diagnostic_infos")),
+        );
+        <(
+            ResponseHeader,
+            (
+                UaBytes,
+                (UaArray<StatusCode>, Last<UaArray<DiagnosticInfo>>),
+            ),
+        )>::print_fields(alloc, src, place, names, text, out)
+    }
+}
+
 impl Lines for CloseSessionRequest {
     ghost use Rattle.ua_pair.specs.Tree.{structure};
     ghost use Rattle.ua_pair.specs.Session.{close_session_request_entries};
@@ -112,6 +309,12 @@ impl Lines for CloseSessionRequest {
     }
 }
 
+impl Printed for CloseSessionRequest {
+    fn is_structure() -> bool {
+        true
+    }
+}
+
 impl Lines for CloseSessionResponse {
     ghost use Rattle.ua_pair.specs.Tree.{structure};
     ghost use Rattle.ua_pair.specs.Session.{close_session_response_entries};
@@ -121,5 +324,22 @@ impl Lines for CloseSessionResponse {
     #[tactic(auto, unfolding(crate::specs::Session::close_session_response_entries))]
     fn push_lines(&self, alloc: Global, out: &mut String, place: Place) -> Result<(), AllocError> {
         push_fields!(self, alloc, out, place => push_part response_header)
+    }
+}
+
+impl Printed for CloseSessionResponse {
+    fn is_structure() -> bool {
+        true
+    }
+
+    fn print<S: Source, O: Write>(
+        alloc: Global,
+        src: &mut S,
+        place: Place,
+        text: &mut String,
+        out: &mut O,
+    ) -> Result<(), TellFault> {
+        let names = "response_header";
+        <Last<ResponseHeader>>::print_fields(alloc, src, place, names, text, out)
     }
 }

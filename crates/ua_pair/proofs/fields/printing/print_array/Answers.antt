@@ -4,7 +4,7 @@ use Rattle.ua_builtin.specs.Format.{most_levels}
 use Rattle.ua_opening.proofs.ItemsRead.{claims_more}
 use Rattle.ua_opening.specs.Array.{array}
 use Rattle.ua_pair.specs.Tree.{array_of}
-use Rattle.ua_pair.proofs.Printings.{array_breaks, array_null, array_printed, array_unread, value_breaks}
+use Rattle.ua_pair.proofs.Printings.{array_null, array_printed, array_unread, unprinted, value_breaks}
 use Rattle.ua_pair.proofs.fields.printing.print_array.Goals as goal
 
 pub returns-in_err-count : goal.returns-in_err-count
@@ -17,17 +17,20 @@ returns-in_err-count g c =
 pub returns-in_err-push_line : goal.returns-in_err-push_line
 returns-in_err-push_line g c =
     let p = err_from_is_err_and c.from_residual-in_err-push_line.result c.from_residual-in_err-push_line.ensures.1 in
-    rw (p.1, p.2) (array_breaks c.args.place.style g.T.Lines.tree g.T.Wire.format c.args.place.margin.now c.args.place.path.now _ _ _)
+    rw (p.1, p.2) (unprinted c.args.place.style (array_of g.T.Lines.tree) (λ v. c.args.place.margin.now) c.args.place.path.now
+    ((array g.T.Wire.format).decode most_levels) _ _ _)
 
 pub returns-in_err-push_count : goal.returns-in_err-push_count
 returns-in_err-push_count g c =
     let p = err_from_is_err_and c.from_residual-in_err-push_count.result c.from_residual-in_err-push_count.ensures.1 in
-    rw (p.1, p.2) (array_breaks c.args.place.style g.T.Lines.tree g.T.Wire.format c.args.place.margin.now c.args.place.path.now _ _ _)
+    rw (p.1, p.2) (unprinted c.args.place.style (array_of g.T.Lines.tree) (λ v. c.args.place.margin.now) c.args.place.path.now
+    ((array g.T.Wire.format).decode most_levels) _ _ _)
 
 pub returns-in_err-margin : goal.returns-in_err-margin
 returns-in_err-margin g c =
     let p = err_from_is_err_and c.from_residual-in_err-margin.result c.from_residual-in_err-margin.ensures.1 in
-    rw (p.1, p.2) (array_breaks c.args.place.style g.T.Lines.tree g.T.Wire.format c.args.place.margin.now c.args.place.path.now _ _ _)
+    rw (p.1, p.2) (unprinted c.args.place.style (array_of g.T.Lines.tree) (λ v. c.args.place.margin.now) c.args.place.path.now
+    ((array g.T.Wire.format).decode most_levels) _ _ _)
 
 pub returns-then-count-ge-FIRST_NEGATIVE : goal.returns-then-count-ge-FIRST_NEGATIVE
 returns-then-count-ge-FIRST_NEGATIVE g c =

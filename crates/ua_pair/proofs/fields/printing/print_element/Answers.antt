@@ -1,14 +1,15 @@
-use Rattle.std.proofs.Common.{[]}
+use Rattle.std.proofs.Common.{◌∙◌}
 use Rattle.std.proofs.lemmas.Result.{err_from_is_err_and}
 use Rattle.ua_builtin.specs.Format.{most_levels}
-use Rattle.ua_pair.proofs.Printings.{value_printed, value_unread}
+use Rattle.ua_pair.specs.Tree.{element_path}
+use Rattle.ua_pair.proofs.Printings.{unprinted}
 use Rattle.ua_pair.proofs.fields.printing.print_element.Goals as goal
 
-pub returns-in_err-value : goal.returns-in_err-value
-returns-in_err-value g c =
+pub returns-in_err-path : goal.returns-in_err-path
+returns-in_err-path g c =
     let p = err_from_is_err_and c.from_residual.result c.from_residual.ensures.1 in
-    rw (p.1, p.2) (value_unread (g.T.Wire.format.decode most_levels) _ [] (λ x. Unit {0}) _ c.in_err-value.field-0.0 c.in_err-value.ensures.exact)
+    rw (p.1, p.2) (unprinted c.args.place.style g.T.Lines.tree (λ v. c.args.place.margin.now)
+    (element_path c.args.place.path.now c.args.index) (g.T.Wire.format.decode most_levels) _ _ _)
 
 pub returns : goal.returns
-returns g c =
-    (c.in_ok-value.value, c.in_ok-value.ensures.exact, value_printed c.args.place.style _ _ _ _ _ _ _ _ c.in_ok-push_element.ensures c.in_ok-write_full.ensures)
+returns g c = rw (c.deref.ensures ∙ c.in_ok-path.ensures) at c.print.ensures
