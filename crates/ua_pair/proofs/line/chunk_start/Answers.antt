@@ -1,4 +1,4 @@
-use Rattle.std.proofs.Common.{◌≡◌, ◌++◌, codes, append_assoc}
+use Rattle.std.proofs.Common.{append_assoc}
 use Rattle.ua_pair.specs.Lines.{chunk_head}
 use Rattle.ua_pair.proofs.line.chunk_start.Goals as goal
 
