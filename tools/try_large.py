@@ -179,6 +179,9 @@ READ = b'\x01\0\x77\x02' + header(False) + bytes(8) + struct.pack('<I', 2)
 WRITE = b'\x01\0\xA1\x02' + header(False)
 RESPONSE = bytes(8) + struct.pack('<I', 1) + bytes(5) + NULL + bytes(3)
 ONE_VALUE = b'\x01\0\x7A\x02' + RESPONSE + struct.pack('<I', 1) + b'\x01'
+# An endpoint with null fields: up to its discovery URLs, and behind them.
+ENDPOINT = 3 * NULL + b'\0' + bytes(4) + 2 * NULL
+APPLIED = NULL + bytes(4) + 3 * NULL + b'\0'
 # A name, the option of the side that sends the message, and its octets before an array, after it, and of an element.
 PRINTED = [
     ('ReadResponse of empty DataValues', '--server', b'\x01\0\x7A\x02' + RESPONSE, NULL, b'\0'),
@@ -186,6 +189,16 @@ PRINTED = [
     ('ReadResponse of empty DiagnosticInfos', '--server', b'\x01\0\x7A\x02' + RESPONSE + NULL, b'', b'\0'),
     ('Read of items', '', READ, b'', item(TEXT, bytes(2) + NULL)),
     ('Write of items without a value', '', WRITE, b'', item(TEXT, b'\0')),
+    ('ReadResponse with a StringTable of null Strings', '--server', b'\x01\0\x7A\x02' + RESPONSE[:17], bytes(3) + 2 * NULL, NULL),
+    ('WriteResponse of StatusCodes', '--server', b'\x01\0\xA4\x02' + RESPONSE, NULL, bytes(4)),
+    ('WriteResponse of empty DiagnosticInfos', '--server', b'\x01\0\xA4\x02' + RESPONSE + NULL, b'', b'\0'),
+    ('GetEndpointsRequest of null locale ids', '', b'\x01\0\xAC\x01' + header(False) + NULL, NULL, NULL),
+    ('ActivateSessionRequest of null locale ids', '', b'\x01\0\xD3\x01' + header(False) + 3 * NULL, bytes(3) + 2 * NULL, NULL),
+    ('CreateSessionResponse of null certificates', '--server', b'\x01\0\xD0\x01' + RESPONSE + bytes(12) + 3 * NULL, 2 * NULL + bytes(4), 2 * NULL),
+    ('GetEndpointsResponse of endpoints', '--server', b'\x01\0\xAF\x01' + RESPONSE, b'', ENDPOINT + NULL + APPLIED),
+    ('GetEndpointsResponse of token policies', '--server', b'\x01\0\xAF\x01' + RESPONSE + b'\1\0\0\0' + ENDPOINT + NULL + APPLIED[:12], APPLIED[16:], NULL + bytes(4) + 3 * NULL),
+    ('GetEndpointsResponse of null discovery URLs', '--server', b'\x01\0\xAF\x01' + RESPONSE + b'\1\0\0\0' + ENDPOINT, APPLIED, NULL),
+    ('CreateSessionRequest of null discovery URLs', '', b'\x01\0\xCD\x01' + header(False) + ENDPOINT[4:], 5 * NULL + bytes(12), NULL),
 ]
 # The same of messages of which a value, or all of it, is held: arrays in one value, by their type ids and elements.
 VALUES = [
@@ -209,12 +222,7 @@ KEPT = [
     ('ReadResponse of a String that prints escaped', '--server', ONE_VALUE + b'\x0C', NULL, b'\1'),
     ('ReadResponse of a ByteString', '--server', ONE_VALUE + b'\x0F', NULL, b'a'),
     *[('ReadResponse of an array of %s' % name, '--server', ONE_VALUE + bytes([0x80 + kind]), NULL, one) for name, kind, one in VALUES],
-    ('ReadResponse with a StringTable of null Strings', '--server', b'\x01\0\x7A\x02' + RESPONSE[:17], bytes(3) + 2 * NULL, NULL),
-    ('WriteResponse of StatusCodes', '--server', b'\x01\0\xA4\x02' + RESPONSE, NULL, bytes(4)),
-    ('WriteResponse of empty DiagnosticInfos', '--server', b'\x01\0\xA4\x02' + RESPONSE + NULL, b'', b'\0'),
-    ('GetEndpointsRequest of null locale ids', '', b'\x01\0\xAC\x01' + header(False) + NULL, NULL, NULL),
-    ('ActivateSessionRequest of null locale ids', '', b'\x01\0\xD3\x01' + header(False) + 3 * NULL, bytes(3) + 2 * NULL, NULL),
-    ('CreateSessionResponse of null certificates', '--server', b'\x01\0\xD0\x01' + RESPONSE + bytes(12) + 3 * NULL, 2 * NULL + bytes(4), 2 * NULL),
+    ('header of no known kind with a StringTable', '--server', b'\x01\0\x12\x02' + RESPONSE[:17], bytes(3), NULL),
     ('body of no known kind', '--server', b'\x01\0\xFF\xFF', b'', b'\0'),
 ]
 
