@@ -258,9 +258,9 @@ module _ (connect : EndsConnect) (reach : RoundsReach) (e : Ends) (turns : List 
       subst (IsPrefix (told_of (id_after before) (client_events e (asks_in e turns) got))) (told_once e turns before after body parts)
       (told_prefix (id_after before) (client_events e (asks_in e turns) got) (heard_in e turns) (f.1.0, sym c.client_reads.told_is ∙ f.1.1))
 
-  pub whole : (before after : List Outgoing) (body : List ℕ) → operations_of turns ≡ before ++ CallWith body ∷ after
-      → told_of (id_after before) (client_events e (asks_in e turns) (server_bytes e (sent_in e turns))) ≡ reply_to_call e before body ∷ []
-  whole before after body parts =
+  -- all that it is told
+  pub all_told : client_events e (asks_in e turns) (server_bytes e (sent_in e turns)) ≡ heard_in e turns
+  all_told =
       let R : Rules Told ℕ = server_rules e.server e.channel in
       let S : Rules ClientTold Why = client_rules e.client (asks_in e turns) in
       let r = reading R (sent_in e turns) in
@@ -273,7 +273,11 @@ module _ (connect : EndsConnect) (reach : RoundsReach) (e : Ends) (turns : List 
       let t = reading S (server_bytes e (sent_in e turns)) in
       let read = unique S (server_bytes e (sent_in e turns)) t.frames c.client_reads.frames t.rest [] t.end Going t.run
       (subst (λ (o : List ℕ). Run S o c.client_reads.frames [] Going) (sym bytes) c.client_reads.run) in
-      ap (told_of (id_after before)) (ap (events S) read.frames ∙ c.client_reads.told_is) ∙ told_once e turns before after body parts
+      ap (events S) read.frames ∙ c.client_reads.told_is
+
+  pub whole : (before after : List Outgoing) (body : List ℕ) → operations_of turns ≡ before ++ CallWith body ∷ after
+      → told_of (id_after before) (client_events e (asks_in e turns) (server_bytes e (sent_in e turns))) ≡ reply_to_call e before body ∷ []
+  whole before after body parts = ap (told_of (id_after before)) all_told ∙ told_once e turns before after body parts
 
 -- ---- requests
 

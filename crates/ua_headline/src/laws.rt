@@ -121,6 +121,10 @@ pub fn each_call_has_its_reply()
         operations_of turns ≡ before ++ CallWith body ∷ after →
         told_of (id_after before) (client_events e (asks_in e turns) (server_bytes e (sent_in e turns)))
         ≡ reply_to_call e before body ∷ [] }
+    // Beside these it is told only what was agreed, and each token: nothing else.
+    ensures alone { (e : Ends) (turns : List (List Outgoing)) →
+        CanOpen e → AreRoundsAccepted e (both_opened e) (rounds_in e turns) →
+        client_events e (asks_in e turns) (server_bytes e (sent_in e turns)) ≡ heard_in e turns }
     // Where a part of either is still on its way it is told that, or nothing yet.
     ensures part { (e : Ends) (turns : List (List Outgoing)) (before after : List Outgoing) (body took got : List ℕ) →
         CanOpen e → AreRoundsAccepted e (both_opened e) (rounds_in e turns) →

@@ -1,12 +1,15 @@
 use Rattle.std.proofs.Common.{ap}
 use Rattle.ua_services.specs.Response.{response}
 use Rattle.ua_server.specs.Said.{first_time}
-use Rattle.ua_headline.proofs.EachCall.{answered_as, part, whole}
+use Rattle.ua_headline.proofs.EachCall.{all_told, answered_as, part, whole}
 use Rattle.ua_headline.proofs.laws.each_call_has_its_reply.Goals as goal
 
 pub returns-clause-whole : goal.returns-clause-whole
 returns-clause-whole c = λ e turns before after body can accepted parts.
     whole c.ends_connect.ensures c.rounds_reach_both_ends.ensures e turns can accepted before after body parts
+
+pub returns-clause-alone : goal.returns-clause-alone
+returns-clause-alone c = λ e turns can accepted. all_told c.ends_connect.ensures c.rounds_reach_both_ends.ensures e turns can accepted
 
 pub returns-clause-part : goal.returns-clause-part
 returns-clause-part c = λ e turns before after body took got can accepted parts p q.
