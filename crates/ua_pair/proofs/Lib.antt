@@ -8,6 +8,7 @@ mod Befores
 mod CutBacks
 mod Dissections
 mod Readings
+mod Openings
 pub mod Texts
 mod Refusals
 mod RestLines
