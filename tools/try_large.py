@@ -7,24 +7,31 @@ came of it: how many octets were sent and answered, how the answer ended (F: who
 memory that the program held, the seconds up to the first octet of the answer, and how the program said that
 the connection ended. With MEGABYTES the program may take no more memory than these (`ulimit -v`).
 
-After them `dissect --fields` gets messages of the most octets that it takes, each in a run of its own.
+After them `dissect` and `dissect --fields` get messages of the most octets that they take, each in a run of its own.
 
-With --bound only those requests of which no value is to be kept, and whose answers are small, and messages of as many
-octets that `dissect --fields` prints as it reads them: the status is 1 where one of them is answered in another way, or
-where the program held more than 8 MB. Without PROGRAM it is crates/ua_cli/out/ua_cli, and nothing is tried where that
-is not built.
+With --bound only those requests of which no value is to be kept, and whose answers are small, messages of every kind
+for `dissect`, and those that `dissect --fields` prints as it reads them, of as many octets: the status is 1 where one of
+them is answered in another way, or where the program held more than 8 MB. Without PROGRAM it is
+crates/ua_cli/out/ua_cli, and nothing is tried where that is not built.
 """
 from __future__ import annotations
 
+import contextlib
+import fcntl
 import os
 import re
 import resource
+import select
 import socket
 import struct
 import subprocess
 import sys
 import tempfile
+import termios
+import threading
 import time
+from array import array as array_of
+from typing import IO
 
 TOP = os.path.dirname(os.path.dirname(os.path.abspath(__file__)))
 # The most memory, in KiB, that a request of which nothing is to be kept may take: it takes 3,200 to 3,700, and 18,000
@@ -34,6 +41,9 @@ BOUND = 8192
 TEXT, NUMBER = 1, 2
 NODES = 'i=1\trw\tText\tString\tempty\ni=2\trw\tNumber\tInt32\t0\n'
 NULL = struct.pack('<i', -1)
+POLICY = b'http://opcfoundation.org/UA/SecurityPolicy#None'
+# What begins a message that opens a channel, and the answer to it.
+OPEN_REQUEST, OPEN_RESPONSE = b'\x01\0\xBE\x01', b'\x01\0\xC1\x01'
 # The most octets of a chunk, with its header.
 CHUNK = 65535
 MOST = 1048576
@@ -90,10 +100,8 @@ class Client:
         hello = struct.pack('<IIIIII', 0, CHUNK, CHUNK, limit, 0, len(url)) + url
         self.line.sendall(struct.pack('<4sI', b'HELF', 8 + len(hello)) + hello)
         self.frame()
-        policy = b'http://opcfoundation.org/UA/SecurityPolicy#None'
-        body = b'\x01\0\xBE\x01' + header(False) + struct.pack('<III', 0, 0, 1) + NULL + struct.pack('<I', 3600000)
-        front = struct.pack('<II', 0, len(policy)) + policy + NULL + NULL + self.sequence(1)
-        self.line.sendall(struct.pack('<4sI', b'OPNF', 8 + len(front) + len(body)) + front + body)
+        self.number = 1
+        self.line.sendall(opening(OPEN_REQUEST + header(False) + struct.pack('<III', 0, 0, 1) + NULL + struct.pack('<I', 3600000)))
         self.frame()
         self.channel = 1
 
@@ -225,6 +233,26 @@ KEPT = [
     ('header of no known kind with a StringTable', '--server', b'\x01\0\x12\x02' + RESPONSE[:17], bytes(3), NULL),
     ('body of no known kind', '--server', b'\x01\0\xFF\xFF', b'', b'\0'),
 ]
+# The same of the other kinds of message, and of other fields: for `dissect` alone.
+APPLICATION = ENDPOINT[4:] + NULL
+SKIPPED = [
+    ('CreateSessionRequest of a session name', '', b'\x01\0\xCD\x01' + header(False) + APPLICATION + 2 * NULL, 2 * NULL + bytes(12), b'a'),
+    ('CreateSessionRequest of an application name', '', b'\x01\0\xCD\x01' + header(False) + 2 * NULL + b'\2', APPLICATION[9:] + 5 * NULL + bytes(12), b'a'),
+    ('CreateSessionResponse of endpoints', '--server', b'\x01\0\xD0\x01' + RESPONSE + bytes(12) + 2 * NULL, 3 * NULL + bytes(4), ENDPOINT + NULL + APPLIED),
+    ('ActivateSessionRequest of null certificates', '', b'\x01\0\xD3\x01' + header(False) + 2 * NULL, NULL + bytes(3) + 2 * NULL, 2 * NULL),
+    ('ActivateSessionRequest of an identity', '', b'\x01\0\xD3\x01' + header(False) + 4 * NULL + b'\0\0\1', 2 * NULL, b'a'),
+    ('ActivateSessionResponse of StatusCodes', '--server', b'\x01\0\xD6\x01' + RESPONSE + NULL, NULL, bytes(4)),
+    ('ActivateSessionResponse of empty DiagnosticInfos', '--server', b'\x01\0\xD6\x01' + RESPONSE + 2 * NULL, b'', b'\0'),
+    ('CloseSessionRequest of an audit entry', '', b'\x01\0\xD9\x01' + header(False)[:-11], bytes(7) + b'\1', b'a'),
+    ('CloseSessionResponse with a StringTable of null Strings', '--server', b'\x01\0\xDC\x01' + RESPONSE[:17], bytes(3), NULL),
+    ('ServiceFault with a StringTable of null Strings', '--server', b'\x01\0\x8D\x01' + RESPONSE[:17], bytes(3), NULL),
+    ('ServiceFault of an additional header', '--server', b'\x01\0\x8D\x01' + RESPONSE[:-1] + b'\1', b'', b'a'),
+    ('OpenSecureChannelRequest of a nonce', '', OPEN_REQUEST + header(False) + bytes(12), bytes(4), b'a'),
+    ('OpenSecureChannelResponse of a nonce', '--server', OPEN_RESPONSE + RESPONSE + bytes(24), b'', b'a'),
+    ('OpenSecureChannelResponse with a StringTable of null Strings', '--server', OPEN_RESPONSE + RESPONSE[:17], bytes(27) + NULL, NULL),
+    ('Read of a NodeId', '', READ + b'\1\0\0\0\3\0\0', b'\x0D\0\0\0' + NULL + bytes(2) + NULL, b'a'),
+    ('Write of an array of null Variants', '', WRITE + b'\1\0\0\0' + item(TEXT, b'\1\x98'), b'', b'\0'),
+]
 
 
 def limited(megabytes: int) -> None:
@@ -272,8 +300,16 @@ def attempt(program: str, nodes: str, megabytes: int, request: tuple) -> tuple[s
     return flag, memory
 
 
+def opening(body: bytes) -> bytes:
+    """The one chunk of an OPN with this body."""
+    front = struct.pack('<II', 0, len(POLICY)) + POLICY + 2 * NULL + struct.pack('<II', 1, 1)
+    return struct.pack('<4sI', b'OPNF', 8 + len(front) + len(body)) + front + body
+
+
 def framed(body: bytes) -> bytes:
     """The chunks of a message."""
+    if body.startswith((OPEN_REQUEST, OPEN_RESPONSE)):
+        return opening(body)
     most = CHUNK - 24
     parts = [body[place:place + most] for place in range(0, len(body), most)]
     flags = ['C'] * (len(parts) - 1) + ['F']
@@ -281,23 +317,44 @@ def framed(body: bytes) -> bytes:
                     for number, (flag, part) in enumerate(zip(flags, parts), 1))
 
 
-def dissect(program: str, megabytes: int, message: tuple, most: int) -> tuple[bytes, int]:
-    """Gives a run of `dissect --fields` a message of so many octets: the last line that it printed, and the most memory that it held."""
+def is_waiting(process: int, line: IO[bytes]) -> bool:
+    """Whether a process has taken all octets of this line into it, and waits for more."""
+    left = array_of('i', [0])
+    fcntl.ioctl(line, termios.FIONREAD, left)
+    with open('/proc/%d/stat' % process, encoding='ascii') as file:
+        return left[0] == 0 and file.read().rsplit(')', 1)[1].split()[0] == 'S'
+
+
+def send(line: IO[bytes], octets: bytes) -> None:
+    """Gives a process these octets, or as many as it takes before it ends."""
+    with contextlib.suppress(BrokenPipeError):
+        line.write(octets)
+
+
+def dissect(program: str, megabytes: int, message: tuple, most: int, options: list[str]) -> tuple[bytes, int]:
+    """Gives a run of `dissect` a message of so many octets: the last line that it printed, or that it read no message, and the
+    most memory that it held, once it has taken all of it."""
     name, side, front, rest, one = message
-    body = items(front, rest, one, most)
-    with tempfile.NamedTemporaryFile(suffix='.bin') as file:
-        file.write(framed(body))
-        file.flush()
-        words = [program, 'dissect', file.name, '--fields', *([side] if side else [])]
-        start = time.monotonic()
-        told = subprocess.Popen(words, stdout=subprocess.PIPE, stderr=subprocess.STDOUT, preexec_fn=lambda: limited(megabytes))
-        printed, memory, end = 0, 0, b''
-        while part := os.read(told.stdout.fileno(), 65536):
+    # An OPN is one chunk, which has no more octets than a message.
+    body = items(front, rest, one, most - len(opening(b'')) * front.startswith((OPEN_REQUEST, OPEN_RESPONSE)))
+    start, printed, memory, end = time.monotonic(), 0, 0, b''
+    told = subprocess.Popen([program, 'dissect', '-', *options, *([side] if side else [])], bufsize=0, stdin=subprocess.PIPE,
+                            stdout=subprocess.PIPE, stderr=subprocess.STDOUT, preexec_fn=lambda: limited(megabytes))
+    sender = threading.Thread(target=send, args=(told.stdin, framed(body)))
+    sender.start()
+    while True:
+        if select.select([told.stdout], [], [], 0.01)[0]:
+            part = os.read(told.stdout.fileno(), 65536)
+            if not part:
+                break
             printed, end = printed + len(part), (end + part)[-200:]
-            memory = max(memory, most_memory(told.pid) or 0)
-        told.wait()
-    last = end.rstrip(b'\n').rsplit(b'\n', 1)[-1]
-    print('%s: %d octets, %d printed, %d kB, %.2f s, %s' % (name, len(body), printed, memory, time.monotonic() - start, last.decode()), flush=True)
+        elif not sender.is_alive() and not told.stdin.closed and is_waiting(told.pid, told.stdin):
+            memory = most_memory(told.pid) or 0
+            told.stdin.close()
+    told.wait()
+    last = b'unreadable' if b' unreadable\n' in end else end.rstrip(b'\n').rsplit(b'\n', 1)[-1]
+    print('%s: %d octets, %d printed, %d kB, %.2f s, %s'
+          % (' '.join(['dissect', *options, name]), len(body), printed, memory, time.monotonic() - start, last.decode()), flush=True)
     return last, memory
 
 
@@ -310,9 +367,9 @@ def hold_bound(program: str, nodes: str) -> None:
         flag, memory = attempt(program, nodes, 0, request)
         if flag != 'F' or not memory or memory > BOUND:
             raise SystemExit('try_large: %s: not answered whole within %d kB' % (request[0], BOUND))
-    for message in PRINTED:
-        last, memory = dissect(program, 0, message, MOST)
-        if not last.startswith(b'end ') or memory > BOUND:
+    for message, options in [(it, []) for it in [*PRINTED, *KEPT, *SKIPPED]] + [(it, ['--fields']) for it in PRINTED]:
+        last, memory = dissect(program, 0, message, MOST, options)
+        if not last.startswith(b'end ') or not 0 < memory <= BOUND:
             raise SystemExit('try_large: %s: not printed whole within %d kB' % (message[0], BOUND))
 
 
@@ -328,8 +385,8 @@ def main(words: list[str]) -> None:
             hold_bound(words[1] if len(words) > 1 else os.path.join(TOP, 'crates/ua_cli/out/ua_cli'), nodes.name)
         for request in REQUESTS if not bound else ():
             attempt(words[0], nodes.name, megabytes, request)
-        for message in [*PRINTED, *KEPT] if not bound else ():
-            dissect(words[0], megabytes, message, MOST_DISSECTED)
+        for message, options in [(it, []) for it in [*PRINTED, *KEPT, *SKIPPED]] + [(it, ['--fields']) for it in [*PRINTED, *KEPT]] if not bound else ():
+            dissect(words[0], megabytes, message, MOST_DISSECTED, options)
 
 
 if __name__ == '__main__':
