@@ -30,8 +30,8 @@ use Rattle.ua_headline.specs.Talk.{Ends}
 
 -- ---- a reply
 
--- the reply that a client has of a response: this response, each field of it; or, where the client
--- takes no message of its size, the code Bad_ResponseTooLarge
+-- the reply that a client has of a response: this response, each field of it; or, where it is larger
+-- than the client takes, or than the server allows itself, the code Bad_ResponseTooLarge
 abbrev pub reply_unless_cut : Option CutFault → Response → Reply
 reply_unless_cut None r = Responds r
 reply_unless_cut (Some fault) r = Aborted (of_code 0x80B9_0000)

@@ -51,7 +51,8 @@ abbrev pub body_answered : State × List DateTime → List ℕ → List ℕ
 body_answered services body = response.canonical (answered services.0 (first_time services.1) body).1
 
 -- what a client is told of the call with this body after these operations: that response, under the
--- RequestId of the call; or that it was aborted, if the client takes no body of that size
+-- RequestId of the call; or that it was aborted, if the body is larger than the client takes, or than
+-- the server allows itself
 abbrev pub reply_to_call : Ends → List Outgoing → List ℕ → ClientTold
 reply_to_call e before body =
     told_reply (cut_refusal (lane_of e.channel 1 (agreement_of e.server (hello_to e.client e.url))) (body_answered (services_before e before) body))

@@ -114,7 +114,8 @@ told_by_turns e turns =
     ++ rounds_told e.server e.channel (both_opened e) (rounds_in e turns)
 
 -- what the answers tell the client: what was agreed, the first token, and each call its own reply,
--- or that it was aborted as too large for the client, and each further token
+-- or that it was aborted as larger than the client takes, or than the server allows itself; and each
+-- further token
 abbrev pub heard_in : Ends → List (List Outgoing) → List ClientTold
 heard_in e turns =
     (heard.Agreed (ack_to (hello_to e.client e.url) e.server) ∷ (heard.Opened e.channel 1 ∷ []))
@@ -154,8 +155,8 @@ pub record CanOpen (e : Ends) : Type 0 where
   pub opened_fits : IsTrue (date_time.encodable e.opened)
   pub times_fit : AllByRecursion (λ (time : DateTime). IsTrue (date_time.encodable time)) e.times
 
--- what such a server took is a prefix of what such a client sent, and that of its operations: of
--- the last a part may be in transit, or not be sent yet
+-- what such a server took is a prefix of what such a client sent, and that of its operations: any
+-- part of them may be in transit, or not be sent yet
 pub record TookOf (e : Ends) (turns : List (List Outgoing)) (x : ServerChannel) (took : List ℕ) : Type 0 where
   pub can : CanOpen e
   pub accepted : AreRoundsAccepted e (both_opened e) (rounds_in e turns)

@@ -114,7 +114,7 @@ pub fn clients_do_turns(server: &Server, client: &ClientChannel)
 /// sends for what a client sent, by the definition of its answers, the client is told of each call
 /// just once, by the definition of its reading: under the RequestId of that call, the response of the
 /// services to its body, in the state in which the calls before it left them; or that the call was
-/// aborted, as the response is too large for the client.
+/// aborted, as the response is larger than the client takes, or than the server allows itself.
 pub fn each_call_has_its_reply()
     ensures whole { (e : Ends) (turns : List (List Outgoing)) (before after : List Outgoing) (body : List ℕ) →
         CanOpen e → AreRoundsAccepted e (both_opened e) (rounds_in e turns) →
