@@ -1,6 +1,7 @@
 pub mod Codes
 pub mod Shows
 pub mod Named
+mod Escapes
 mod Printable
 pub mod Rows
 pub mod PlainAdds

@@ -1,5 +1,6 @@
 -- How the program shows texts, StatusCodes and bytes.
-use Rattle.std.specs.Prelude.{ℕ, ◌-◌, ◌/◌, ◌%◌, ◌==◌, if◌then◌else◌, Bool, true, false, cond, replicate, length, List, [], ◌∷◌, ◌++◌, Option, Some, None, codes}
+use Rattle.std.specs.Prelude.{◌≡◌, ◌≤◌, ◌<◌, ℕ, ◌-◌, ◌/◌, ◌%◌, ◌==◌, if◌then◌else◌, Bool, true, false}
+use Rattle.std.specs.Prelude.{cond, replicate, length, List, [], ◌∷◌, ◌++◌, Option, Some, None, codes}
 use Rattle.std.specs.Char.{encode_utf8, is_ascii_control, is_control}
 use Rattle.std.specs.Fmt.{digits, digit_glyph}
 use Rattle.std.specs.List.{flat_map}
@@ -28,6 +29,10 @@ shown text = flat_map shown_octet text
 abbrev pub escaped_char : ℕ → List ℕ
 escaped_char c = if c == 92 then 92 ∷ 92 ∷ []
     else (if is_control c then flat_map escaped_octet (encode_utf8 c) else encode_utf8 c)
+
+-- a byte that is an ASCII character, no control character and no backslash: it is shown as it is
+abbrev pub IsPlainOctet : ℕ → Type 0
+IsPlainOctet b = (0x20 ≤ b) × (b < 0x7F) × (b ≡ 92 → ⊥)
 
 -- the characters of a text, each as it is escaped
 unfoldable pub escaped : List ℕ → List ℕ

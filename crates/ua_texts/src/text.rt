@@ -1,10 +1,11 @@
 //! Texts, StatusCodes and bytes as the program prints them.
 
-ghost use Rattle.std.specs.Prelude.{◌≡◌, ◌++◌, string_bytes, OnOk};
+ghost use Rattle.std.specs.Prelude.{◌≡◌, ◌++◌, string_bytes, IsTrue, OnOk};
 ghost use Rattle.std.specs.Char.{encode_utf8};
 ghost use Rattle.uuid.specs.Text.{hyphenated_text, lower};
 ghost use Rattle.std.specs.List.{flat_map};
-ghost use Rattle.ua_texts.specs.Shown.{escaped, escaped_char as one_escaped, escaped_octet, escaped_string};
+ghost use Rattle.ua_texts.specs.Shown.{IsPlainOctet, escaped, escaped_char as one_escaped};
+ghost use Rattle.ua_texts.specs.Shown.{escaped_octet, escaped_string};
 ghost use Rattle.ua_texts.specs.Shown.{shown, shown_string, code_text, pattern_text, base64_text, written_text};
 
 use base64::engine::general_purpose::STANDARD;
@@ -45,12 +46,34 @@ pub(crate) fn push_char(out: &mut String, c: char) -> Result<(), AllocError>
     }
 }
 
+/// Whether an ASCII character is shown as it is.
+fn is_plain_octet(octet: u8) -> bool
+    ensures { IsTrue result → IsPlainOctet octet }
+{
+    octet >= 0x20 && octet < 0x7F && octet != b'\\'
+}
+
+/// Whether a text is ASCII without control characters and backslashes.
+// All bytes are looked at, so that many can be compared at once.
+fn is_plain(text: &str) -> bool
+    ensures { IsTrue result → escaped text.now ≡ text.now }
+{
+    let mut plain = true;
+    for octet in text.as_bytes() {
+        plain &= is_plain_octet(*octet);
+    }
+    plain
+}
+
 /// Appends a text with each control character, U+0080 to U+009F among them, escaped by its UTF-8
 /// bytes, each as `\x` and two digits, and a backslash doubled: what is appended has no control
 /// character.
 pub fn push_escaped(out: &mut String, text: &str) -> Result<(), AllocError>
     ensures { OnOk result (string_bytes out.new ≡ string_bytes out.old ++ escaped text.now) }
 {
+    if is_plain(text) {
+        return out.push_str(text);
+    }
     for c in text.chars() {
         push_escaped_char(out, c)?;
     }
