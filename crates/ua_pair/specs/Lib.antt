@@ -2,6 +2,7 @@
 -- and message, the lines of a body, and properties of texts within a line.
 pub mod Styles
 pub mod Tree
+pub mod Paths
 pub mod Printing
 pub mod Leaves
 pub mod Header

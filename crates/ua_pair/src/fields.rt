@@ -14,6 +14,7 @@ mod leaves;
 mod lines;
 mod message;
 mod null;
+mod path;
 mod pending;
 mod printing;
 mod secure_channel;

@@ -3,12 +3,9 @@
 ghost use Rattle.std.specs.Prelude.{◌≡◌, ◌++◌, codes, string_bytes, OnOk, IfOk};
 ghost use Rattle.ua_pair.specs.Tree.{Tree, IsBehind, deeper, element_path, field_path, line};
 
+use crate::fields::path::{path_of_element, path_of_field};
 use crate::options::FieldStyle;
 use std::alloc::{AllocError, Global};
-use std::fmt::Write;
-
-/// The most bytes of an index in brackets.
-const INDEX_LEN: usize = 22;
 
 /// The place of the lines of a value.
 #[derive(Clone, Copy)]
@@ -64,30 +61,6 @@ pub(crate) fn deeper_margin(alloc: Global, margin: &str) -> Result<String, Alloc
     Ok(inner)
 }
 
-/// The path of a field, as a text of its own.
-pub(crate) fn path_of_field(alloc: Global, path: &str, name: &str) -> Result<String, AllocError>
-    ensures { IfOk result (λ inner. string_bytes inner ≡ field_path path.now name.now) }
-{
-    let room = path.len().saturating_add(name.len()).saturating_add(1);
-    let mut inner = String::with_capacity(alloc, room)?;
-    inner.push_str(path)?;
-    if !path.is_empty() {
-        inner.push_str(".")?;
-    }
-    inner.push_str(name)?;
-    Ok(inner)
-}
-
-/// The path of an element, as a text of its own.
-pub(crate) fn path_of_element(alloc: Global, path: &str, index: usize) -> Result<String, AllocError>
-    ensures { IfOk result (λ inner. string_bytes inner ≡ element_path path.now index) }
-{
-    let mut inner = String::with_capacity(alloc, path.len().saturating_add(INDEX_LEN))?;
-    inner.push_str(path)?;
-    write!(inner, "[{index}]")?;
-    Ok(inner)
-}
-
 impl<'a> Place<'a> {
     ghost use Rattle.std.specs.Prelude.{string_bytes, OnOk};
     ghost use Rattle.ua_pair.specs.Tree.{IsBehind, deeper, element_path, field_path};
@@ -107,7 +80,7 @@ impl<'a> Place<'a> {
         let inner = Place {
             style: self.style,
             margin: self.margin,
-            path: &path,
+            path: path.as_str(),
         };
         value.push_lines(alloc, out, inner)
     }
@@ -148,7 +121,7 @@ impl<'a> Place<'a> {
         let inner = Place {
             style: self.style,
             margin: self.margin,
-            path: &path,
+            path: path.as_str(),
         };
         value.push_lines(alloc, out, inner)
     }

@@ -8,9 +8,8 @@ ghost use Rattle.ua_pair.specs.Tree.{AreElementsBehind, AreFieldsBehind, IsBehin
 ghost use Rattle.ua_pair.specs.Tree.{field_margin, field_path, tree_elements};
 
 use crate::fields::array::push_count;
-use crate::fields::lines::{
-    Lines, Place, deeper_margin, path_of_element, path_of_field, push_line,
-};
+use crate::fields::lines::{Lines, Place, deeper_margin, push_line};
+use crate::fields::path::{path_of_element, path_of_field};
 use crate::printing::{TellFault, write_full};
 use std::alloc::Global;
 use std::io::Write;
@@ -78,7 +77,7 @@ pub(crate) fn print_field<T: Printed, S: Source, O: Write>(
     let inner = Place {
         style: place.style,
         margin: place.margin,
-        path: &path,
+        path: path.as_str(),
     };
     if !T::is_structure() {
         return T::print(alloc, src, inner, text, out);
@@ -113,7 +112,7 @@ fn print_element<T: Printed, S: Source, O: Write>(
     let inner = Place {
         style: place.style,
         margin: place.margin,
-        path: &path,
+        path: path.as_str(),
     };
     T::print(alloc, src, inner, text, out)
 }
