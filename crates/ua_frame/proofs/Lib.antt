@@ -4,6 +4,7 @@ pub mod Afters
 pub mod Wholes
 pub mod MessagesLawful
 pub mod Parts
+pub mod Fragments
 pub mod Unique
 pub mod Streams
 pub mod RawFrames

@@ -108,13 +108,6 @@ module _ (h h' body piece : List ℕ) (have n : ℕ) (eight : length h ≡ 8) (e
     why = inl (ap (header_fault gate) behind_header ∙ (fault_front gate h' (drop n piece) (omega arith) ∙ e));
   }
 
-  pub header_then : take (have + n) h' ++ body ≡ (take have h ++ body) ++ take n piece
-  header_then =
-      ap (λ (t : List ℕ). t ++ body) filled
-      ∙ (ap (λ (t : List ℕ). (take have h ++ take n piece) ++ t) none
-      ∙ (append-nil (take have h ++ take n piece)
-      ∙ sym (ap (λ (t : List ℕ). (take have h ++ t) ++ take n piece) none ∙ ap (λ (t : List ℕ). t ++ take n piece) (append-nil (take have h)))))
-
 -- ---- what is made of the rest of a piece is what is made of the piece
 
 module _ (gate : Gate) (old mid piece : List ℕ) (n : ℕ) (within : n ≤ length piece) (mid_is : mid ≡ old ++ take n piece) where
@@ -127,7 +120,7 @@ module _ (gate : Gate) (old mid piece : List ℕ) (n : ℕ) (within : n ≤ leng
   length_rest : length (take (length piece - n) (drop n piece)) ≡ length piece - n
   length_rest = ap length (take_rest piece n) ∙ length-drop n piece
 
-  pub makes_more : (m : ℕ) (frame : Option Frame) (new : List ℕ) → Makes gate mid (take (length piece - n) (drop n piece)) (Ok (m, frame)) new
+  makes_more : (m : ℕ) (frame : Option Frame) (new : List ℕ) → Makes gate mid (take (length piece - n) (drop n piece)) (Ok (m, frame)) new
       → Makes gate old piece (Ok (n + m, frame)) new
   makes_more m None new h = (omega (arith, h.0, length_rest), h.1 ∙ whole_behind, subst (λ (t : List ℕ). IsPartial gate t) whole_behind h.2)
   makes_more m (Some f) new h = (
@@ -143,6 +136,11 @@ module _ (gate : Gate) (old mid piece : List ℕ) (n : ℕ) (within : n ≤ leng
     },
     h.1,
   )
+
+  pub makes_behind : (gate' : Gate) → gate' ≡ gate → (m : ℕ) (frame : Option Frame) (new : List ℕ)
+      → Makes gate' mid (take (length piece - n) (drop n piece)) (Ok (m, frame)) new → Makes gate old piece (Ok (n + m, frame)) new
+  makes_behind gate' same m frame new h =
+      makes_more m frame new (subst (λ (g : Gate). Makes g mid (take (length piece - n) (drop n piece)) (Ok (m, frame)) new) same h)
 
 -- ---- what is held is bounded
 

@@ -5,7 +5,7 @@ use Rattle.ua_frame.specs.declared.fault.FrameFault.TheVariants.{OutOfMemory}
 use Rattle.ua_frame.specs.declared.frame.Frame.{Frame}
 use Rattle.ua_frame.specs.declared.gate.Gate.{Gate}
 use Rattle.ua_frame.specs.declared.unfinished.Unfinished.{Unfinished}
-use Rattle.ua_frame.specs.Frames.{frame_octets, IsSized, LetsIn, header_fault, size_of, IsPartial}
+use Rattle.ua_frame.specs.Frames.{frame_octets, IsSized, LetsIn, header_fault, size_of, IsPartial, IsRawFrame}
 
 -- the bytes that are present
 abbrev pub octets_of : Unfinished → List ℕ
@@ -18,6 +18,12 @@ pub record IsIncompleteFrame (u : Unfinished) : Type 0 where
   pub short : u.have < 8 → u.body.items ≡ []
   pub good : u.have ≡ 8 → header_fault u.gate u.header ≡ None
   pub part : u.have ≡ 8 → 8 + length u.body.items < size_of u.header
+
+-- the first n bytes of a fragment are as long as their header tells, and nothing is wrong with it
+pub record BeginsWhole (gate : Gate) (piece : List ℕ) (n : ℕ) : Type 0 where
+  pub within : n ≤ length piece
+  pub raw : IsRawFrame (take n piece)
+  pub good : header_fault gate (take n piece) ≡ None
 
 -- the bytes that are there and the first n of a fragment are a frame that the frame filter accepts
 pub record Completes (gate : Gate) (old piece : List ℕ) (n : ℕ) (f : Frame) : Type 0 where

@@ -1,15 +1,17 @@
 //! The eight header bytes of a frame.
 
-ghost use Rattle.std.specs.Prelude.{◌≡◌, ◌≤◌, ◌+◌, ◌∷◌, ◌++◌, IsSome, length};
+ghost use Rattle.std.specs.Prelude.{◌≡◌, ◌≤◌, ◌+◌, ◌∷◌, ◌++◌, IfOk, IfSome, IsSome, length};
 ghost use Rattle.ua_builtin.specs.Number.{number_octets};
 ghost use Rattle.ua_frame.specs.Kinds.{kind_octets};
-ghost use Rattle.ua_frame.specs.Frames.{kind_of, size_of, header_fault, frame_octets, IsSized};
+ghost use Rattle.ua_frame.specs.Frames.{kind_of, size_of, header_fault, frame_octets, IsSized, IsRawFrame};
+ghost use Rattle.ua_frame.specs.Unfinished.{BeginsWhole};
 
 use crate::fault::FrameFault;
 use crate::frame::Frame;
 use crate::gate::Gate;
 use crate::kind::Kind;
 use bytes::Bytes;
+use std::alloc::{AllocError, Global};
 use ua_wire::front_number;
 
 /// The length of a header in bytes.
@@ -99,4 +101,37 @@ pub fn make_frame(header: &[u8], body: Bytes) -> Frame
         flag: header[3],
         body,
     }
+}
+
+/// The size of the frame with which a fragment begins, where the filter accepts it and the fragment has
+/// all of it.
+#[inline(always)]
+pub fn whole_size(gate: &Gate, piece: &[u8]) -> Option<usize>
+    ensures { IfSome result (BeginsWhole gate.now piece.now) }
+{
+    if piece.len() < HEADER_LEN {
+        return None;
+    }
+    let header = &piece[..HEADER_LEN];
+    if judge(gate, header).is_some() {
+        return None;
+    }
+    let size = read_size(header) as usize;
+    if piece.len() < size {
+        return None;
+    }
+    Some(size)
+}
+
+/// The frame that these bytes are. Its body is a copy, in memory of its own.
+#[inline(always)]
+pub fn read_frame(alloc: Global, octets: &[u8]) -> Result<Frame, AllocError>
+    requires raw { IsRawFrame octets.now }
+    requires known { IsSome (kind_of octets.now) }
+    ensures octets { IfOk result (λ frame. octets.now ≡ frame_octets frame) }
+    ensures sized { IfOk result (λ frame. IsSized frame) }
+{
+    let (header, rest) = octets.split_at(HEADER_LEN);
+    let body = Bytes::copy_from_slice(alloc, rest)?;
+    Ok(make_frame(header, body))
 }

@@ -1,7 +1,7 @@
 //! An incomplete frame.
 
-ghost use Rattle.std.specs.Prelude.{◌≡◌, ◌≤◌, ◌<◌, ◌+◌, ◌-◌, ◌++◌, [], IfOk, length, min, take};
-ghost use Rattle.ua_frame.specs.Unfinished.{octets_of, IsIncompleteFrame, Makes};
+ghost use Rattle.std.specs.Prelude.{◌≡◌, ◌≤◌, ◌<◌, ◌+◌, ◌-◌, ◌++◌, [], IfErr, IfOk, OnErr, length, min, take};
+ghost use Rattle.ua_frame.specs.Unfinished.{octets_of, IsIncompleteFrame, Fails, Makes};
 
 use crate::fault::FrameFault;
 use crate::frame::Frame;
@@ -100,23 +100,45 @@ impl Unfinished {
         Ok((n, Some(header::make_frame(&self.header, body))))
     }
 
-    /// Takes bytes of an incomplete header, and those after it.
-    #[inline(always)]
-    fn begin(&mut self, alloc: Global, piece: &[u8]) -> Result<(usize, Option<Frame>), FrameFault>
+    /// Takes bytes of an incomplete header, up to its end. A fault leaves nothing.
+    #[inline(never)]
+    fn begin(&mut self, piece: &[u8]) -> Result<usize, FrameFault>
         requires kept { IsIncompleteFrame self.old }
         requires header { self.old.have < 8 }
-        ensures makes { Makes self.old.gate (octets_of self.old) piece.now result (octets_of self.new) }
+        ensures taken { IfOk result (λ n. octets_of self.new ≡ octets_of self.old ++ take n piece.now) }
+        ensures within { IfOk result (λ n. n ≤ length piece.now) }
+        ensures all { IfOk result (λ n. self.new.have < 8 → n ≡ length piece.now) }
+        ensures fails { IfErr result (λ fault. Fails self.old.gate (octets_of self.old ++ piece.now) fault) }
+        ensures none { OnErr result (octets_of self.new ≡ []) }
         ensures kept { IsIncompleteFrame self.new }
         ensures gate { self.new.gate ≡ self.old.gate }
     {
         let n = fill(&mut self.header, self.have, piece);
         self.have += n;
         if self.have < HEADER_LEN {
-            return Ok((n, None));
+            return Ok(n);
         }
         if let Some(fault) = header::judge(&self.gate, &self.header) {
             self.have = 0;
             return Err(fault);
+        }
+        Ok(n)
+    }
+
+    /// Takes bytes, and keeps those of a frame that does not end in them.
+    #[inline(always)]
+    fn gather(&mut self, alloc: Global, piece: &[u8]) -> Result<(usize, Option<Frame>), FrameFault>
+        requires kept { IsIncompleteFrame self.old }
+        ensures makes { Makes self.old.gate (octets_of self.old) piece.now result (octets_of self.new) }
+        ensures kept { IsIncompleteFrame self.new }
+        ensures gate { self.new.gate ≡ self.old.gate }
+    {
+        if self.have == HEADER_LEN {
+            return self.go_on(alloc, piece);
+        }
+        let n = self.begin(piece)?;
+        if self.have < HEADER_LEN {
+            return Ok((n, None));
         }
         let (m, frame) = self.go_on(alloc, &piece[n..])?;
         Ok((n + m, frame))
@@ -134,10 +156,15 @@ impl Unfinished {
         ensures kept { IsIncompleteFrame self.new }
         ensures gate { self.new.gate ≡ self.old.gate }
     {
-        if self.have == HEADER_LEN {
-            self.go_on(alloc, piece)
-        } else {
-            self.begin(alloc, piece)
+        // nearly each frame lies whole in one fragment
+        if self.have == 0 {
+            if let Some(size) = header::whole_size(&self.gate, piece) {
+                return match header::read_frame(alloc, &piece[..size]) {
+                    Ok(frame) => Ok((size, Some(frame))),
+                    Err(_) => Err(FrameFault::OutOfMemory),
+                };
+            }
         }
+        self.gather(alloc, piece)
     }
 }

@@ -1,20 +1,17 @@
 use Rattle.std.proofs.Common.{◌≡◌, ◌∙◌, length, sym, ap, arith}
 use Rattle.ua_frame.specs.Frames.{header_fault}
-use Rattle.ua_frame.proofs.Parts.{good_header, refused, header_then, makes_more}
+use Rattle.ua_frame.proofs.Parts.{good_header, refused}
 use Rattle.ua_frame.proofs.unfinished.Unfinished.begin.Goals as goal
 
-pub returns-in-Some-clause-makes : goal.returns-in-Some-clause-makes
-returns-in-Some-clause-makes c =
+pub returns-in-Some-clause-fails : goal.returns-in-Some-clause-fails
+returns-in-Some-clause-fails c =
     let u = c.args.self.now in
-    let none = c.requires.kept.short c.requires.header in (
-      refused u.header c.fill-n.new.header u.body.items c.args.piece.now u.have c.fill-n.result c.requires.kept.eight (c.fill-n.auto.header
-          ∙ c.requires.kept.eight) none c.requires.header c.fill-n.ensures.count c.fill-n.ensures.filled c.if-self-lt-HEADER_LEN.false u.gate c.in-Some.fault
-          (sym c.judge.ensures ∙ c.in-Some.is),
-      none,
-    )
+    refused u.header c.fill-n.new.header u.body.items c.args.piece.now u.have c.fill-n.result c.requires.kept.eight (c.fill-n.auto.header
+    ∙ c.requires.kept.eight) (c.requires.kept.short c.requires.header) c.requires.header c.fill-n.ensures.count c.fill-n.ensures.filled
+    c.if-self-lt-HEADER_LEN.false u.gate c.in-Some.fault (sym c.judge.ensures ∙ c.in-Some.is)
 
-pub go_on-requires-clause-kept : goal.go_on-requires-clause-kept
-go_on-requires-clause-kept c =
+pub returns-clause-kept : goal.returns-clause-kept
+returns-clause-kept c =
     let good : header_fault c.args.self.now.gate c.fill-n.new.header ≡ _ = sym c.judge.ensures ∙ c.in_default.is in
     let none = c.requires.kept.short c.requires.header in
     record {
@@ -24,11 +21,3 @@ go_on-requires-clause-kept c =
       good = λ _. good;
       part = λ _. omega (arith, ap length none, (good_header c.args.self.now.gate c.fill-n.new.header good).1);
     }
-
-pub returns-clause-makes : goal.returns-clause-makes
-returns-clause-makes c =
-    let u = c.args.self.now in
-    let none = c.requires.kept.short c.requires.header in
-    let mid = header_then u.header c.fill-n.new.header u.body.items c.args.piece.now u.have c.fill-n.result c.requires.kept.eight (c.fill-n.auto.header
-    ∙ c.requires.kept.eight) none c.requires.header c.fill-n.ensures.count c.fill-n.ensures.filled c.if-self-lt-HEADER_LEN.false in
-    makes_more u.gate _ _ c.args.piece.now c.fill-n.result (omega (arith, c.fill-n.ensures.count)) mid c.in_ok-m.m c.in_ok-m.frame _ c.in_ok-m.ensures.makes
