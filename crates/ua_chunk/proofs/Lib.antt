@@ -13,6 +13,7 @@ pub mod Layouts
 pub mod Lists
 pub mod Merged
 pub mod MostOctets
+pub mod Moves
 pub mod Numbers
 pub mod Once
 pub mod OneMore

@@ -192,11 +192,11 @@ chunk_appended lane flag size s id old middle new piece e f g =
     g ∙ ap (λ (t : List ℕ). t ++ piece) f ∙ append_assoc old (front_octets lane flag size s id) piece
     ∙ ap (λ (t : List ℕ). old ++ t) (framed lane flag size s id piece e)
 
-chunks_octets-cons : (c : Chunk) (cs : List Chunk) → chunks_octets (c ∷ cs) ≡ frame_octets (frame_of c) ++ chunks_octets cs
+pub chunks_octets-cons : (c : Chunk) (cs : List Chunk) → chunks_octets (c ∷ cs) ≡ frame_octets (frame_of c) ++ chunks_octets cs
 unfolding frames_octets
 chunks_octets-cons c cs = refl
 
-chunks_octets-one : (c : Chunk) → chunks_octets (c ∷ []) ≡ frame_octets (frame_of c)
+pub chunks_octets-one : (c : Chunk) → chunks_octets (c ∷ []) ≡ frame_octets (frame_of c)
 unfolding frames_octets
 chunks_octets-one c = append-nil (frame_octets (frame_of c))
 

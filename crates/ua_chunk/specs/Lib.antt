@@ -12,6 +12,7 @@ pub mod Delivered
 pub mod Open
 pub mod Refusal
 pub mod Cutting
+pub mod InPlace
 pub mod Merge
 pub mod HeldParts
 pub mod Pending

@@ -21,7 +21,7 @@ use ua_frame::{HEADER_LEN, Kind, header_octets};
 pub const CHUNK_HEADERS: usize = 24;
 
 /// The greatest SequenceNumber that senders use. The number 1 follows it.
-const LAST_NUMBER: u32 = 4294966272;
+pub(crate) const LAST_NUMBER: u32 = 4294966272;
 
 /// The SequenceNumber after one that senders use: they use 1, 2, 3, .. up to 4294966272, and then 1
 /// again (OPC 10000-6, 6.7.2.4).
@@ -47,7 +47,13 @@ fn octets_of_chunks(room: u32, len: usize) -> Option<usize>
 
 /// The headers before the body of a chunk.
 #[inline(always)]
-fn headers(lane: &Lane, flag: Flag, size: u32, sequence: u32, request: u32) -> [u8; CHUNK_HEADERS]
+pub(crate) fn headers(
+    lane: &Lane,
+    flag: Flag,
+    size: u32,
+    sequence: u32,
+    request: u32,
+) -> [u8; CHUNK_HEADERS]
     ensures { result ≡ front_octets lane.now flag size sequence request }
 {
     let mut octets = [0; CHUNK_HEADERS];
