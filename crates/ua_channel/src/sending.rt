@@ -1,6 +1,6 @@
 //! The bytes that a server sends.
 
-ghost use Rattle.std.specs.Prelude.{◌≡◌, ◌<◌, ◌+◌, ◌++◌, ◌^◌, ℕ, List, is_some, length, IfOk, OnOk};
+ghost use Rattle.std.specs.Prelude.{◌≡◌, ◌<◌, ◌+◌, ◌++◌, ◌⊎◌, ◌^◌, [], ℕ, List, is_some, length, IfOk, OnOk};
 ghost use Rattle.ua_frame.specs.Frames.{frame_octets};
 ghost use Rattle.ua_frame.specs.Messages.{ack_frame};
 ghost use Rattle.ua_chunk.specs.Cutting.{cut_refusal};
@@ -10,8 +10,9 @@ use crate::agreement::Agreement;
 use crate::numbers::Numbers;
 use crate::sent_reply::SentReply;
 use std::alloc::{AllocError, Global};
+use std::mem;
 use ua_builtin::{DateTime, StatusCode, Wire};
-use ua_chunk::{CutFault, Lane, NONE_POLICY, abort_octets, cut};
+use ua_chunk::{CutFault, Lane, NONE_POLICY, abort_octets, cut, cut_in_place};
 use ua_frame::{Kind, ack_octets, header_octets};
 use ua_opening::{OpenResponse, write_open_response};
 use ua_wire::NULL_COUNT;
@@ -137,4 +138,34 @@ pub fn reply_octets(
             })
         }
     }
+}
+
+/// The reply that [`reply_octets`] gives. The chunks of a body that takes several are put in its own
+/// vector, which is then taken.
+#[inline(always)]
+pub fn reply_in_place(
+    alloc: Global,
+    lane: &Lane,
+    body: &mut Vec<u8>,
+    request: u32,
+    numbers: &mut Numbers,
+) -> Result<SentReply, AllocError>
+    requires room { 0 < lane.now.room }
+    requires size { lane.now.room + 24 < 2 ^ 32 }
+    requires body { 0 < length body.old.items }
+    ensures octets { IfOk result
+        (λ sent. IsReply lane.now body.old.items numbers.old.next request sent.octets.items numbers.new.next) }
+    ensures abort { IfOk result (λ sent. sent.is_abort ≡ is_some (cut_refusal lane.now body.old.items)) }
+    ensures left { (body.new.items ≡ body.old.items) ⊎ (body.new.items ≡ []) }
+{
+    if body.len() > lane.room as usize {
+        if let Ok(next) = cut_in_place(lane, body, numbers.number(), request) {
+            numbers.go_on(next);
+            return Ok(SentReply {
+                octets: mem::replace(body, Vec::new(alloc)),
+                is_abort: false,
+            });
+        }
+    }
+    reply_octets(alloc, lane, body, request, numbers)
 }

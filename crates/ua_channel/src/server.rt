@@ -6,7 +6,7 @@ use crate::agreement::Agreement;
 use crate::end_core::EndCore;
 use crate::numbers::Numbers;
 use crate::running::Running;
-use crate::sending::{Opening, agreed_octets, opened_octets, reply_octets};
+use crate::sending::{Opening, agreed_octets, opened_octets, reply_in_place, reply_octets};
 use crate::sent_reply::SentReply;
 use crate::server_event::{Event, ServerEvent};
 use crate::server_fault::{ChannelFault, ReplyFault};
@@ -44,7 +44,7 @@ pub struct ServerChannel {
 }
 
 impl ServerChannel {
-    ghost use Rattle.std.specs.Prelude.{◌≡◌, ◌<◌, ◌≤◌, ◌+◌, ◌^◌, ◌↔◌, [], ℕ, List, length};
+    ghost use Rattle.std.specs.Prelude.{◌≡◌, ◌<◌, ◌≤◌, ◌+◌, ◌^◌, ◌↔◌, ◌⊎◌, [], ℕ, List, length};
     ghost use Rattle.std.specs.Prelude.{take, None, Some, Ok, Err, IfOk, IfSome, MatchOption};
     ghost use Rattle.std.specs.Prelude.{MatchResult, OnOk, OnErr, IsErrOf, IsTrue};
     ghost use Rattle.ua_chunk.specs.Cutting.{most_octets};
@@ -299,6 +299,37 @@ impl ServerChannel {
             return Err(ReplyFault::NotOpen);
         };
         match reply_octets(self.end.alloc, &lane, body, id, &mut self.end.numbers) {
+            Ok(sent) => Ok(sent),
+            Err(_) => {
+                self.end.fail();
+                Err(ReplyFault::OutOfMemory)
+            }
+        }
+    }
+
+    /// What [`respond`](ServerChannel::respond) returns. The chunks of a body that takes several are
+    /// put in its own vector, which is then taken; any other body stays.
+    pub fn respond_with(&mut self, id: u32, body: &mut Vec<u8>) -> Result<SentReply, ReplyFault>
+        requires { 0 < length body.old.items }
+        ensures stands { WhateverCame self.old (λ octets frames rest.
+            OnOk result (ChannelStands self.new octets frames rest)) }
+        ensures sent { WhateverCame self.old (λ octets frames rest.
+            IfOk result (SendsReply self.old self.new (received frames) body.old.items id)) }
+        // No channel is open before the first OPN or after the channel ended, and in no other case.
+        ensures not_open { IsErrOf result NotOpen ↔ IsWithoutToken self.old }
+        ensures unchanged { IsErrOf result NotOpen → self.new ≡ self.old }
+        ensures before { WhateverCame self.old (λ octets frames rest.
+            IsErrOf result NotOpen ↔ ((received frames).openings ≡ [])) }
+        ensures failed { IsErrOf result OutOfMemory → IsDone self.new }
+        ensures left { (body.new.items ≡ body.old.items) ⊎ (body.new.items ≡ []) }
+        ensures bound { bound_of self.new ≡ bound_of self.old }
+        ensures limits { limits_of self.new ≡ limits_of self.old }
+        ensures channel { channel_of self.new ≡ channel_of self.old }
+    {
+        let Some(lane) = self.lane() else {
+            return Err(ReplyFault::NotOpen);
+        };
+        match reply_in_place(self.end.alloc, &lane, body, id, &mut self.end.numbers) {
             Ok(sent) => Ok(sent),
             Err(_) => {
                 self.end.fail();
