@@ -401,7 +401,8 @@ impl Server {
             }
         };
         written.keep(message, results);
-        match self.channel.respond(id, &body) {
+        let mut body = body;
+        match self.channel.respond_with(id, &mut body) {
             Ok(sent) => {
                 let request = request.sent_as(sent.is_abort);
                 Ok(AnsweredMessage {
