@@ -8,7 +8,7 @@ use crate::words::{code_of, first_number, front};
 use bytes::Bytes;
 use std::fmt::Debug;
 use ua_builtin::Wire;
-use ua_chunk::{CutFault, Lane, abort_octets, cut, read_open};
+use ua_chunk::{CutFault, Lane, abort_octets, cut, cut_in_place, read_open};
 use ua_frame::{Frame, error_frame};
 
 /// The greatest SequenceNumber that senders use.
@@ -47,6 +47,7 @@ pub fn answer(given: &Given, kind: &str, words: &str, told: &mut Told) {
         "chunk" => tell_chunk(given, words, told),
         "opening" => tell_opening(given, words, told),
         "cut" => tell_cut(given, words, told),
+        "cut-in-place" => tell_cut_in_place(given, words, told),
         _ => tell_abort(given, words, told),
     }
 }
@@ -144,6 +145,33 @@ fn tell_cut(given: &Given, words: &str, told: &mut Told) {
     }
     let answer = cut(&lane, body.as_slice(), sequence, request, &mut out);
     tell_answer(given, answer, out.as_slice(), told);
+}
+
+/// The chunks that a body on a lane becomes, from a SequenceNumber on, under a RequestId.
+fn tell_cut_in_place(given: &Given, words: &str, told: &mut Told) {
+    let (lane, words) = lane_of(words, told);
+    let (sequence, words) = first_number(words, told);
+    let (request, words) = first_number(words, told);
+    let mut body = given.octets(words, told);
+    if lane.room == 0
+        || lane.room > u32::MAX - HEADERS
+        || body.is_empty()
+        || sequence > LAST_NUMBER
+    {
+        told.fail("no row");
+        return;
+    }
+    match cut_in_place(&lane, &mut body, sequence, request) {
+        Ok(next) => {
+            tell_number("then", next, told);
+            given.tell_frames(body.as_slice(), told);
+        }
+        Err(CutFault::OutOfMemory) => told.end("cut_in_place: out of memory"),
+        Err(fault) => {
+            told.shown(&fault);
+            given.tell(body.as_slice(), told);
+        }
+    }
 }
 
 /// Tells an answer, and what stands in the output after the bytes 1 and 2.

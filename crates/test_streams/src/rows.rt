@@ -99,7 +99,7 @@ impl Rows {
             "HEL" => bodies::tell_body::<Hello>(&self.given, words, told),
             "ACK" => bodies::tell_body::<Ack>(&self.given, words, told),
             "ERR" => bodies::tell_body::<ErrorFrame>(&self.given, words, told),
-            "error" | "chunk" | "opening" | "cut" | "abort" => {
+            "error" | "chunk" | "opening" | "cut" | "cut-in-place" | "abort" => {
                 bodies::answer(&self.given, kind, words, told);
             }
             "parts" => parts::tell_node(&self.given, words, told),
@@ -127,6 +127,7 @@ impl Rows {
             "take" | "pieces" => self.take(kind, words, told),
             "number"
             | "reply"
+            | "reply-with"
             | "take-once"
             | "state"
             | "end"

@@ -64,6 +64,7 @@ fn tell_fault(given: &Given, fault: ChannelFault, told: &mut Told) {
 pub fn step(given: &Given, channel: &mut ServerChannel, kind: &str, words: &str, told: &mut Told) {
     match kind {
         "reply" => reply(given, channel, words, told),
+        "reply-with" => reply_with(given, channel, words, told),
         "take-once" => take_once(given, channel, words, told),
         "state" => state(channel, told),
         "end" => {
@@ -104,6 +105,24 @@ fn reply(given: &Given, channel: &mut ServerChannel, words: &str, told: &mut Tol
         }
         Err(ReplyFault::NotOpen) => told.word("is not open"),
         Err(ReplyFault::OutOfMemory) => told.end("reply: out of memory"),
+    }
+}
+
+/// The reply of a RequestId and a body, in whose vector its chunks may be put.
+fn reply_with(given: &Given, channel: &mut ServerChannel, words: &str, told: &mut Told) {
+    let (id, words) = first_number(words, told);
+    let mut body = given.octets(words, told);
+    if body.is_empty() {
+        told.fail("no row");
+        return;
+    }
+    match channel.respond_with(id, &mut body) {
+        Ok(sent) => {
+            told.word(if sent.is_abort { "aborts by" } else { "sends" });
+            given.tell_frames(sent.octets.as_slice(), told);
+        }
+        Err(ReplyFault::NotOpen) => told.word("is not open"),
+        Err(ReplyFault::OutOfMemory) => told.end("respond_with: out of memory"),
     }
 }
 
