@@ -97,6 +97,15 @@ moved_more old now new block end gap before at n m is le fits b e =
           ∙ ap (λ (k : ℕ). take k (drop at old)) all);
     }
 
+pub moved_few : (old new block : List ℕ) (start end gap : ℕ) → start ≤ end → end + gap ≤ length old → block ≡ take (end - start) (drop start old)
+    → new ≡ take (start + gap) old ++ (block ++ drop ((start + gap) + (end - start)) old)
+    → MovedUp old end gap start new
+moved_few old new block start end gap le fits b e =
+    let none : end - end ≡ 0 = omega arith in
+    let stay : MovedUp old end gap end old =
+    record { len = refl; front = refl; back = ap (λ (n : ℕ). take n (drop end old) ++ drop (end + gap) old) (sym none) } in
+    moved_more old old new block end gap end start (end - start) stay (omega arith) (omega arith) fits b e
+
 -- ---- chunks that are placed
 
 pub last_low : (len room : ℕ) → 0 < len → (len - 1) / room * room < len

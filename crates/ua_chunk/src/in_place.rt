@@ -14,8 +14,30 @@ use crate::lane::Lane;
 /// How many bytes are moved at a time: `copy_within` moves overlapping bytes one by one.
 const BLOCK: usize = 4096;
 
+/// How many bytes are moved at once without a large block.
+const FEW: usize = 256;
+
+/// Moves the bytes from `start` to `end`, which are few, up by `gap`.
+#[inline(always)]
+fn move_few(octets: &mut [u8], start: usize, end: usize, gap: usize)
+    requires order { start ≤ end }
+    requires room { end + gap ≤ length octets.old }
+    requires few { end - start ≤ 256 }
+    ensures len { length octets.new ≡ length octets.old }
+    ensures front { take (start + gap) octets.new ≡ take (start + gap) octets.old }
+    ensures back { drop (start + gap) octets.new
+        ≡ take (end - start) (drop start octets.old) ++ drop (end + gap) octets.old }
+{
+    let n = end - start;
+    let mut block = [0; FEW];
+    let part = &mut block[..n];
+    part.copy_from_slice(&octets[start..start + n]);
+    octets[start + gap..start + gap + n].copy_from_slice(part);
+}
+
 /// Moves the bytes from `start` to `end` up by `gap`, the last of them first.
-fn move_up(octets: &mut [u8], start: usize, end: usize, gap: usize)
+#[inline(never)]
+fn move_blocks(octets: &mut [u8], start: usize, end: usize, gap: usize)
     requires order { start ≤ end }
     requires room { end + gap ≤ length octets.old }
     ensures len { length octets.new ≡ length octets.old }
@@ -31,6 +53,22 @@ fn move_up(octets: &mut [u8], start: usize, end: usize, gap: usize)
         let part = &mut block[..n];
         part.copy_from_slice(&octets[at..at + n]);
         octets[at + gap..at + gap + n].copy_from_slice(part);
+    }
+}
+
+/// Moves the bytes from `start` to `end` up by `gap`.
+fn move_up(octets: &mut [u8], start: usize, end: usize, gap: usize)
+    requires order { start ≤ end }
+    requires room { end + gap ≤ length octets.old }
+    ensures len { length octets.new ≡ length octets.old }
+    ensures front { take (start + gap) octets.new ≡ take (start + gap) octets.old }
+    ensures back { drop (start + gap) octets.new
+        ≡ take (end - start) (drop start octets.old) ++ drop (end + gap) octets.old }
+{
+    if end - start <= FEW {
+        move_few(octets, start, end, gap);
+    } else {
+        move_blocks(octets, start, end, gap);
     }
 }
 
@@ -117,7 +155,6 @@ fn octets_of_headers(room: u32, len: usize) -> Option<usize>
 /// Splits a body into chunks within its own vector, complete frames numbered from `sequence`, as
 /// [`cut`](crate::cut) does behind other bytes. Returns the SequenceNumber after them. A fault
 /// leaves the body as it was.
-// Inlined, the block that is moved at a time would be in the frame of each caller.
 #[inline(never)]
 pub fn cut_in_place(
     lane: &Lane,

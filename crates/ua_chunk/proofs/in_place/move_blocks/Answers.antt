@@ -1,6 +1,6 @@
 use Rattle.std.proofs.Common.{◌-◌, ◌+◌, ◌∙◌, ◌≡◌, ℕ, ap, arith, drop, sym, take}
 use Rattle.ua_chunk.proofs.Moves.{moved_more, part_long, put_is}
-use Rattle.ua_chunk.proofs.in_place.move_up.Goals as goal
+use Rattle.ua_chunk.proofs.in_place.move_blocks.Goals as goal
 
 pub loop-at-preserved : goal.loop-at-preserved
 loop-at-preserved c =
