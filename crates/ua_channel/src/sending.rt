@@ -140,8 +140,12 @@ pub fn reply_octets(
     }
 }
 
-/// The reply that [`reply_octets`] gives. The chunks of a body that takes several are put in its own
-/// vector, which is then taken.
+/// Up to how many bytes a body is small: it is moved within its vector for less than a second one
+/// costs.
+const SMALL_BODY: usize = 256;
+
+/// The reply that [`reply_octets`] gives. The chunks of a small body, and of one that takes several,
+/// are put in its own vector, which is then taken.
 #[inline(always)]
 pub fn reply_in_place(
     alloc: Global,
@@ -158,7 +162,7 @@ pub fn reply_in_place(
     ensures abort { IfOk result (λ sent. sent.is_abort ≡ is_some (cut_refusal lane.now body.old.items)) }
     ensures left { (body.new.items ≡ body.old.items) ⊎ (body.new.items ≡ []) }
 {
-    if body.len() > lane.room as usize {
+    if body.len() <= SMALL_BODY || body.len() > lane.room as usize {
         if let Ok(next) = cut_in_place(lane, body, numbers.number(), request) {
             numbers.go_on(next);
             return Ok(SentReply {

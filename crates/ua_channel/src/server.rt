@@ -307,8 +307,8 @@ impl ServerChannel {
         }
     }
 
-    /// What [`respond`](ServerChannel::respond) returns. The chunks of a body that takes several are
-    /// put in its own vector, which is then taken; any other body stays.
+    /// What [`respond`](ServerChannel::respond) returns. The chunks of a small body, and of one that
+    /// takes several, are put in its own vector, which is then taken; any other body stays.
     pub fn respond_with(&mut self, id: u32, body: &mut Vec<u8>) -> Result<SentReply, ReplyFault>
         requires { 0 < length body.old.items }
         ensures stands { WhateverCame self.old (λ octets frames rest.
