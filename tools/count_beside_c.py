@@ -173,6 +173,9 @@ ROWS = [
     ('call-all', 'call-all server N small', 'call_all server N small', (2, 12, 64), (128, 768, 1)),
     ('dissect', 'dissect client N', 'dissect client N client', (1, 3, 800), (1, 3, 800)),
     ('dissect-server', 'dissect-server server N', 'dissect server N server', (1, 3, 800), (1, 3, 800)),
+    ('fields', 'fields client-large N', None, (1, 3, 48000), (1, 3, 48000)),
+    ('fields-server', 'fields-server server-large N', None, (1, 3, 72000), (1, 3, 72000)),
+    ('plain-doubles', 'plain doubles N', None, (2, 12, 1000), (2, 12, 1000)),
     ('dissect-large', 'dissect-server server-large N', 'dissect server-large N server', (1, 3, 12000), (1, 3, 12000)),
 ]
 

@@ -5,11 +5,14 @@ use crate::calls::{call, call_groups};
 use crate::fault::Fault;
 use crate::given::Given;
 use crate::nodes::{load_nodes, read_items, set_items};
-use crate::streams::{answer_among, answer_messages, dissect_octets, read_frames, take_messages};
+use crate::streams::{
+    answer_among, answer_messages, dissect_octets, print_fields, read_frames, take_messages,
+};
 use std::alloc::Global;
 use ua_builtin::{MOST_LEVELS, Octets, Source, Wire};
 use ua_pair::Side;
 use ua_services::{ReadRequest, ReadResponse};
+use ua_texts::push_plain_variant;
 use ua_variant::Variant;
 
 /// A fragment of work on the bytes of one value.
@@ -23,6 +26,8 @@ pub enum Work {
     Clone,
     /// The levels and the count of a Variant, and whether it can be encoded.
     Measure,
+    /// The text of a Variant in the human-readable form.
+    Plain,
     ReadResponse,
     WriteResponse,
     ReadRequest,
@@ -56,6 +61,10 @@ pub enum Work {
     Dissect,
     /// Dissects what a server sends.
     DissectServer,
+    /// Dissects what a client sends, with the fields of its messages.
+    Fields,
+    /// Dissects what a server sends, with the fields of its messages.
+    FieldsServer,
 }
 
 impl Work {
@@ -66,6 +75,7 @@ impl Work {
             "write" => Some(Work::Write),
             "clone" => Some(Work::Clone),
             "measure" => Some(Work::Measure),
+            "plain" => Some(Work::Plain),
             "read-response" => Some(Work::ReadResponse),
             "write-response" => Some(Work::WriteResponse),
             "read-request" => Some(Work::ReadRequest),
@@ -86,6 +96,8 @@ impl Work {
             "call-all" => Some(Work::CallAll),
             "dissect" => Some(Work::Dissect),
             "dissect-server" => Some(Work::DissectServer),
+            "fields" => Some(Work::Fields),
+            "fields-server" => Some(Work::FieldsServer),
             _ => None,
         }
     }
@@ -98,6 +110,7 @@ impl Work {
             Work::Write => write_values::<Variant>(alloc, octets, times),
             Work::Clone => clone_values(alloc, octets, times),
             Work::Measure => measure_values(alloc, octets, times),
+            Work::Plain => show_values(alloc, octets, times),
             Work::ReadResponse => read_values::<ReadResponse>(alloc, octets, times),
             Work::WriteResponse => write_values::<ReadResponse>(alloc, octets, times),
             Work::ReadRequest => read_values::<ReadRequest>(alloc, octets, times),
@@ -118,6 +131,8 @@ impl Work {
             Work::CallAll => call_groups(alloc, given, times),
             Work::Dissect => dissect_octets(alloc, Side::Client, octets, times),
             Work::DissectServer => dissect_octets(alloc, Side::Server, octets, times),
+            Work::Fields => print_fields(alloc, Side::Client, octets, times),
+            Work::FieldsServer => print_fields(alloc, Side::Server, octets, times),
         }
     }
 }
@@ -174,6 +189,19 @@ fn measure_values(alloc: Global, octets: &[u8], times: u32) -> Result<u64, Fault
             sum = sum.wrapping_add(value.count());
         }
         sum = sum.wrapping_add(value.depth() as u64);
+    }
+    Ok(sum)
+}
+
+/// Makes the text of a Variant in the human-readable form this many times; how many bytes.
+fn show_values(alloc: Global, octets: &[u8], times: u32) -> Result<u64, Fault> {
+    let value = value_in::<Variant>(alloc, octets)?;
+    let mut text = String::new(alloc);
+    let mut sum = 0u64;
+    for _ in 0..times {
+        text.clear();
+        push_plain_variant(alloc, &mut text, &value, false)?;
+        sum = sum.wrapping_add(text.len() as u64);
     }
     Ok(sum)
 }
