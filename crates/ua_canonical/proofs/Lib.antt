@@ -1,0 +1,11 @@
+mod Steps
+mod Levels
+mod FieldsRecoded
+mod DiagnosticsRecoded
+mod NullArrays
+mod LeavesRecoded
+mod RowsRecoded
+mod ArraysRecoded
+mod TagsRecoded
+mod DataValuesRecoded
+mod PublicRecoded
