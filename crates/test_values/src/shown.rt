@@ -34,7 +34,8 @@ pub fn found(
     }
 }
 
-fn compared(alloc: Global, found: &[u8], octets: &[u8]) -> Result<String, Fault> {
+/// `same` where bytes are these, else the bytes.
+pub fn compared(alloc: Global, found: &[u8], octets: &[u8]) -> Result<String, Fault> {
     if found == octets {
         return named(alloc, "same");
     }
