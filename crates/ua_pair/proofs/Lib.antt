@@ -15,5 +15,6 @@ mod RestLines
 mod Standings
 mod Refusing
 mod Printings
+mod Pieces
 mod PrintedBodies
 mod Titles

@@ -32,6 +32,23 @@ pub record PrintsText (before : Option (List ℕ)) (kept : List ℕ) (after : Op
   pub printed : PrintsLines before kept after left lines
   pub holds : Holds lines
 
+-- ---- a text in pieces
+
+-- the first part of a text came after what is kept; of all this the first was written, and the
+-- other part is lost
+pub record PrintsFront (before : Option (List ℕ)) (kept : List ℕ) (after : Option (List ℕ)) (text : List ℕ) : Type 0 where
+  pub lost : List ℕ
+  pub part : List ℕ
+  pub rest : List ℕ
+  pub printed : PrintsLines before kept after lost part
+  pub front : part ++ rest ≡ text
+
+-- a text was printed, or its first part, if an allocation failed
+abbrev pub PrintsPieces : Option (List ℕ) → List ℕ → Option (List ℕ) → List ℕ → List ℕ → Result (Unit {0}) PrintFault → Type 0
+PrintsPieces before kept after left text (Ok x) = PrintsLines before kept after left text
+PrintsPieces before kept after left text (Err print.OutOfMemory) = PrintsFront before kept after text
+PrintsPieces before kept after left text (Err (print.Output error)) = Unit {0}
+
 -- ---- where an allocation fails
 
 -- each value has a text in this style, as it has if texts are exact. No law says so of those that

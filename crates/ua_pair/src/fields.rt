@@ -16,6 +16,7 @@ mod message;
 mod null;
 mod path;
 mod pending;
+mod pieces;
 mod printing;
 mod secure_channel;
 mod security_token;
