@@ -161,17 +161,14 @@ returns c = {proof}
 """
 
 
-def has_array(s: Structure, k: Schema) -> bool:
-    """Whether it holds an array, or a structure that does: then it is printed as it is read, an element at a time."""
-    return any(kind.endswith("[]") or kind in k.structures and has_array(k.structures[kind], k) for _, kind in s.fields)
-
-
 def printed_of(s: Structure, k: Schema) -> str:
-    """How it is printed: whole, or field by field as it is read."""
-    body = ""
-    if has_array(s, k):
-        rust, names = k.all("rust", s), [f'"{it}"' for it in s.names()]
-        body = f"""
+    """How it is printed as it is read, field by field."""
+    rust, names = k.all("rust", s), [f'"{it}"' for it in s.names()]
+    return f"""impl Printed for {s.name} {{
+    fn is_structure() -> bool {{
+        true
+    }}
+
     fn print<S: Source, O: Write>(
         alloc: Global,
         src: &mut S,
@@ -182,8 +179,8 @@ def printed_of(s: Structure, k: Schema) -> str:
         let names = {nested(names)};
         <{nested(rust[:-1] + [f"Last<{rust[-1]}>"])}>::print_fields(alloc, src, place, names, text, out)
     }}
+}}
 """
-    return f"impl Printed for {s.name} {{\n    fn is_structure() -> bool {{\n        true\n    }}\n{body}}}\n"
 
 
 def printed_answer_of(s: Structure, k: Schema) -> str:

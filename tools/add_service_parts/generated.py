@@ -8,7 +8,7 @@ import subprocess
 import tempfile
 from typing import Iterable
 
-from add_service_parts.forms import (answer_of, entries_of, format_of, has_array, lemma_of, lines_of, printed_answer_of, printed_of, shown_of, skip_of,
+from add_service_parts.forms import (answer_of, entries_of, format_of, lemma_of, lines_of, printed_answer_of, printed_of, shown_of, skip_of,
                                      wire_of)
 from add_service_parts.schema import File, Schema, Structure, title_case
 from add_service_parts.texts import OPENING, PAIR, ROWS, STRUCTURES, text_of
@@ -57,11 +57,6 @@ def has_arrays(structures: list[Structure]) -> bool:
 def declared(structures: Iterable[Structure]) -> list[tuple[str, str]]:
     """Where specs/ find the declarations of these structures."""
     return [(s.name, f"Rattle.{s.library}.specs.declared.{s.declared_in}.{s.name}") for s in structures]
-
-
-def is_printed(s: Structure) -> bool:
-    """Whether it is printed as it is read: all but the messages of secure channels."""
-    return s.has_lines() and s.module != "secure_channel"
 
 
 def head(file: File | None, mark: str, title: str) -> str:
@@ -123,13 +118,12 @@ def lines_file(file: File, k: Schema) -> str:
     found = [s for s in file.structures if s.has_lines()]
     names = [(it, "crate::fields::lines") for it in ("Lines", "Place", "push_fields")] + [("AllocError", "std::alloc"), ("Global", "std::alloc")]
     names += [(s.name, "ua_services") for s in found]
-    if any(has_array(s, k) for s in found):
-        names += [("Last", "crate::fields::printing"), ("PrintedFields", "crate::fields::printing"), ("TellFault", "crate::printing"), ("Write", "std::io")]
-        names += [("Source", "ua_builtin")] + [("UaArray", "ua_services")] * has_arrays([s for s in found if has_array(s, k)])
-    names += [("Printed", "crate::fields::printing")] * any(is_printed(s) for s in found)
-    for kind in elements([s for s in found if has_array(s, k)]):
+    if found:
+        names += [(it, "crate::fields::printing") for it in ("Last", "Printed", "PrintedFields")] + [("TellFault", "crate::printing"), ("Write", "std::io")]
+        names += [("Source", "ua_builtin")] + [("UaArray", "ua_services")] * has_arrays(found)
+    for kind in elements(found):
         names += [(k.of(kind).rust, "ua_services" if kind in k.structures else k.of(kind).library)] if k.of(kind).library else []
-    texts = [it for s in found for it in (lines_of(s, k), printed_of(s, k) if is_printed(s) else "") if it]
+    texts = [it for s in found for it in (lines_of(s, k), printed_of(s, k))]
     return head(file, "//!", f"The structures of {file.title}, as lines.") + "\n" + uses(names) + "\n" + "\n".join(texts)
 
 
@@ -163,7 +157,7 @@ def generated(k: Schema) -> dict[str, str]:
         for s in file.structures:
             path = f"{PAIR}/proofs/fields/{file.module}/{s.name}Lines/push_lines/Answers.antt"
             found[path] = head(file, "--", "The lines of its fields stand one behind the other.") + answer_of(s, k) if s.has_lines() else ""
-            if is_printed(s) and has_array(s, k):
+            if s.has_lines():
                 path = f"{PAIR}/proofs/fields/{file.module}/{s.name}Printed/print/Answers.antt"
                 found[path] = head(file, "--", "What is printed are the lines of its fields.") + printed_answer_of(s, k)
     return {path: text for path, text in found.items() if text}

@@ -16,5 +16,6 @@ mod Standings
 mod Refusing
 mod Printings
 mod Pieces
+mod Long
 mod PrintedBodies
 mod Titles

@@ -9,6 +9,7 @@ use Rattle.base64.proofs.EngineFacts.{encode_of-append}
 use Rattle.base64.specs.Engines.{standard}
 use Rattle.base64.specs.GeneralPurpose.{encode_of}
 use Rattle.hex.specs.Hex.{encode_lower, encode_with, lower_digits}
+use Rattle.ua_pair.specs.Tree.{line}
 use Rattle.ua_texts.proofs.Shows.{shown-append, shown-nil}
 use Rattle.ua_texts.specs.Shown.{shown}
 use Rattle.ua_pair.specs.Printing.{PrintsLines, PrintsFront, PrintsPieces}
@@ -117,3 +118,50 @@ pieces_begun known kept left one rest grown = record { part = one; printed = onl
 -- nothing was, as no room was found for what comes first
 pub none_printed : (known : Option (List ℕ)) (kept text : List ℕ) → PrintsFront known kept known text
 none_printed known kept text = pieces_broken known known kept kept text text (pieces_first known kept text)
+
+-- ---- lines
+
+-- a part of a text was printed, in pieces, and of what comes after it nothing
+pub piece_broken : (a b c : Option (List ℕ)) (ka kb one rest text : List ℕ) → PiecesSoFar a ka b kb (one ++ rest) text → PrintsFront b kb c one
+    → PrintsFront a ka c text
+piece_broken a b c ka kb one rest text s h = record {
+  lost = h.lost;
+  part = s.part ++ h.part;
+  rest = h.rest ++ rest;
+  printed = lines_then a b c ka kb h.lost s.part h.part s.printed h.printed;
+  front = append_assoc s.part h.part (h.rest ++ rest)
+      ∙ ap (λ (t : List ℕ). s.part ++ t) (sym (append_assoc h.part h.rest rest) ∙ ap (λ (t : List ℕ). t ++ rest) h.front) ∙ s.front;
+}
+
+-- what comes before the text of a line was kept
+pub line_begun : (known : Option (List ℕ)) (kept left margin path shown : List ℕ) → left ≡ kept ++ (margin ++ (path ++ codes " "))
+    → PiecesSoFar known kept known left (shown ++ codes "\n") (line margin path shown)
+unfolding line
+line_begun known kept left margin path shown grown = record {
+  part = margin ++ (path ++ codes " ");
+  printed = only_kept known kept left (margin ++ (path ++ codes " ")) grown;
+  front = append_assoc margin (path ++ codes " ") (shown ++ codes "\n")
+      ∙ ap (λ (t : List ℕ). margin ++ t) (append_assoc path (codes " ") (shown ++ codes "\n"));
+}
+
+-- a line was, its text in pieces
+pub line_ended : (a b c d : Option (List ℕ)) (ka kb kc mid kd one two text : List ℕ) → PiecesSoFar a ka b kb (one ++ two) text
+    → PrintsLines b kb c kc one → mid ≡ kc ++ two → PrintsLines c mid d kd [] → PrintsLines a ka d kd text
+line_ended a b c d ka kb kc mid kd one two text s h grown w =
+    pieces_last a d ka kd [] text
+    (pieces_on a c d ka kc mid kd two [] two text (pieces_then a b c ka kb kc one two text s h) (sym (append-nil two)) grown w) refl
+
+-- its text was not printed whole
+pub line_stopped : (a b c : Option (List ℕ)) (ka kb kc one rest text : List ℕ) (fault : PrintFault) → PiecesSoFar a ka b kb (one ++ rest) text
+    → PrintsPieces b kb c kc one (Err fault) → PrintsPieces a ka c kc text (Err fault)
+line_stopped a b c ka kb kc one rest text OutOfMemory s h = piece_broken a b c ka kb one rest text s h
+line_stopped a b c ka kb kc one rest text (Output error) s h = tt
+
+-- the newline was not kept
+pub line_broken : (a b c : Option (List ℕ)) (ka kb kc one two text : List ℕ) → PiecesSoFar a ka b kb (one ++ two) text → PrintsLines b kb c kc one
+    → PrintsFront a ka c text
+line_broken a b c ka kb kc one two text s h = pieces_broken a c ka kc two text (pieces_then a b c ka kb kc one two text s h)
+
+-- a line was kept
+pub line_kept : (known : Option (List ℕ)) (kept left text : List ℕ) → left ≡ kept ++ text → PrintsLines known kept known left text
+line_kept known kept left text grown = only_kept known kept left text grown

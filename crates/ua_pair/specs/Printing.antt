@@ -87,6 +87,12 @@ PrintsRead read old new Printed Broken (Err NoValue) = read old ≡ None
 PrintsRead read old new Printed Broken (Err OutOfMemory) = Broken
 PrintsRead read old new Printed Broken (Err (Output error)) = Unit {0}
 
+-- what is returned where the lines of a value that was read are printed or not
+abbrev pub told_print : Result (Unit {0}) PrintFault → Result (Unit {0}) TellFault
+told_print (Ok x) = Ok x
+told_print (Err print.OutOfMemory) = Err OutOfMemory
+told_print (Err (print.Output error)) = Err (Output error)
+
 -- ---- a structure after a NodeId
 
 -- the structure after the NodeId at the start of bytes, and the bytes after it

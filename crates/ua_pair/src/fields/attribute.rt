@@ -6,7 +6,7 @@ use crate::fields::printing::{Last, Printed, PrintedFields};
 use crate::printing::TellFault;
 use std::alloc::{AllocError, Global};
 use std::io::Write;
-use ua_builtin::{DoubleBits, Source, StatusCode};
+use ua_builtin::{DoubleBits, NodeId, QualifiedName, Source, StatusCode, UaString};
 use ua_services::{
     ReadRequest, ReadResponse, ReadValueId, RequestHeader, ResponseHeader, UaArray, WriteRequest,
     WriteResponse, WriteValue,
@@ -31,6 +31,22 @@ impl Lines for ReadValueId {
 impl Printed for ReadValueId {
     fn is_structure() -> bool {
         true
+    }
+
+    fn print<S: Source, O: Write>(
+        alloc: Global,
+        src: &mut S,
+        place: Place,
+        text: &mut String,
+        out: &mut O,
+    ) -> Result<(), TellFault> {
+        let names = (
+            "node_id",
+            ("attribute_id", ("index_range", "data_encoding")),
+        );
+        <(NodeId, (u32, (UaString, Last<QualifiedName>)))>::print_fields(
+            alloc, src, place, names, text, out,
+        )
     }
 }
 
@@ -123,6 +139,19 @@ impl Lines for WriteValue {
 impl Printed for WriteValue {
     fn is_structure() -> bool {
         true
+    }
+
+    fn print<S: Source, O: Write>(
+        alloc: Global,
+        src: &mut S,
+        place: Place,
+        text: &mut String,
+        out: &mut O,
+    ) -> Result<(), TellFault> {
+        let names = ("node_id", ("attribute_id", ("index_range", "value")));
+        <(NodeId, (u32, (UaString, Last<DataValue>)))>::print_fields(
+            alloc, src, place, names, text, out,
+        )
     }
 }
 

@@ -88,6 +88,28 @@ impl Printed for UserTokenPolicy {
     fn is_structure() -> bool {
         true
     }
+
+    fn print<S: Source, O: Write>(
+        alloc: Global,
+        src: &mut S,
+        place: Place,
+        text: &mut String,
+        out: &mut O,
+    ) -> Result<(), TellFault> {
+        let names = (
+            "policy_id",
+            (
+                "token_type",
+                (
+                    "issued_token_type",
+                    ("issuer_endpoint_url", "security_policy_uri"),
+                ),
+            ),
+        );
+        <(UaString, (i32, (UaString, (UaString, Last<UaString>))))>::print_fields(
+            alloc, src, place, names, text, out,
+        )
+    }
 }
 
 impl Lines for EndpointDescription {

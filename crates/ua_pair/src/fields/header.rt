@@ -6,7 +6,7 @@ use crate::fields::printing::{Last, Printed, PrintedFields};
 use crate::printing::TellFault;
 use std::alloc::{AllocError, Global};
 use std::io::Write;
-use ua_builtin::{DateTime, ExtensionObject, Source, StatusCode, UaString};
+use ua_builtin::{DateTime, ExtensionObject, NodeId, Source, StatusCode, UaString};
 use ua_services::{RequestHeader, ResponseHeader, ServiceFault, UaArray};
 use ua_variant::DiagnosticInfo;
 
@@ -29,6 +29,35 @@ impl Lines for RequestHeader {
 impl Printed for RequestHeader {
     fn is_structure() -> bool {
         true
+    }
+
+    fn print<S: Source, O: Write>(
+        alloc: Global,
+        src: &mut S,
+        place: Place,
+        text: &mut String,
+        out: &mut O,
+    ) -> Result<(), TellFault> {
+        let names = (
+            "authentication_token",
+            (
+                "timestamp",
+                (
+                    "request_handle",
+                    (
+                        "return_diagnostics",
+                        ("audit_entry_id", ("timeout_hint", "additional_header")),
+                    ),
+                ),
+            ),
+        );
+        <(
+            NodeId,
+            (
+                DateTime,
+                (u32, (u32, (UaString, (u32, Last<ExtensionObject>)))),
+            ),
+        )>::print_fields(alloc, src, place, names, text, out)
     }
 }
 

@@ -5,12 +5,15 @@ ghost use Rattle.base64.specs.Engines.{standard};
 ghost use Rattle.base64.specs.GeneralPurpose.{encode_of};
 ghost use Rattle.hex.specs.Hex.{encode_lower};
 ghost use Rattle.ua_pair.specs.Printing.{PrintsPieces};
-ghost use Rattle.ua_texts.specs.Shown.{escaped, octets_text, shown};
+ghost use Rattle.ua_pair.specs.Tree.{line};
+ghost use Rattle.ua_texts.specs.Shown.{escaped, octets_text, shown, written_text};
 
+use crate::fields::lines::{Place, push_line, push_start};
 use crate::printing::{PrintFault, write_full};
 use base64::engine::general_purpose::STANDARD;
 use std::alloc::{AllocError, Global};
 use std::io::Write;
+use ua_builtin::{Wire, WriteFault};
 use ua_texts::{push_char, push_escaped_char};
 
 /// The bytes of a piece, which base64 has in groups of three. A value of no more bytes is printed
@@ -95,4 +98,80 @@ pub(crate) fn print_octets<O: Write>(
     }
     push_digits(alloc, rest, text)?;
     Ok(())
+}
+
+/// Prints the line of a text, escaped, in pieces.
+pub(crate) fn print_escaped_line<O: Write>(
+    place: Place<'_>,
+    value: &str,
+    text: &mut String,
+    out: &mut O,
+) -> Result<(), PrintFault>
+    ensures { PrintsPieces (O.contents out.old) (string_bytes text.old) (O.contents out.new) (string_bytes text.new)
+        (line place.entry.margin.now place.entry.path.now (escaped value.now)) result }
+{
+    push_start(text, place)?;
+    print_escaped(value, text, out)?;
+    text.push_str("\n")?;
+    write_full(text, out)?;
+    Ok(())
+}
+
+/// Prints the line of bytes in base64, in pieces.
+pub(crate) fn print_base64_line<O: Write>(
+    place: Place<'_>,
+    octets: &[u8],
+    text: &mut String,
+    out: &mut O,
+) -> Result<(), PrintFault>
+    ensures { PrintsPieces (O.contents out.old) (string_bytes text.old) (O.contents out.new) (string_bytes text.new)
+        (line place.entry.margin.now place.entry.path.now (encode_of standard octets.now)) result }
+{
+    push_start(text, place)?;
+    print_base64(octets, text, out)?;
+    text.push_str("\n")?;
+    write_full(text, out)?;
+    Ok(())
+}
+
+/// Prints the line of bytes as `0x` and their hexadecimal digits, in pieces.
+pub(crate) fn print_octets_line<O: Write>(
+    alloc: Global,
+    place: Place<'_>,
+    octets: &[u8],
+    text: &mut String,
+    out: &mut O,
+) -> Result<(), PrintFault>
+    ensures { PrintsPieces (O.contents out.old) (string_bytes text.old) (O.contents out.new) (string_bytes text.new)
+        (line place.entry.margin.now place.entry.path.now (octets_text octets.now)) result }
+{
+    push_start(text, place)?;
+    print_octets(alloc, octets, text, out)?;
+    text.push_str("\n")?;
+    write_full(text, out)?;
+    Ok(())
+}
+
+/// Prints the line of a value by the bytes of its canonical encoding, in pieces, or `unwritable` if
+/// it has none.
+pub(crate) fn print_encoded_line<T: Wire, O: Write>(
+    alloc: Global,
+    place: Place<'_>,
+    value: &T,
+    text: &mut String,
+    out: &mut O,
+) -> Result<(), PrintFault>
+    ensures { PrintsPieces (O.contents out.old) (string_bytes text.old) (O.contents out.new) (string_bytes text.new)
+        (line place.entry.margin.now place.entry.path.now
+        (written_text (T.format.encodable value.now) (T.format.canonical value.now))) result }
+{
+    let mut octets = Vec::new(alloc);
+    match value.write(&mut octets) {
+        Ok(()) => print_octets_line(alloc, place, octets.as_slice(), text, out),
+        Err(WriteFault::NotWritable) => {
+            push_line(text, place, "unwritable")?;
+            Ok(())
+        }
+        Err(WriteFault::OutOfMemory) => Err(PrintFault::OutOfMemory),
+    }
 }

@@ -3,31 +3,76 @@
 ghost use Rattle.std.specs.Prelude.{◌≡◌, ℕ, List, [], length, map, string_bytes};
 ghost use Rattle.ua_builtin.specs.Format.{most_levels};
 ghost use Rattle.ua_opening.specs.Array.{array as array_format, items_at};
-ghost use Rattle.ua_pair.specs.Printing.{BreaksRead, PrintsText, PrintsRead};
+ghost use Rattle.ua_pair.specs.Printing.{BreaksRead, PrintsOrBreaks, PrintsText, PrintsRead, told_print};
 ghost use Rattle.ua_pair.specs.Tree.{AreElementsBehind, AreFieldsBehind, IsBehind, array_of, element_path};
 ghost use Rattle.ua_pair.specs.Tree.{field_margin, field_path, tree_elements};
 
 use crate::fields::array::push_count;
 use crate::fields::lines::{Lines, Place, deeper_margin, push_line};
 use crate::fields::path::{path_of_element, path_of_field};
-use crate::printing::{TellFault, write_full};
+use crate::fields::pieces::PIECE;
+use crate::printing::{PrintFault, TellFault, write_full};
 use std::alloc::Global;
 use std::io::Write;
 use ua_builtin::{FIRST_NEGATIVE, MOST_LEVELS, Source, Wire};
 use ua_services::UaArray;
 
-/// A value that is printed as it is read. One that holds no array is read whole, and dropped before
-/// the next one is read; one that does has a `print` of its own, which reads an element at a time.
+/// Prints the lines of a value.
+pub(crate) fn print_lines<T: Lines, O: Write>(
+    alloc: Global,
+    value: &T,
+    place: Place,
+    text: &mut String,
+    out: &mut O,
+) -> Result<(), PrintFault>
+    ensures { PrintsOrBreaks place.entry.style (O.contents out.old) (string_bytes text.old) (O.contents out.new)
+        (string_bytes text.new)
+        (IsBehind place.entry.style place.entry.margin.now place.entry.path.now [] (T.tree value.now)) result }
+{
+    value.push_lines(alloc, text, place)?;
+    write_full(text, out)?;
+    Ok(())
+}
+
+/// What is returned where the lines of a value that was read are printed or not.
+fn tell_printed(printed: Result<(), PrintFault>) -> Result<(), TellFault>
+    ensures { result ≡ told_print printed }
+{
+    match printed {
+        Ok(()) => Ok(()),
+        Err(PrintFault::OutOfMemory) => Err(TellFault::OutOfMemory),
+        Err(PrintFault::Output(error)) => Err(TellFault::Output(error)),
+    }
+}
+
+/// A value that is printed as it is read. One that has no fields of its own is read whole, and
+/// dropped before the next one is read; its text, where it is long, is printed in pieces. A structure
+/// or an array has a `print` of its own, which reads a field or an element at a time.
 pub(crate) trait Printed: Lines + Wire + Drop {
     ghost use Rattle.std.specs.Prelude.{◌≡◌, ℕ, List, [], cond, string_bytes};
     ghost use Rattle.ua_builtin.specs.Format.{most_levels};
-    ghost use Rattle.ua_pair.specs.Printing.{BreaksRead, PrintsText, PrintsRead};
+    ghost use Rattle.ua_pair.specs.Printing.{BreaksRead, PrintsOrBreaks, PrintsText, PrintsRead};
     ghost use Rattle.ua_pair.specs.Tree.{IsBehind, deeper, field_margin};
 
     /// Whether it is a structure, which has no line of its own: its fields are one level deeper.
     fn is_structure() -> bool
         ensures { (margin : List ℕ) (value : Self)
             → field_margin margin (Self.tree value) ≡ cond result (deeper margin) margin };
+
+    /// Prints the lines of a value whose encoding is long, its text in pieces.
+    fn print_long<O: Write>(
+        &self,
+        alloc: Global,
+        place: Place,
+        text: &mut String,
+        out: &mut O,
+    ) -> Result<(), PrintFault>
+        ensures { PrintsOrBreaks place.entry.style (O.contents out.old) (string_bytes text.old) (O.contents out.new)
+            (string_bytes text.new)
+            (IsBehind place.entry.style place.entry.margin.now place.entry.path.now [] (Self.tree self.now)) result }
+    {
+        print_lines(alloc, self, place, text, out)
+    }
 
     /// Reads the value at the start of the source, and prints its lines. After an error, discard
     /// the source.
@@ -47,7 +92,11 @@ pub(crate) trait Printed: Lines + Wire + Drop {
             (λ value. IsBehind place.entry.style place.entry.margin.now place.entry.path.now [] (Self.tree value)))
             result }
     {
+        let left = src.left();
         let value = Self::read_value(alloc, src, MOST_LEVELS)?;
+        if left.saturating_sub(src.left()) > PIECE {
+            return tell_printed(value.print_long(alloc, place, text, out));
+        }
         value.push_lines(alloc, text, place)?;
         drop(value);
         write_full(text, out)?;

@@ -2,8 +2,12 @@
 //! The structures of the SecureChannel services, as lines.
 
 use crate::fields::lines::{Lines, Place, push_fields};
+use crate::fields::printing::{Last, Printed, PrintedFields};
+use crate::printing::TellFault;
 use std::alloc::{AllocError, Global};
-use ua_services::{CloseRequest, OpenRequest};
+use std::io::Write;
+use ua_builtin::{Source, UaBytes};
+use ua_services::{CloseRequest, OpenRequest, RequestHeader};
 
 impl Lines for OpenRequest {
     ghost use Rattle.ua_pair.specs.Tree.{structure};
@@ -20,6 +24,34 @@ impl Lines for OpenRequest {
     }
 }
 
+impl Printed for OpenRequest {
+    fn is_structure() -> bool {
+        true
+    }
+
+    fn print<S: Source, O: Write>(
+        alloc: Global,
+        src: &mut S,
+        place: Place,
+        text: &mut String,
+        out: &mut O,
+    ) -> Result<(), TellFault> {
+        let names = (
+            "request_header",
+            (
+                "client_protocol_version",
+                (
+                    "request_type",
+                    ("security_mode", ("client_nonce", "requested_lifetime")),
+                ),
+            ),
+        );
+        <(RequestHeader, (u32, (i32, (i32, (UaBytes, Last<u32>)))))>::print_fields(
+            alloc, src, place, names, text, out,
+        )
+    }
+}
+
 impl Lines for CloseRequest {
     ghost use Rattle.ua_pair.specs.Tree.{structure};
     ghost use Rattle.ua_pair.specs.SecureChannel.{close_request_entries};
@@ -29,5 +61,22 @@ impl Lines for CloseRequest {
     #[tactic(auto, unfolding(crate::specs::SecureChannel::close_request_entries))]
     fn push_lines(&self, alloc: Global, out: &mut String, place: Place) -> Result<(), AllocError> {
         push_fields!(self, alloc, out, place => push_part request_header)
+    }
+}
+
+impl Printed for CloseRequest {
+    fn is_structure() -> bool {
+        true
+    }
+
+    fn print<S: Source, O: Write>(
+        alloc: Global,
+        src: &mut S,
+        place: Place,
+        text: &mut String,
+        out: &mut O,
+    ) -> Result<(), TellFault> {
+        let names = "request_header";
+        <Last<RequestHeader>>::print_fields(alloc, src, place, names, text, out)
     }
 }

@@ -30,6 +30,17 @@ impl Printed for SignedSoftwareCertificate {
     fn is_structure() -> bool {
         true
     }
+
+    fn print<S: Source, O: Write>(
+        alloc: Global,
+        src: &mut S,
+        place: Place,
+        text: &mut String,
+        out: &mut O,
+    ) -> Result<(), TellFault> {
+        let names = ("certificate_data", "signature");
+        <(UaBytes, Last<UaBytes>)>::print_fields(alloc, src, place, names, text, out)
+    }
 }
 
 impl Lines for SignatureData {
@@ -47,6 +58,17 @@ impl Lines for SignatureData {
 impl Printed for SignatureData {
     fn is_structure() -> bool {
         true
+    }
+
+    fn print<S: Source, O: Write>(
+        alloc: Global,
+        src: &mut S,
+        place: Place,
+        text: &mut String,
+        out: &mut O,
+    ) -> Result<(), TellFault> {
+        let names = ("algorithm", "signature");
+        <(UaString, Last<UaBytes>)>::print_fields(alloc, src, place, names, text, out)
     }
 }
 
@@ -312,6 +334,17 @@ impl Lines for CloseSessionRequest {
 impl Printed for CloseSessionRequest {
     fn is_structure() -> bool {
         true
+    }
+
+    fn print<S: Source, O: Write>(
+        alloc: Global,
+        src: &mut S,
+        place: Place,
+        text: &mut String,
+        out: &mut O,
+    ) -> Result<(), TellFault> {
+        let names = ("request_header", "delete_subscriptions");
+        <(RequestHeader, Last<bool>)>::print_fields(alloc, src, place, names, text, out)
     }
 }
 

@@ -1,6 +1,13 @@
-//! Values that hold no array, and are printed whole.
+//! Values without fields of their own, which are read whole, and printed in pieces where they are
+//! long.
 
-use crate::fields::printing::Printed;
+use crate::fields::lines::Place;
+use crate::fields::null::{is_empty, is_null_name, is_null_object, is_null_text};
+use crate::fields::pieces::{print_base64_line, print_encoded_line, print_escaped_line};
+use crate::fields::printing::{Printed, print_lines};
+use crate::printing::PrintFault;
+use std::alloc::Global;
+use std::io::Write;
 use ua_builtin::{
     DateTime, DoubleBits, ExtensionObject, LocalizedText, NodeId, QualifiedName, StatusCode,
     UaBytes, UaString,
@@ -53,11 +60,37 @@ impl Printed for UaString {
     fn is_structure() -> bool {
         false
     }
+
+    fn print_long<O: Write>(
+        &self,
+        alloc: Global,
+        place: Place,
+        text: &mut String,
+        out: &mut O,
+    ) -> Result<(), PrintFault> {
+        match self.as_str() {
+            Some(value) => print_escaped_line(place, value, text, out),
+            None => print_lines(alloc, self, place, text, out),
+        }
+    }
 }
 
 impl Printed for UaBytes {
     fn is_structure() -> bool {
         false
+    }
+
+    fn print_long<O: Write>(
+        &self,
+        alloc: Global,
+        place: Place,
+        text: &mut String,
+        out: &mut O,
+    ) -> Result<(), PrintFault> {
+        match self.as_octets() {
+            Some(octets) => print_base64_line(place, octets, text, out),
+            None => print_lines(alloc, self, place, text, out),
+        }
     }
 }
 
@@ -65,11 +98,35 @@ impl Printed for NodeId {
     fn is_structure() -> bool {
         false
     }
+
+    fn print_long<O: Write>(
+        &self,
+        alloc: Global,
+        place: Place,
+        text: &mut String,
+        out: &mut O,
+    ) -> Result<(), PrintFault> {
+        let shown = self.to_text(alloc)?;
+        print_escaped_line(place, &shown, text, out)
+    }
 }
 
 impl Printed for QualifiedName {
     fn is_structure() -> bool {
         false
+    }
+
+    fn print_long<O: Write>(
+        &self,
+        alloc: Global,
+        place: Place,
+        text: &mut String,
+        out: &mut O,
+    ) -> Result<(), PrintFault> {
+        if place.style.plain || is_null_name(self) {
+            return print_lines(alloc, self, place, text, out);
+        }
+        print_encoded_line(alloc, place, self, text, out)
     }
 }
 
@@ -77,17 +134,56 @@ impl Printed for LocalizedText {
     fn is_structure() -> bool {
         false
     }
+
+    fn print_long<O: Write>(
+        &self,
+        alloc: Global,
+        place: Place,
+        text: &mut String,
+        out: &mut O,
+    ) -> Result<(), PrintFault> {
+        if place.style.plain || is_null_text(self) {
+            return print_lines(alloc, self, place, text, out);
+        }
+        print_encoded_line(alloc, place, self, text, out)
+    }
 }
 
 impl Printed for DiagnosticInfo {
     fn is_structure() -> bool {
         false
     }
+
+    fn print_long<O: Write>(
+        &self,
+        alloc: Global,
+        place: Place,
+        text: &mut String,
+        out: &mut O,
+    ) -> Result<(), PrintFault> {
+        if place.style.plain || is_empty(self) {
+            return print_lines(alloc, self, place, text, out);
+        }
+        print_encoded_line(alloc, place, self, text, out)
+    }
 }
 
 impl Printed for ExtensionObject {
     fn is_structure() -> bool {
         false
+    }
+
+    fn print_long<O: Write>(
+        &self,
+        alloc: Global,
+        place: Place,
+        text: &mut String,
+        out: &mut O,
+    ) -> Result<(), PrintFault> {
+        if place.style.plain || is_null_object(self) {
+            return print_lines(alloc, self, place, text, out);
+        }
+        print_encoded_line(alloc, place, self, text, out)
     }
 }
 
