@@ -18,4 +18,5 @@ mod Printings
 mod Pieces
 mod Long
 mod PrintedBodies
+mod Headed
 mod Titles

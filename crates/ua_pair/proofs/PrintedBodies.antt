@@ -28,7 +28,7 @@ use Rattle.ua_wire.specs.declared.fault.ReadFault.TheVariants as read_fault
 use Rattle.ua_texts.specs.PlainLeaf.{Either}
 use Rattle.ua_pair.specs.Bodies.{IsBodyText, IsFound, IsHeaderText, behind_id}
 use Rattle.ua_pair.specs.Messages.{AreMessageLines, close_request_tree, open_answer_tree, open_request_tree, request_tree, response_tree, service_fault_tree}
-use Rattle.ua_pair.specs.Printing.{BreaksOffLines, BreaksRead, EachHasText, IsTextBehind, IsWholeBehind, PrintsText, PrintsLines, PrintsOrBreaks, PrintsRead}
+use Rattle.ua_pair.specs.Printing.{BreaksOffLines, BreaksRead, EachHasText, IsTextBehind, IsThereBehind, PrintsText, PrintsLines, PrintsOrBreaks, PrintsRead}
 use Rattle.ua_pair.specs.Printing.{behind_id_read, tell_fault}
 use Rattle.ua_pair.specs.Styles.{style_of}
 use Rattle.ua_pair.specs.Told.{IsHeaderOf}
@@ -147,8 +147,8 @@ unfolding request request_read
 request_known k octets e = request_by k (node_id.decode octets) _ e
 
 pub request_whole : (k : RequestKind) (octets : List ℕ) → ◌≡◌ {A = Result RequestKind RequestFault} (Ok k) (kind_alone (request_read octets))
-    → IsWholeBehind (requests.format k) octets
-request_whole k octets e = let found = request_known k octets e in (found.0, found.1)
+    → IsThereBehind (requests.format k) octets
+request_whole k octets e = let found = request_known k octets e in (found.0, [], found.1)
 
 -- its lines are those of the body
 request_text : (k : RequestKind) (style : FieldStyle) (octets text : List ℕ)
@@ -204,8 +204,8 @@ unfolding response response_read
 response_known k octets e = response_by k (node_id.decode octets) _ e
 
 pub response_whole : (k : ResponseKind) (octets : List ℕ) → ◌≡◌ {A = Result ResponseKind ResponseFault} (Ok k) (response_kind_alone (response_read octets))
-    → IsWholeBehind (responses.format k) octets
-response_whole k octets e = let found = response_known k octets e in (found.0, found.1)
+    → IsThereBehind (responses.format k) octets
+response_whole k octets e = let found = response_known k octets e in (found.0, [], found.1)
 
 -- its lines are those of the body
 response_text : (k : ResponseKind) (style : FieldStyle) (octets text : List ℕ)
@@ -274,12 +274,12 @@ pub known_printed : {A : Type 0} (format : Format A) (octets new : List ℕ) (a 
 known_printed format octets new a b ka kb Is h = record { lines = h.2.lines; printed = h.2.printed; holds = (h.0, new, h.1, h.2.holds) }
 
 pub known_breaks : {A : Type 0} (style : FieldStyle) (format : Format A) (octets : List ℕ) (a b : Option (List ℕ)) (ka : List ℕ) (Is : A → List ℕ → Type 0)
-    → IsWholeBehind format octets → BreaksRead style (behind_id_read format) octets a ka b Is → BreaksOffLines style a ka b (IsTextBehind format Is octets)
+    → IsThereBehind format octets → BreaksRead style (behind_id_read format) octets a ka b Is → BreaksOffLines style a ka b (IsTextBehind format Is octets)
 known_breaks style format octets a b ka Is there h =
-    breaks_as style a b ka (Is there.0) (IsTextBehind format Is octets) (λ text x. (there.0, [], there.1, x)) (h there.0 [] there.1)
+    breaks_as style a b ka (Is there.0) (IsTextBehind format Is octets) (λ text x. (there.0, there.1, there.2, x)) (h there.0 there.1 there.2)
 
-pub known_is_there : {A : Type 0} (format : Format A) (octets : List ℕ) → IsWholeBehind format octets → behind_id_read format octets ≡ None → ⊥
-known_is_there format octets h e = let both = sym h.1 ∙ e in absurd cc
+pub known_is_there : {A : Type 0} (format : Format A) (octets : List ℕ) → IsThereBehind format octets → behind_id_read format octets ≡ None → ⊥
+known_is_there format octets h e = let both = sym h.2 ∙ e in absurd cc
 
 -- ---- the lines that a body has, where each value has a text
 
@@ -296,7 +296,7 @@ body_has style t body.OpenResponse octets = found_has _ (answer_read octets) (λ
 body_has style t body.CloseRequest octets =
     found_has _ (body_of (message 452 close_request) octets) (λ m. tree_has style t (codes "  ") [] [] (close_request_tree m))
 
-header_text_has : (style : FieldStyle) → EachHasText style → (side : Side) (octets : List ℕ) → (text : List ℕ) × IsHeaderText style side octets text
+pub header_text_has : (style : FieldStyle) → EachHasText style → (side : Side) (octets : List ℕ) → (text : List ℕ) × IsHeaderText style side octets text
 header_text_has style t Client octets = found_has _ (behind_id close_request octets) (λ m. tree_has style t (codes "  ") [] [] (close_request_tree m))
 header_text_has style t Server octets = found_has _ (behind_id service_fault octets) (λ m. tree_has style t (codes "  ") [] [] (service_fault_tree m))
 

@@ -99,9 +99,9 @@ told_print (Err (print.Output error)) = Err (Output error)
 abbrev pub behind_id_read : {A : Type 0} → Format A → List ℕ → Option (A × List ℕ)
 behind_id_read format = then_read node_id.decode (λ id. format.decode most_levels)
 
--- the bytes are a NodeId and a structure after it
-abbrev pub IsWholeBehind : {A : Type 0} → Format A → List ℕ → Type 0
-IsWholeBehind {A = A} format octets = (value : A) × (behind_id_read format octets ≡ Some (value, []))
+-- the bytes begin with a NodeId and a structure after it
+abbrev pub IsThereBehind : {A : Type 0} → Format A → List ℕ → Type 0
+IsThereBehind {A = A} format octets = (value : A) × (rest : List ℕ) × (behind_id_read format octets ≡ Some (value, rest))
 
 -- this holds of a text by the structure after the NodeId at the start of the bytes
 abbrev pub IsTextBehind : {A : Type 0} → Format A → (A → List ℕ → Type 0) → List ℕ → List ℕ → Type 0

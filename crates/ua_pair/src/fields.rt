@@ -8,6 +8,7 @@ mod attribute;
 mod body;
 mod data_value;
 mod discovery;
+mod headed;
 mod header;
 mod identity;
 mod leaves;
@@ -26,6 +27,7 @@ mod whole;
 
 pub(crate) use body::{push_body_text, push_header_fields};
 pub use body::{BodyKind, push_body_fields};
+pub(crate) use headed::print_header;
 pub use message::{
     push_close_request_fields, push_open_answer_fields, push_open_request_fields,
     push_open_response_fields, push_request_fields, push_response_fields,

@@ -28,7 +28,7 @@ ghost use Rattle.ua_pair.specs.Told.{IsItemText, IsOpenedText, line_if, place_be
 
 use crate::encoding::push_encoding;
 use crate::fault::DissectFault;
-use crate::fields::{BodyKind, print_message, push_body_text, push_header_fields};
+use crate::fields::{BodyKind, print_header, print_message, push_body_text, push_header_fields};
 use crate::line::{
     GreetingLine, push_aborted_line, push_chunk_line, push_message_line, push_message_start,
     push_newline, push_opening_line,
@@ -261,6 +261,25 @@ fn print_fields<O: Write>(
     }
 }
 
+/// Prints the lines of the header of a message of no known kind, if fields are wanted.
+fn print_header_if<O: Write>(
+    alloc: Global,
+    options: &DissectOptions,
+    unsupported: bool,
+    message: &Message,
+    text: &mut String,
+    out: &mut O,
+) -> Result<(), PrintFault>
+    ensures { PrintsOrBreaks (style_of options.now) (O.contents out.old) (string_bytes text.old) (O.contents out.new)
+        (string_bytes text.new) (IsHeaderOf options.now unsupported (concat message.now)) result }
+{
+    if options.fields && unsupported {
+        print_header(alloc, options.side, options.style(), message, text, out)
+    } else {
+        Ok(())
+    }
+}
+
 /// Prints the lines of the fields of the message whose line is appended, if they are wanted; none
 /// where no message is pending.
 pub fn print_pending<O: Write>(
@@ -277,8 +296,14 @@ pub fn print_pending<O: Write>(
         return Ok(());
     };
     print_fields(alloc, options, &pending.message, text, out)?;
-    push_header(alloc, options, pending.unsupported, &pending.message, text)?;
-    Ok(())
+    print_header_if(
+        alloc,
+        options,
+        pending.unsupported,
+        &pending.message,
+        text,
+        out,
+    )
 }
 
 /// Appends the line of a message, whose fields are pending then.

@@ -192,7 +192,10 @@ pub fn push_body_fields<S: Source>(
 }
 
 /// The value after the NodeId at the start of bytes, whatever follows it.
-fn found_behind<T: Wire, S: Source>(alloc: Global, src: &mut S) -> Result<Option<T>, AllocError>
+pub(crate) fn found_behind<T: Wire, S: Source>(
+    alloc: Global,
+    src: &mut S,
+) -> Result<Option<T>, AllocError>
     ensures { IfOk result (λ found. found ≡ behind_id T.format (S.octets src.old)) }
 {
     match NodeId::read_value(alloc, src, MOST_LEVELS) {

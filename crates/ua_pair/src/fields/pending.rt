@@ -5,7 +5,7 @@ ghost use Rattle.std.specs.Prelude.{◌≡◌, List, ℕ, [], Result, Ok, string
 ghost use Rattle.ua_pair.specs.Bodies.{IsBodyText};
 ghost use Rattle.ua_pair.specs.Messages.{AreMessageLines};
 ghost use Rattle.ua_pair.specs.Names.{message_kind};
-ghost use Rattle.ua_pair.specs.Printing.{BreaksRead, IsTextBehind, IsWholeBehind};
+ghost use Rattle.ua_pair.specs.Printing.{BreaksRead, IsTextBehind, IsThereBehind};
 ghost use Rattle.ua_pair.specs.Printing.{PrintsText, PrintsOrBreaks, PrintsRead};
 ghost use Rattle.ua_pair.specs.Printing.{behind_id_read};
 ghost use Rattle.ua_pair.specs.declared.fields.body.BodyKind.TheVariants as body;
@@ -14,17 +14,19 @@ ghost use Rattle.ua_services.specs.Response.{response_kind_alone, response_read}
 ghost use Rattle.ua_services.specs.declared.fault.RequestFault.{RequestFault};
 ghost use Rattle.ua_services.specs.declared.fault.ResponseFault.{ResponseFault};
 
-use crate::fields::body::{BodyKind, push_body_text};
 use crate::fields::lines::Place;
 use crate::fields::printing::Printed;
 use crate::options::FieldStyle;
-use crate::printing::{PrintFault, TellFault, write_full};
+use crate::printing::{PrintFault, TellFault};
 use crate::side::Side;
 use std::alloc::Global;
 use std::io::Write;
 use ua_builtin::{MOST_LEVELS, NodeId, Parts, Source, Wire};
 use ua_chunk::Message;
-use ua_services::{RequestKind, ResponseKind, requests, responses, skip_request, skip_response};
+use ua_services::{
+    RequestFault, RequestKind, ResponseFault, ResponseKind, requests, responses, skip_request,
+    skip_response,
+};
 
 /// Reads the NodeId at the start of the source, and the structure after it, and prints the lines of
 /// the structure.
@@ -52,50 +54,48 @@ fn print_behind<T: Printed, S: Source, O: Write>(
     T::print(alloc, src, place, text, out)
 }
 
-/// Prints the lines of the structure that a message is after its NodeId.
-fn print_known<T: Printed, O: Write>(
+/// Prints the lines of the structure that is there after the NodeId at the start of the source.
+/// Discard the source afterwards.
+fn print_known<T: Printed, S: Source, O: Write>(
     alloc: Global,
     style: FieldStyle,
-    message: &Message,
+    src: &mut S,
     text: &mut String,
     out: &mut O,
 ) -> Result<(), PrintFault>
-    requires { IsWholeBehind T.format (concat message.now) }
+    requires { IsThereBehind T.format (S.octets src.old) }
     ensures { PrintsOrBreaks style (O.contents out.old) (string_bytes text.old) (O.contents out.new)
         (string_bytes text.new) (IsTextBehind T.format (λ value. AreMessageLines style (T.tree value))
-        (concat message.now)) result }
+        (S.octets src.old)) result }
 {
-    let mut src = message.source();
-    match print_behind::<T, Parts<'_>, O>(alloc, style, &mut src, text, out) {
+    match print_behind::<T, S, O>(alloc, style, src, text, out) {
         Ok(()) | Err(TellFault::NoValue) => Ok(()),
         Err(TellFault::OutOfMemory) => Err(PrintFault::OutOfMemory),
         Err(TellFault::Output(error)) => Err(PrintFault::Output(error)),
     }
 }
 
-/// Prints the lines of a body that is decoded whole.
-fn print_whole<O: Write>(
+/// Prints the lines of the structure that is there after the NodeId of a message.
+pub(crate) fn print_message_of<T: Printed, O: Write>(
     alloc: Global,
-    kind: BodyKind,
     style: FieldStyle,
     message: &Message,
     text: &mut String,
     out: &mut O,
 ) -> Result<(), PrintFault>
+    requires { IsThereBehind T.format (concat message.now) }
     ensures { PrintsOrBreaks style (O.contents out.old) (string_bytes text.old) (O.contents out.new)
-        (string_bytes text.new) (IsBodyText style kind (concat message.now)) result }
+        (string_bytes text.new) (IsTextBehind T.format (λ value. AreMessageLines style (T.tree value))
+        (concat message.now)) result }
 {
-    let mut src = message.source();
-    push_body_text(alloc, kind, style, &mut src, text)?;
-    write_full(text, out)?;
-    Ok(())
+    print_known::<T, Parts<'_>, O>(alloc, style, &mut message.source(), text, out)
 }
 
 /// Prints the lines of a message of a kind, as the structure that it holds is read.
 macro_rules! print_of_kind {
     ($all:ident $kinds:ident [$($kind:ident($held:ident) = $of:literal,)+] $of_kind:expr, $out:ident, $given:tt) => {
         match $of_kind {
-            $($kinds::$kind => print_known::<ua_services::$held, $out> $given,)+
+            $($kinds::$kind => print_message_of::<ua_services::$held, $out> $given,)+
         }
     };
 }
@@ -129,7 +129,9 @@ fn print_request<O: Write>(
 {
     match skip_request(alloc, &mut message.source()) {
         Ok(kind) => print_request_of(alloc, kind, style, message, text, out),
-        Err(_) => print_whole(alloc, BodyKind::Request, style, message, text, out),
+        Err(RequestFault::Unsupported(_)) => Ok(()),
+        Err(RequestFault::Unreadable(_)) => Ok(()),
+        Err(RequestFault::OutOfMemory) => Err(PrintFault::OutOfMemory),
     }
 }
 
@@ -163,7 +165,9 @@ fn print_response<O: Write>(
 {
     match skip_response(alloc, &mut message.source()) {
         Ok(kind) => print_response_of(alloc, kind, style, message, text, out),
-        Err(_) => print_whole(alloc, BodyKind::Response, style, message, text, out),
+        Err(ResponseFault::Unknown) => Ok(()),
+        Err(ResponseFault::Unreadable) => Ok(()),
+        Err(ResponseFault::OutOfMemory) => Err(PrintFault::OutOfMemory),
     }
 }
 

@@ -1,14 +1,14 @@
-use Rattle.std.proofs.Common.{[], Err, List, ℕ, Option, Some, refl, string_bytes, subst, sym}
+use Rattle.std.proofs.Common.{[], Err, List, ℕ, Option, string_bytes, subst, sym}
 use Rattle.std.specs.List.{concat}
 use Rattle.ua_pair.specs.Names.{message_kind}
-use Rattle.ua_pair.specs.Printing.{BreaksOffLines, PrintsText, PrintsOrBreaks}
+use Rattle.ua_pair.specs.Printing.{PrintsOrBreaks}
 use Rattle.ua_pair.specs.Styles.{style_of}
 use Rattle.ua_pair.specs.Telling.{ArePendingLines}
 use Rattle.ua_pair.specs.Told.{AreFieldsOf, IsHeaderOf}
 use Rattle.ua_pair.specs.declared.teller.Pending.{Pending}
 use Rattle.std.proofs.lemmas.Result.{err_from_is_err_and}
-use Rattle.ua_pair.proofs.PrintedBodies.{fields_break, header_breaks, nothing_printed, only_added}
-use Rattle.ua_pair.proofs.Printings.{prints_then}
+use Rattle.ua_pair.proofs.Headed.{fields_then_header}
+use Rattle.ua_pair.proofs.PrintedBodies.{fields_break, nothing_printed}
 use Rattle.ua_pair.proofs.teller.print_pending.Goals as goal
 
 pub returns-in_default : goal.returns-in_default
@@ -25,26 +25,13 @@ returns-in_err-print_fields g c =
     (fields_break options c.in-Some.pending.unsupported octets _ _ _ [] (AreFieldsOf options (message_kind options.side) octets)
     c.in_err-print_fields.field-0.0 c.in_err-print_fields.ensures))
 
-pub returns-in_err-push_header : goal.returns-in_err-push_header
-returns-in_err-push_header g c =
-    let options = c.args.options.now in
-    let octets = concat c.in-Some.pending.message in
-    let p = err_from_is_err_and c.from_residual-in_err-push_header.result c.from_residual-in_err-push_header.ensures.1 in
-    rw (p.1, p.2)
-    (subst (λ (o : Option Pending). BreaksOffLines (style_of options) (g.O.Write.contents c.args.out.now) (string_bytes c.args.text.now)
-    (g.O.Write.contents c.print_fields.new.out) (ArePendingLines options o)) (sym c.in-Some.is)
-    (header_breaks options c.in-Some.pending.unsupported octets _ _ _ _ (AreFieldsOf options (message_kind options.side) octets)
-    c.in_ok-print_fields.ensures))
-
 pub returns : goal.returns
 returns g c =
     let options = c.args.options.now in
     let octets = concat c.in-Some.pending.message in
     let Fields : List ℕ → Type 0 = AreFieldsOf options (message_kind options.side) octets in
     let Header : List ℕ → Type 0 = IsHeaderOf options c.in-Some.pending.unsupported octets in
-    let Lines : List ℕ → Type 0 = ArePendingLines options (Some c.in-Some.pending) in
-    subst (λ (o : Option Pending). PrintsText (g.O.Write.contents c.args.out.now) (string_bytes c.args.text.now) (g.O.Write.contents c.print_fields.new.out)
-    (string_bytes c.push_header.new.lines) (ArePendingLines options o))
+    subst (λ (o : Option Pending). PrintsOrBreaks (style_of options) (g.O.Write.contents c.args.out.now) (string_bytes c.args.text.now)
+    (g.O.Write.contents c.print_header_if.new.out) (string_bytes c.print_header_if.new.text) (ArePendingLines options o) c.print_header_if.result)
     (sym c.in-Some.is)
-    (prints_then _ _ _ _ _ _ Fields Header Lines (λ a b x y. (a, b, refl, x, y)) c.in_ok-print_fields.ensures
-    (only_added _ _ _ Header c.in_ok-push_header.ensures))
+    (fields_then_header (style_of options) _ _ _ _ _ _ Fields Header c.print_header_if.result c.in_ok-print_fields.ensures c.print_header_if.ensures)
