@@ -189,7 +189,7 @@ RESPONSE = bytes(8) + struct.pack('<I', 1) + bytes(5) + NULL + bytes(3)
 ONE_VALUE = b'\x01\0\x7A\x02' + RESPONSE + struct.pack('<I', 1) + b'\x01'
 # An endpoint with null fields: up to its discovery URLs, and behind them.
 ENDPOINT = 3 * NULL + b'\0' + bytes(4) + 2 * NULL
-APPLIED = NULL + bytes(4) + 3 * NULL + b'\0'
+APPLIED, APPLICATION = NULL + bytes(4) + 3 * NULL + b'\0', ENDPOINT[4:] + NULL
 # A name, the option of the side that sends the message, and its octets before an array, after it, and of an element.
 PRINTED = [
     ('ReadResponse of empty DataValues', '--server', b'\x01\0\x7A\x02' + RESPONSE, NULL, b'\0'),
@@ -230,12 +230,11 @@ KEPT = [
     ('ReadResponse of a String that prints escaped', '--server', ONE_VALUE + b'\x0C', NULL, b'\1'),
     ('ReadResponse of a ByteString', '--server', ONE_VALUE + b'\x0F', NULL, b'a'),
     *[('ReadResponse of an array of %s' % name, '--server', ONE_VALUE + bytes([0x80 + kind]), NULL, one) for name, kind, one in VALUES],
+]
+# The same of the other kinds of message, and of fields whose text `dissect --fields` prints in pieces.
+LONG = [
     ('header of no known kind with a StringTable', '--server', b'\x01\0\x12\x02' + RESPONSE[:17], bytes(3), NULL),
     ('body of no known kind', '--server', b'\x01\0\xFF\xFF', b'', b'\0'),
-]
-# The same of the other kinds of message, and of other fields: for `dissect` alone.
-APPLICATION = ENDPOINT[4:] + NULL
-SKIPPED = [
     ('CreateSessionRequest of a session name', '', b'\x01\0\xCD\x01' + header(False) + APPLICATION + 2 * NULL, 2 * NULL + bytes(12), b'a'),
     ('CreateSessionRequest of an application name', '', b'\x01\0\xCD\x01' + header(False) + 2 * NULL + b'\2', APPLICATION[9:] + 5 * NULL + bytes(12), b'a'),
     ('CreateSessionResponse of endpoints', '--server', b'\x01\0\xD0\x01' + RESPONSE + bytes(12) + 2 * NULL, 3 * NULL + bytes(4), ENDPOINT + NULL + APPLIED),
@@ -247,10 +246,18 @@ SKIPPED = [
     ('CloseSessionResponse with a StringTable of null Strings', '--server', b'\x01\0\xDC\x01' + RESPONSE[:17], bytes(3), NULL),
     ('ServiceFault with a StringTable of null Strings', '--server', b'\x01\0\x8D\x01' + RESPONSE[:17], bytes(3), NULL),
     ('ServiceFault of an additional header', '--server', b'\x01\0\x8D\x01' + RESPONSE[:-1] + b'\1', b'', b'a'),
+    ('Read of a NodeId', '', READ + b'\1\0\0\0\3\0\0', b'\x0D\0\0\0' + NULL + bytes(2) + NULL, b'a'),
+    ('Read of an index range that prints escaped', '', READ + b'\1\0\0\0\0\1\x0D\0\0\0', bytes(2) + NULL, b'\1'),
+    ('Read of a name', '', READ + b'\1\0\0\0\0\1\x0D\0\0\0' + NULL + bytes(2), b'', b'a'),
+    ('CreateSessionRequest of a nonce', '', b'\x01\0\xCD\x01' + header(False) + APPLICATION + 3 * NULL, NULL + bytes(12), b'a'),
+    ('ReadResponse of a DiagnosticInfo', '--server', b'\x01\0\x7A\x02' + RESPONSE + NULL + b'\1\0\0\0\x10', b'', b'a'),
+    ('ReadResponse that is cut off, with a StringTable', '--server', b'\x01\0\x7A\x02' + RESPONSE[:17], bytes(3), NULL),
+]
+# The same for `dissect` alone: OPNs, and an array in a value.
+SKIPPED = [
     ('OpenSecureChannelRequest of a nonce', '', OPEN_REQUEST + header(False) + bytes(12), bytes(4), b'a'),
     ('OpenSecureChannelResponse of a nonce', '--server', OPEN_RESPONSE + RESPONSE + bytes(24), b'', b'a'),
     ('OpenSecureChannelResponse with a StringTable of null Strings', '--server', OPEN_RESPONSE + RESPONSE[:17], bytes(27) + NULL, NULL),
-    ('Read of a NodeId', '', READ + b'\1\0\0\0\3\0\0', b'\x0D\0\0\0' + NULL + bytes(2) + NULL, b'a'),
     ('Write of an array of null Variants', '', WRITE + b'\1\0\0\0' + item(TEXT, b'\1\x98'), b'', b'\0'),
 ]
 
@@ -367,9 +374,9 @@ def hold_bound(program: str, nodes: str) -> None:
         flag, memory = attempt(program, nodes, 0, request)
         if flag != 'F' or not memory or memory > BOUND:
             raise SystemExit('try_large: %s: not answered whole within %d kB' % (request[0], BOUND))
-    for message, options in [(it, []) for it in [*PRINTED, *KEPT, *SKIPPED]] + [(it, ['--fields']) for it in PRINTED]:
+    for message, options in [(it, []) for it in [*PRINTED, *LONG, *KEPT, *SKIPPED]] + [(it, ['--fields']) for it in [*PRINTED, *LONG]]:
         last, memory = dissect(program, 0, message, MOST, options)
-        if not last.startswith(b'end ') or not 0 < memory <= BOUND:
+        if not last.startswith(b'unreadable' if 'cut off' in message[0] else b'end ') or not 0 < memory <= BOUND:
             raise SystemExit('try_large: %s: not printed whole within %d kB' % (message[0], BOUND))
 
 
@@ -385,7 +392,7 @@ def main(words: list[str]) -> None:
             hold_bound(words[1] if len(words) > 1 else os.path.join(TOP, 'crates/ua_cli/out/ua_cli'), nodes.name)
         for request in REQUESTS if not bound else ():
             attempt(words[0], nodes.name, megabytes, request)
-        for message, options in [(it, []) for it in [*PRINTED, *KEPT, *SKIPPED]] + [(it, ['--fields']) for it in [*PRINTED, *KEPT]] if not bound else ():
+        for message, options in [(it, it_options) for it_options in ([], ['--fields']) for it in [*PRINTED, *LONG, *KEPT, *SKIPPED]] if not bound else ():
             dissect(words[0], megabytes, message, MOST_DISSECTED, options)
 
 
