@@ -17,6 +17,10 @@ mod Refusing
 mod Printings
 mod Pieces
 mod Long
+mod ValueTexts
+mod ValueElements
+mod ValueArrays
+mod ValueLines
 mod PrintedBodies
 mod Headed
 mod Titles

@@ -4,7 +4,8 @@ use Rattle.ua_builtin.specs.ExtensionObject.{extension_object as object_format}
 use Rattle.ua_builtin.specs.Format.{Format}
 use Rattle.ua_builtin.specs.declared.extension_object.ExtensionObject.{ExtensionObject}
 use Rattle.ua_pair.proofs.Printings.{nothing_breaks, tree_has}
-use Rattle.ua_pair.specs.Leaves.{below_object, encoded, encoded_text, extension_object_tree, is_null_object, object_line, object_text, object_or_token, token_of}
+use Rattle.ua_pair.specs.Leaves.{below_object, encoded, encoded_text, extension_object_tree}
+use Rattle.ua_pair.specs.Leaves.{is_null_object, object_line, object_text, object_or_token, token_of}
 use Rattle.ua_pair.specs.Printing.{BreaksOffLines, BreaksRead, PrintsOrBreaks, PrintsPieces, PrintsRead, PrintsText, told_print}
 use Rattle.ua_pair.specs.Tree.{IsBehind, IsPlainText, IsText, Leaf, Tree, exact_leaf_text, fixed, line, opened, same_leaf, text}
 use Rattle.ua_pair.specs.declared.options.FieldStyle.{FieldStyle}

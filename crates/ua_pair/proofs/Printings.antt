@@ -618,7 +618,7 @@ fields_printed style margin path name tree others first second octets mid new a 
 fields_printed style margin path name tree others first second octets mid new a b c ka kb kc (Err (Output error)) h k = tt
 
 -- where the value that is made of fields is there, they are
-image_there : {A B : Type 0} (make : A → B) (o : Option (A × List ℕ)) (value : B) (rest : List ℕ)
+pub image_there : {A B : Type 0} (make : A → B) (o : Option (A × List ℕ)) (value : B) (rest : List ℕ)
     → ◌>>=◌ {B = B × List ℕ} o (λ v. Some (make v.0, v.1)) ≡ Some (value, rest)
     → (x : A) × (o ≡ Some (x, rest)) × (make x ≡ value)
 image_there make None value rest e = absurd cc

@@ -1,9 +1,9 @@
 -- Lines that are printed as what they tell of is read: a writer has the first of them, and the
 -- others are kept until they are many. Where an allocation fails, what is kept is lost.
-use Rattle.std.specs.Prelude.{◌≡◌, ℕ, List, [], ◌++◌, Option, Some, None, Result, Ok, Err}
+use Rattle.std.specs.Prelude.{◌≡◌, ℕ, Bool, true, List, [], ◌++◌, Option, Some, None, Result, Ok, Err}
 use Rattle.std.specs.Io.KnownBytes.{Appends}
 use Rattle.ua_wire.specs.declared.fault.ReadFault.{ReadFault}
-use Rattle.ua_wire.specs.declared.fault.ReadFault.TheVariants as read
+use Rattle.ua_wire.specs.declared.fault.ReadFault.TheVariants as unread
 use Rattle.ua_builtin.specs.Exact.{then_read}
 use Rattle.ua_builtin.specs.Format.{Format, most_levels}
 use Rattle.ua_builtin.specs.NodeId.{node_id}
@@ -16,8 +16,13 @@ use Rattle.ua_pair.specs.declared.printing.TellFault.TheVariants.{NoValue, OutOf
 
 -- the error of a value that is not printed as it is read, which results from one of reading
 abbrev pub tell_fault : ReadFault → TellFault
-tell_fault read.NoValue = NoValue
-tell_fault read.OutOfMemory = OutOfMemory
+tell_fault unread.NoValue = NoValue
+tell_fault unread.OutOfMemory = OutOfMemory
+
+-- the same, which results from one of printing
+abbrev pub told_fault : PrintFault → TellFault
+told_fault print.OutOfMemory = OutOfMemory
+told_fault (print.Output error) = Output error
 
 -- lines came after those that are kept, and of all these the first were written: the others are
 -- kept
@@ -92,6 +97,34 @@ abbrev pub told_print : Result (Unit {0}) PrintFault → Result (Unit {0}) TellF
 told_print (Ok x) = Ok x
 told_print (Err print.OutOfMemory) = Err OutOfMemory
 told_print (Err (print.Output error)) = Err (Output error)
+
+-- ---- the text of a value that is printed as it is read
+
+-- the nesting depth that the value of a DataValue may have, and a scalar in that value
+abbrev pub value_levels : ℕ
+value_levels = 99
+
+abbrev pub element_levels : ℕ
+element_levels = 98
+
+-- the value at the start of bytes was read, and its text was printed; or there is none; or an
+-- allocation failed, and of the text of the value that is there the first part was printed
+abbrev pub PrintsValue : {A : Type 0} → (List ℕ → Option (A × List ℕ)) → (A → List ℕ) → List ℕ → List ℕ → Option (List ℕ) → List ℕ → Option (List ℕ) → List ℕ
+    → Result (Unit {0}) TellFault → Type 0
+PrintsValue {A = A} read shown old new before kept after left (Ok x) = (value : A) × (read old ≡ Some (value, new))
+    × PrintsLines before kept after left (shown value)
+PrintsValue read shown old new before kept after left (Err NoValue) = read old ≡ None
+PrintsValue {A = A} read shown old new before kept after left (Err OutOfMemory) = (value : A) (rest : List ℕ) → read old ≡ Some (value, rest)
+    → PrintsFront before kept after (shown value)
+PrintsValue read shown old new before kept after left (Err (Output error)) = Unit {0}
+
+-- the value at the start of bytes was read, and whether it can be encoded is told: where it can,
+-- other bytes are its canonical encoding
+abbrev pub Judges : {A : Type 0} → (A → Bool) → (A → List ℕ) → (List ℕ → Option (A × List ℕ)) → List ℕ → List ℕ → List ℕ → Result Bool ReadFault → Type 0
+Judges {A = A} encodable canonical read old new octets (Ok fits) = (value : A) × (read old ≡ Some (value, new)) × (encodable value ≡ fits)
+    × (fits ≡ true → octets ≡ canonical value)
+Judges encodable canonical read old new octets (Err unread.NoValue) = read old ≡ None
+Judges encodable canonical read old new octets (Err unread.OutOfMemory) = Unit {0}
 
 -- ---- a structure after a NodeId
 

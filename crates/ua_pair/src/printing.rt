@@ -85,6 +85,19 @@ impl From<ReadFault> for TellFault {
     }
 }
 
+impl From<PrintFault> for TellFault {
+    ghost use Rattle.ua_pair.specs.Printing.{told_fault};
+
+    ghost from_gives = { λ print fault. fault ≡ told_fault print };
+
+    fn from(fault: PrintFault) -> TellFault {
+        match fault {
+            PrintFault::OutOfMemory => TellFault::OutOfMemory,
+            PrintFault::Output(error) => TellFault::Output(error),
+        }
+    }
+}
+
 /// Writes the lines that are kept, and flushes them; leaves the writer alone where there are none.
 pub(crate) fn write_kept<O: Write>(text: &mut String, out: &mut O) -> io::Result<()>
     ensures printed { OnOk result (PrintsLines (O.contents out.old) (string_bytes text.old) (O.contents out.new)

@@ -12,7 +12,7 @@ use ua_builtin::{
     DateTime, DoubleBits, ExtensionObject, LocalizedText, NodeId, QualifiedName, StatusCode,
     UaBytes, UaString,
 };
-use ua_variant::{DataValue, DiagnosticInfo};
+use ua_variant::DiagnosticInfo;
 
 impl Printed for bool {
     fn is_structure() -> bool {
@@ -184,12 +184,5 @@ impl Printed for ExtensionObject {
             return print_lines(alloc, self, place, text, out);
         }
         print_encoded_line(alloc, place, self, text, out)
-    }
-}
-
-/// A value in it is read whole: its line says first whether all of it can be encoded again.
-impl Printed for DataValue {
-    fn is_structure() -> bool {
-        true
     }
 }

@@ -11,12 +11,14 @@ print_request_of-requires g c =
 
 pub returns-in-Err-Unsupported : goal.returns-in-Err-Unsupported
 returns-in-Err-Unsupported g c =
-    request_absent c.args.style (concat c.args.message.now) c.skip_request.result c.in-Err-Unsupported.field-0 _ _ (rw c.source.ensures at c.skip_request.ensures.kind)
+    request_absent c.args.style (concat c.args.message.now) c.skip_request.result c.in-Err-Unsupported.field-0 _ _
+    (rw c.source.ensures at c.skip_request.ensures.kind)
     c.in-Err-Unsupported.is (λ e. let both = sym c.in-Err-Unsupported.field-0-is ∙ e in cc)
 
 pub returns-in-Err-Unreadable : goal.returns-in-Err-Unreadable
 returns-in-Err-Unreadable g c =
-    request_absent c.args.style (concat c.args.message.now) c.skip_request.result c.in-Err-Unreadable.field-0 _ _ (rw c.source.ensures at c.skip_request.ensures.kind)
+    request_absent c.args.style (concat c.args.message.now) c.skip_request.result c.in-Err-Unreadable.field-0 _ _
+    (rw c.source.ensures at c.skip_request.ensures.kind)
     c.in-Err-Unreadable.is (λ e. let both = sym c.in-Err-Unreadable.field-0-is ∙ e in cc)
 
 pub returns-in-Err-OutOfMemory : goal.returns-in-Err-OutOfMemory

@@ -11,12 +11,14 @@ print_response_of-requires g c =
 
 pub returns-in-Err-Unknown : goal.returns-in-Err-Unknown
 returns-in-Err-Unknown g c =
-    response_absent c.args.style (concat c.args.message.now) c.skip_response.result c.in-Err-Unknown.field-0 _ _ (rw c.source.ensures at c.skip_response.ensures.kind)
+    response_absent c.args.style (concat c.args.message.now) c.skip_response.result c.in-Err-Unknown.field-0 _ _
+    (rw c.source.ensures at c.skip_response.ensures.kind)
     c.in-Err-Unknown.is (λ e. let both = sym c.in-Err-Unknown.field-0-is ∙ e in cc)
 
 pub returns-in-Err-Unreadable : goal.returns-in-Err-Unreadable
 returns-in-Err-Unreadable g c =
-    response_absent c.args.style (concat c.args.message.now) c.skip_response.result c.in-Err-Unreadable.field-0 _ _ (rw c.source.ensures at c.skip_response.ensures.kind)
+    response_absent c.args.style (concat c.args.message.now) c.skip_response.result c.in-Err-Unreadable.field-0 _ _
+    (rw c.source.ensures at c.skip_response.ensures.kind)
     c.in-Err-Unreadable.is (λ e. let both = sym c.in-Err-Unreadable.field-0-is ∙ e in cc)
 
 pub returns-in-Err-OutOfMemory : goal.returns-in-Err-OutOfMemory

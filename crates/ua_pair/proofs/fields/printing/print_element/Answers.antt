@@ -12,4 +12,4 @@ returns-in_err-path g c =
     (element_path c.args.place.path.now c.args.index) (g.T.Wire.format.decode most_levels) _ _ _)
 
 pub returns : goal.returns
-returns g c = rw (c.deref.ensures ∙ c.in_ok-path.ensures) at c.print.ensures
+returns g c = rw (c.as_str.ensures ∙ c.in_ok-path.ensures) at c.print.ensures

@@ -17,7 +17,7 @@ returns-then-not-is_structure g c =
     (field_path c.args.place.path.now c.args.name.now) (g.T.Wire.format.decode most_levels) _ _ _ _ _ _ c.print.result
     (λ v. c.is_structure.ensures c.args.place.margin.now v
     ∙ ap (λ b. cond b (deeper c.args.place.margin.now) c.args.place.margin.now) c.if-not-is_structure.true)
-    (rw (c.deref.ensures ∙ c.in_ok-path.ensures) at c.print.ensures)
+    (rw (c.as_str.ensures ∙ c.in_ok-path.ensures) at c.print.ensures)
 
 pub returns-in_err-margin : goal.returns-in_err-margin
 returns-in_err-margin g c =
@@ -31,4 +31,4 @@ returns g c =
     (field_path c.args.place.path.now c.args.name.now) (g.T.Wire.format.decode most_levels) _ _ _ _ _ _ c.print-2.result
     (λ v. c.is_structure.ensures c.args.place.margin.now v
     ∙ ap (λ b. cond b (deeper c.args.place.margin.now) c.args.place.margin.now) c.if-not-is_structure.false)
-    (rw (c.deref-2.ensures ∙ c.in_ok-margin.ensures, c.deref.ensures ∙ c.in_ok-path.ensures) at c.print-2.ensures)
+    (rw (c.deref.ensures ∙ c.in_ok-margin.ensures, c.as_str.ensures ∙ c.in_ok-path.ensures) at c.print-2.ensures)

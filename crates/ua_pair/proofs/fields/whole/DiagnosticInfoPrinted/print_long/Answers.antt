@@ -10,5 +10,6 @@ pub returns : goal.returns
 returns g c =
     let exact : c.args.place.style.plain ≡ false = cc in
     let some : is_empty (diagnostic_of c.args.self.now) ≡ false = cc in
-    encoded_pieces c.args.place.style _ _ diagnostic_format (λ v. is_empty (diagnostic_of v)) (λ names v. plain_diagnostic names (diagnostic_of v)) c.args.self.now _ _ _ _
+    encoded_pieces c.args.place.style _ _ diagnostic_format (λ v. is_empty (diagnostic_of v)) (λ names v. plain_diagnostic names (diagnostic_of v))
+    c.args.self.now _ _ _ _
     c.print_encoded_line.result exact some c.print_encoded_line.ensures
