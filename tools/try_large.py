@@ -33,33 +33,20 @@ import time
 from array import array as array_of
 from typing import IO
 
+sys.dont_write_bytecode = True
+from try_parts.large import LONG, NULL, NUMBER, OPEN_REQUEST, OPEN_RESPONSE, PRINTED, SKIPPED, TEXT, header, item
+
 TOP = os.path.dirname(os.path.dirname(os.path.abspath(__file__)))
 # The most memory, in KiB, that a request of which nothing is to be kept may take: it takes 3,200 to 3,700, and 18,000
 # to 117,000 where each value is read whole and dropped.
 BOUND = 8192
-# Nodes that 2 octets name.
-TEXT, NUMBER = 1, 2
 NODES = 'i=1\trw\tText\tString\tempty\ni=2\trw\tNumber\tInt32\t0\n'
-NULL = struct.pack('<i', -1)
 POLICY = b'http://opcfoundation.org/UA/SecurityPolicy#None'
-# What begins a message that opens a channel, and the answer to it.
-OPEN_REQUEST, OPEN_RESPONSE = b'\x01\0\xBE\x01', b'\x01\0\xC1\x01'
 # The most octets of a chunk, with its header.
 CHUNK = 65535
 MOST = 1048576
 # The most octets of a message that the dissector takes.
 MOST_DISSECTED = 16777216
-
-
-def header(session: bool) -> bytes:
-    """The RequestHeader of the first session, or of none."""
-    token = b'\x01\x02\x01\0' if session else b'\0\0'
-    return token + bytes(8) + struct.pack('<II', 1, 0) + NULL + bytes(4) + bytes(3)
-
-
-def item(node: int, rest: bytes) -> bytes:
-    """An item for the Value of the node, the whole of it."""
-    return bytes([0, node]) + struct.pack('<I', 13) + NULL + rest
 
 
 def read(session: bool, count: int) -> bytes:
@@ -182,86 +169,6 @@ REQUESTS = [
 ]
 
 
-# What begins a message of each kind.
-READ = b'\x01\0\x77\x02' + header(False) + bytes(8) + struct.pack('<I', 2)
-WRITE = b'\x01\0\xA1\x02' + header(False)
-RESPONSE = bytes(8) + struct.pack('<I', 1) + bytes(5) + NULL + bytes(3)
-ONE_VALUE = b'\x01\0\x7A\x02' + RESPONSE + struct.pack('<I', 1) + b'\x01'
-# An endpoint with null fields: up to its discovery URLs, and behind them.
-ENDPOINT = 3 * NULL + b'\0' + bytes(4) + 2 * NULL
-APPLIED, APPLICATION = NULL + bytes(4) + 3 * NULL + b'\0', ENDPOINT[4:] + NULL
-# A name, the option of the side that sends the message, and its octets before an array, after it, and of an element.
-PRINTED = [
-    ('ReadResponse of empty DataValues', '--server', b'\x01\0\x7A\x02' + RESPONSE, NULL, b'\0'),
-    ('ReadResponse of DataValues of an Int32', '--server', b'\x01\0\x7A\x02' + RESPONSE, NULL, b'\1\6' + bytes(4)),
-    ('ReadResponse of empty DiagnosticInfos', '--server', b'\x01\0\x7A\x02' + RESPONSE + NULL, b'', b'\0'),
-    ('Read of items', '', READ, b'', item(TEXT, bytes(2) + NULL)),
-    ('Write of items without a value', '', WRITE, b'', item(TEXT, b'\0')),
-    ('ReadResponse with a StringTable of null Strings', '--server', b'\x01\0\x7A\x02' + RESPONSE[:17], bytes(3) + 2 * NULL, NULL),
-    ('WriteResponse of StatusCodes', '--server', b'\x01\0\xA4\x02' + RESPONSE, NULL, bytes(4)),
-    ('WriteResponse of empty DiagnosticInfos', '--server', b'\x01\0\xA4\x02' + RESPONSE + NULL, b'', b'\0'),
-    ('GetEndpointsRequest of null locale ids', '', b'\x01\0\xAC\x01' + header(False) + NULL, NULL, NULL),
-    ('ActivateSessionRequest of null locale ids', '', b'\x01\0\xD3\x01' + header(False) + 3 * NULL, bytes(3) + 2 * NULL, NULL),
-    ('CreateSessionResponse of null certificates', '--server', b'\x01\0\xD0\x01' + RESPONSE + bytes(12) + 3 * NULL, 2 * NULL + bytes(4), 2 * NULL),
-    ('GetEndpointsResponse of endpoints', '--server', b'\x01\0\xAF\x01' + RESPONSE, b'', ENDPOINT + NULL + APPLIED),
-    ('GetEndpointsResponse of token policies', '--server', b'\x01\0\xAF\x01' + RESPONSE + b'\1\0\0\0' + ENDPOINT + NULL + APPLIED[:12], APPLIED[16:], NULL + bytes(4) + 3 * NULL),
-    ('GetEndpointsResponse of null discovery URLs', '--server', b'\x01\0\xAF\x01' + RESPONSE + b'\1\0\0\0' + ENDPOINT, APPLIED, NULL),
-    ('CreateSessionRequest of null discovery URLs', '', b'\x01\0\xCD\x01' + header(False) + ENDPOINT[4:], 5 * NULL + bytes(12), NULL),
-]
-# The same of messages of which a value, or all of it, is held: arrays in one value, by their type ids and elements.
-VALUES = [
-    ('DateTimes', 13, bytes(8)),
-    ('Int32s', 6, bytes(4)),
-    ('Bytes', 3, b'\1'),
-    ('Doubles', 11, bytes(8)),
-    ('Booleans', 1, b'\1'),
-    ('QualifiedNames', 20, bytes(2) + NULL),
-    ('null Strings', 12, NULL),
-    ('null NodeIds', 17, bytes(2)),
-    ('ExtensionObjects', 22, bytes(3)),
-    ('empty DataValues', 23, b'\0'),
-    ('empty DiagnosticInfos', 25, b'\0'),
-    ('null Variants', 24, b'\0'),
-    ('Variants of a Boolean', 24, b'\1\1'),
-    ('LocalizedTexts', 21, b'\0'),
-]
-KEPT = [
-    ('ReadResponse of a String', '--server', ONE_VALUE + b'\x0C', NULL, b'a'),
-    ('ReadResponse of a String that prints escaped', '--server', ONE_VALUE + b'\x0C', NULL, b'\1'),
-    ('ReadResponse of a ByteString', '--server', ONE_VALUE + b'\x0F', NULL, b'a'),
-    *[('ReadResponse of an array of %s' % name, '--server', ONE_VALUE + bytes([0x80 + kind]), NULL, one) for name, kind, one in VALUES],
-]
-# The same of the other kinds of message, and of fields whose text `dissect --fields` prints in pieces.
-LONG = [
-    ('header of no known kind with a StringTable', '--server', b'\x01\0\x12\x02' + RESPONSE[:17], bytes(3), NULL),
-    ('body of no known kind', '--server', b'\x01\0\xFF\xFF', b'', b'\0'),
-    ('CreateSessionRequest of a session name', '', b'\x01\0\xCD\x01' + header(False) + APPLICATION + 2 * NULL, 2 * NULL + bytes(12), b'a'),
-    ('CreateSessionRequest of an application name', '', b'\x01\0\xCD\x01' + header(False) + 2 * NULL + b'\2', APPLICATION[9:] + 5 * NULL + bytes(12), b'a'),
-    ('CreateSessionResponse of endpoints', '--server', b'\x01\0\xD0\x01' + RESPONSE + bytes(12) + 2 * NULL, 3 * NULL + bytes(4), ENDPOINT + NULL + APPLIED),
-    ('ActivateSessionRequest of null certificates', '', b'\x01\0\xD3\x01' + header(False) + 2 * NULL, NULL + bytes(3) + 2 * NULL, 2 * NULL),
-    ('ActivateSessionRequest of an identity', '', b'\x01\0\xD3\x01' + header(False) + 4 * NULL + b'\0\0\1', 2 * NULL, b'a'),
-    ('ActivateSessionResponse of StatusCodes', '--server', b'\x01\0\xD6\x01' + RESPONSE + NULL, NULL, bytes(4)),
-    ('ActivateSessionResponse of empty DiagnosticInfos', '--server', b'\x01\0\xD6\x01' + RESPONSE + 2 * NULL, b'', b'\0'),
-    ('CloseSessionRequest of an audit entry', '', b'\x01\0\xD9\x01' + header(False)[:-11], bytes(7) + b'\1', b'a'),
-    ('CloseSessionResponse with a StringTable of null Strings', '--server', b'\x01\0\xDC\x01' + RESPONSE[:17], bytes(3), NULL),
-    ('ServiceFault with a StringTable of null Strings', '--server', b'\x01\0\x8D\x01' + RESPONSE[:17], bytes(3), NULL),
-    ('ServiceFault of an additional header', '--server', b'\x01\0\x8D\x01' + RESPONSE[:-1] + b'\1', b'', b'a'),
-    ('Read of a NodeId', '', READ + b'\1\0\0\0\3\0\0', b'\x0D\0\0\0' + NULL + bytes(2) + NULL, b'a'),
-    ('Read of an index range that prints escaped', '', READ + b'\1\0\0\0\0\1\x0D\0\0\0', bytes(2) + NULL, b'\1'),
-    ('Read of a name', '', READ + b'\1\0\0\0\0\1\x0D\0\0\0' + NULL + bytes(2), b'', b'a'),
-    ('CreateSessionRequest of a nonce', '', b'\x01\0\xCD\x01' + header(False) + APPLICATION + 3 * NULL, NULL + bytes(12), b'a'),
-    ('ReadResponse of a DiagnosticInfo', '--server', b'\x01\0\x7A\x02' + RESPONSE + NULL + b'\1\0\0\0\x10', b'', b'a'),
-    ('ReadResponse that is cut off, with a StringTable', '--server', b'\x01\0\x7A\x02' + RESPONSE[:17], bytes(3), NULL),
-]
-# The same for `dissect` alone: OPNs, and an array in a value.
-SKIPPED = [
-    ('OpenSecureChannelRequest of a nonce', '', OPEN_REQUEST + header(False) + bytes(12), bytes(4), b'a'),
-    ('OpenSecureChannelResponse of a nonce', '--server', OPEN_RESPONSE + RESPONSE + bytes(24), b'', b'a'),
-    ('OpenSecureChannelResponse with a StringTable of null Strings', '--server', OPEN_RESPONSE + RESPONSE[:17], bytes(27) + NULL, NULL),
-    ('Write of an array of null Variants', '', WRITE + b'\1\0\0\0' + item(TEXT, b'\1\x98'), b'', b'\0'),
-]
-
-
 def limited(megabytes: int) -> None:
     if megabytes:
         resource.setrlimit(resource.RLIMIT_AS, (megabytes << 20, megabytes << 20))
@@ -374,7 +281,7 @@ def hold_bound(program: str, nodes: str) -> None:
         flag, memory = attempt(program, nodes, 0, request)
         if flag != 'F' or not memory or memory > BOUND:
             raise SystemExit('try_large: %s: not answered whole within %d kB' % (request[0], BOUND))
-    for message, options in [(it, []) for it in [*PRINTED, *LONG, *KEPT, *SKIPPED]] + [(it, ['--fields']) for it in [*PRINTED, *LONG]]:
+    for message, options in [(it, []) for it in [*PRINTED, *LONG, *SKIPPED]] + [(it, ['--fields']) for it in [*PRINTED, *LONG]]:
         last, memory = dissect(program, 0, message, MOST, options)
         if not last.startswith(b'unreadable' if 'cut off' in message[0] else b'end ') or not 0 < memory <= BOUND:
             raise SystemExit('try_large: %s: not printed whole within %d kB' % (message[0], BOUND))
@@ -392,7 +299,7 @@ def main(words: list[str]) -> None:
             hold_bound(words[1] if len(words) > 1 else os.path.join(TOP, 'crates/ua_cli/out/ua_cli'), nodes.name)
         for request in REQUESTS if not bound else ():
             attempt(words[0], nodes.name, megabytes, request)
-        for message, options in [(it, it_options) for it_options in ([], ['--fields']) for it in [*PRINTED, *LONG, *KEPT, *SKIPPED]] if not bound else ():
+        for message, options in [(it, it_options) for it_options in ([], ['--fields']) for it in [*PRINTED, *LONG, *SKIPPED]] if not bound else ():
             dissect(words[0], megabytes, message, MOST_DISSECTED, options)
 
 

@@ -18,7 +18,8 @@ from typing import Iterable
 
 sys.dont_write_bytecode = True
 sys.path.insert(0, os.path.dirname(os.path.abspath(__file__)))
-from try_large import APPLICATION, NULL, READ, RESPONSE, TOP, framed, header
+from try_large import TOP, framed
+from try_parts.large import APPLICATION, NULL, READ, RESPONSE, header
 
 # The bytes of a piece.
 PIECE = 24576
