@@ -13,8 +13,8 @@ use std::alloc::Global;
 use ua_builtin::Source;
 
 /// Decodes the Variant at the start of the source, of at most nesting depth `depth`, and appends
-/// its canonical encoding (OPC 10000-6, 5.2.2.16). After an error, discard the source and what was
-/// appended.
+/// its canonical encoding (OPC 10000-6, 5.2.2.16). After an error, discard the source and `out`, of
+/// which nothing is said then.
 pub fn recode_variant<S: Source>(
     alloc: Global,
     src: &mut S,
@@ -30,8 +30,8 @@ pub fn recode_variant<S: Source>(
 }
 
 /// Decodes the DataValue at the start of the source, of at most nesting depth `depth`, and appends
-/// its canonical encoding (OPC 10000-6, 5.2.2.17). After an error, discard the source and what was
-/// appended.
+/// its canonical encoding (OPC 10000-6, 5.2.2.17). After an error, discard the source and `out`, of
+/// which nothing is said then.
 pub fn recode_data_value<S: Source>(
     alloc: Global,
     src: &mut S,
@@ -48,7 +48,8 @@ pub fn recode_data_value<S: Source>(
 
 /// Decodes a value of the type id as an element of an array holds it, without its type id, and
 /// appends its canonical encoding. A DataValue, Variant or DiagnosticInfo (23 to 25) may have a
-/// nesting depth of at most `depth`. After an error, discard the source and what was appended.
+/// nesting depth of at most `depth`; the type ids 26 to 31 have no encoding. After an error, discard
+/// the source and `out`, of which nothing is said then.
 pub fn recode_scalar<S: Source>(
     alloc: Global,
     src: &mut S,

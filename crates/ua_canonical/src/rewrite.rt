@@ -1,6 +1,6 @@
 //! Decodes Variants and DataValues, and appends their canonical encodings as it goes. Apart from
-//! the encoding, one scalar at a time is held, so that memory does not grow with the number of
-//! values.
+//! the encoding, one leaf, one DiagnosticInfo or the dimensions of one array are held at a time, so
+//! that memory does not grow with the number of values.
 
 ghost use Rattle.std.specs.Prelude.{◌≡◌, ◌<◌, ◌≤◌, true};
 ghost use Rattle.ua_builtin.specs.Counted.{first_negative};

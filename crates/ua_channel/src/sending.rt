@@ -1,6 +1,6 @@
 //! The bytes that a server sends.
 
-ghost use Rattle.std.specs.Prelude.{◌≡◌, ◌<◌, ◌+◌, ◌++◌, ◌⊎◌, ◌^◌, [], ℕ, List, is_some, length, IfOk, OnOk};
+ghost use Rattle.std.specs.Prelude.{◌≡◌, ◌<◌, ◌+◌, ◌++◌, ◌⊎◌, ◌^◌, [], ℕ, List, is_some, length, IfOk, OnErr, OnOk};
 ghost use Rattle.ua_frame.specs.Frames.{frame_octets};
 ghost use Rattle.ua_frame.specs.Messages.{ack_frame};
 ghost use Rattle.ua_chunk.specs.Cutting.{cut_refusal};
@@ -145,7 +145,7 @@ pub fn reply_octets(
 const SMALL_BODY: usize = 256;
 
 /// The reply that [`reply_octets`] gives. The chunks of a small body, and of one that takes several,
-/// are put in its own vector, which is then taken.
+/// may be put in its own vector, which is then taken; after an error the body is as it was.
 #[inline(always)]
 pub fn reply_in_place(
     alloc: Global,
@@ -161,6 +161,7 @@ pub fn reply_in_place(
         (λ sent. IsReply lane.now body.old.items numbers.old.next request sent.octets.items numbers.new.next) }
     ensures abort { IfOk result (λ sent. sent.is_abort ≡ is_some (cut_refusal lane.now body.old.items)) }
     ensures left { (body.new.items ≡ body.old.items) ⊎ (body.new.items ≡ []) }
+    ensures kept { OnErr result (body.new.items ≡ body.old.items) }
 {
     if body.len() <= SMALL_BODY || body.len() > lane.room as usize {
         if let Ok(next) = cut_in_place(lane, body, numbers.number(), request) {

@@ -308,7 +308,8 @@ impl ServerChannel {
     }
 
     /// What [`respond`](ServerChannel::respond) returns. The chunks of a small body, and of one that
-    /// takes several, are put in its own vector, which is then taken; any other body stays.
+    /// takes several, may be put in its own vector, which is then taken: the body is as it was, or
+    /// empty. After an error it is as it was.
     pub fn respond_with(&mut self, id: u32, body: &mut Vec<u8>) -> Result<SentReply, ReplyFault>
         requires { 0 < length body.old.items }
         ensures stands { WhateverCame self.old (λ octets frames rest.
@@ -322,6 +323,7 @@ impl ServerChannel {
             IsErrOf result NotOpen ↔ ((received frames).openings ≡ [])) }
         ensures failed { IsErrOf result OutOfMemory → IsDone self.new }
         ensures left { (body.new.items ≡ body.old.items) ⊎ (body.new.items ≡ []) }
+        ensures kept { OnErr result (body.new.items ≡ body.old.items) }
         ensures bound { bound_of self.new ≡ bound_of self.old }
         ensures limits { limits_of self.new ≡ limits_of self.old }
         ensures channel { channel_of self.new ≡ channel_of self.old }
