@@ -1,10 +1,9 @@
 -- Arrays: their elements and dimensions.
-use Rattle.std.specs.Prelude.{◌≡◌, ℕ, ◌+◌, ◌*◌, ◌<◌, ◌≤◌, Bool, true, false, ◌&&◌, eqb, List, [], ◌∷◌, ◌++◌, length, set, Some, None, Result, Err}
+use Rattle.std.specs.Prelude.{◌≡◌, ℕ, ◌+◌, ◌*◌, ◌/◌, ◌<◌, ◌≤◌, Bool, true, false, ◌&&◌, eqb, List, [], ◌∷◌, ◌++◌, length, set, Some, None, Result, Err}
 use lib.IntN.{ℤ, pos, negsuc}
 use Rattle.std.proofs.Common.{refl, sym, ap, ◌∙◌, subst, arith, append_assoc, length-append}
-use Rattle.std.proofs.lemmas.Grind.{common_steps}
 use Rattle.std.proofs.lemmas.List.{set_at}
-use Rattle.std.proofs.Math.Nat.{le-mul_of_pos_right}
+use Rattle.std.proofs.Math.Nat.{div-lt_iff_lt-mul}
 use Rattle.ua_wire.specs.Exact.{◌>>=◌}
 use Rattle.ua_wire.specs.Number.{number_at, number_octets}
 use Rattle.ua_wire.specs.Format.{Gives}
@@ -16,7 +15,7 @@ use Rattle.ua_variant.specs.Data.{ScalarsData, many}
 use Rattle.ua_variant.specs.Canonical.{variant_canonical, row_canonical}
 use Rattle.ua_variant.specs.Decoding.{row_at, elements_at, no_dims_behind, scalars_at, variant_array_at}
 use Rattle.ua_variant.specs.Encodable.{variant_fits, scalars_fit, row_length, is_kind}
-use Rattle.ua_variant.specs.Encoding.{array_octet, EncodesRow}
+use Rattle.ua_variant.specs.Encoding.{array_octet}
 use Rattle.ua_variant.specs.Least.{least_octets}
 use Rattle.ua_variant.proofs.ArraysRead.{exact_row}
 use Rattle.ua_variant.proofs.VariantsRead.{exact_scalars}
@@ -148,25 +147,19 @@ module _ (n k : ℕ) (flagged : Bool) (count : ℕ) (old new left before after :
         recodes_as variant_fits variant_canonical (variant_array_at (scalars_at n) k flagged old) (elements_at (scalars_at n) k flagged count new) left before
         after r (some_array_at n k flagged count old new e low) h
 
-some_octets : (k : ℕ) → 1 ≤ least_octets k
-unfolding least_octets
-some_octets k = Prim.grind (arith, common_steps)
-
-row_long : (k : ℕ) (ss : ScalarsData) (b : List ℕ) → EncodesRow k ss b → row_length ss ≤ length b
-row_long k ss b h =
-    let times : row_length ss ≤ row_length ss * least_octets k = le-mul_of_pos_right (row_length ss) (some_octets k) in
-    let takes = row_takes k ss b h in
-    omega arith
-
-row_short : (n k count : ℕ) (octets : List ℕ) → length octets < count → row_at count (scalars_at n k) octets ≡ None
+-- as each element takes the least octets of the type id
+row_short : (n k count : ℕ) (octets : List ℕ) → length octets < count * least_octets k → row_at count (scalars_at n k) octets ≡ None
 row_short n k count octets h =
     never_some (row_at count (scalars_at n k) octets)
     (λ x e. let s = (exact_row n k count (scalars_at n k) (exact_scalars n k)).sound octets x.0 x.1 e in
-    let l : row_length x.0 ≡ count = s.encoded.0 in
-    absurd (omega (arith, l, ap length s.parts, length-append s.front x.1, row_long k x.0 s.front s.encoded.1)))
+    let l : row_length x.0 * least_octets k ≡ count * least_octets k = ap (λ i. i * least_octets k) s.encoded.0 in
+    absurd (omega (arith, l, ap length s.parts, length-append s.front x.1, row_takes k x.0 s.front s.encoded.1)))
 
-pub array_short : (n k : ℕ) (flagged : Bool) (count : ℕ) (old new : List ℕ) → number_at 4 old ≡ Some (count, new) → count < 2147483648
-    → length new < count → variant_array_at (scalars_at n) k flagged old ≡ None
-array_short n k flagged count old new e low short =
+-- an array of more elements than there is room for
+pub array_short : (n k : ℕ) (flagged : Bool) (count : ℕ) (old new : List ℕ) (left least : ℕ) → number_at 4 old ≡ Some (count, new) → count < 2147483648
+    → left ≡ length new → least ≡ least_octets k → 0 < least → left / least < count → variant_array_at (scalars_at n) k flagged old ≡ None
+array_short n k flagged count old new left least e low left_is least_is some short =
+    let beyond : left < count * least = (div-lt_iff_lt-mul some).0 short in
     some_array_at n k flagged count old new e low
-    ∙ ap (λ o. o >>= λ ss. dims_at flagged count ss.1 >>= λ x. Some (many k ss.0 x.0, x.1)) (row_short n k count new short)
+    ∙ ap (λ o. o >>= λ ss. dims_at flagged count ss.1 >>= λ x. Some (many k ss.0 x.0, x.1))
+    (row_short n k count new (omega (arith, beyond, left_is, ap (λ i. count * i) least_is)))

@@ -9,7 +9,7 @@ use Rattle.ua_diagnostic.specs.View.{diagnostic_of, diagnostic_value}
 use Rattle.ua_diagnostic.proofs.DiagnosticsRead.{exact_diagnostic}
 use Rattle.ua_diagnostic.proofs.Viewed.{diagnostic_forth}
 use Rattle.ua_wire.proofs.Readers.{bind_some, some_is}
-use Rattle.ua_canonical.specs.Recoded.{Recodes}
+use Rattle.ua_canonical.specs.Recoded.{Recodes, Refused}
 use Rattle.ua_canonical.specs.declared.fault.RecodeFault.{RecodeFault}
 use Rattle.ua_canonical.specs.declared.fault.RecodeFault.TheVariants.{NoValue, NotWritable, OutOfMemory}
 use Rattle.ua_canonical.proofs.Levels.{within_levels}
@@ -44,3 +44,16 @@ diagnostic_recodes n old left before after (Err NotWritable) low h =
     sym (depth_within n old v rest low e) ∙ ap diagnostic_encodable (sym (diagnostic_forth v))
     ∙ h (diagnostic_value v) rest (ap (λ o. o >>= λ x. Some (diagnostic_value x.0, x.1)) e)
 diagnostic_recodes n old left before after (Err OutOfMemory) low h = tt
+
+pub diagnostic_refused : (n : ℕ) (old left : List ℕ) → n ≤ most_levels → Refused diagnostic_format.encodable (diagnostic_format.decode n old) left
+    → Refused diagnostic_fits (diagnostic_at n old) left
+unfolding diagnostic_format
+diagnostic_refused n old left low h =
+    let w = bind_some (diagnostic_at n old) (λ x. Some (diagnostic_value x.0, x.1)) (h.value, left) h.found in
+    let pair = some_is (diagnostic_value w.0.0, w.0.1) (h.value, left) w.2 in
+    let same : diagnostic_of h.value ≡ w.0.0 = sym (ap (λ p. diagnostic_of p.0) pair) ∙ diagnostic_forth w.0.0 in
+    record {
+      value = w.0.0;
+      found = w.1 ∙ ap (λ t. Some (w.0.0, t)) (ap (λ p. p.1) pair);
+      unfit = sym (depth_within n old w.0.0 w.0.1 low w.1) ∙ ap diagnostic_encodable (sym same) ∙ h.unfit;
+    }

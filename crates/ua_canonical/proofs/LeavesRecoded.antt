@@ -1,18 +1,24 @@
 -- Scalars that hold no further value, recoded by their type ids.
-use Rattle.std.specs.Prelude.{◌≡◌, ℕ, ◌<◌, ◌≤◌, Bool, true, false, ◌&&◌, eqb, leb, List, Option, Some, None, Result}
+use Rattle.std.specs.Prelude.{◌≡◌, ℕ, ◌<◌, ◌≤◌, Bool, true, false, ◌&&◌, eqb, leb, List, Option, Some, None, Result, Err, IsErrOf}
 use Rattle.std.proofs.Common.{refl, sym, ap, ◌∙◌, subst, arith}
 use Rattle.std.proofs.lemmas.Grind.{common_steps}
 use Rattle.ua_builtin.specs.Format.{Flat}
 use Rattle.ua_builtin.specs.Counted.{counted}
-use Rattle.ua_wire.specs.Exact.{image_read}
+use Rattle.ua_wire.specs.Exact.{◌>>=◌, image_read, skipped}
+use Rattle.ua_wire.specs.Format.{Gives}
+use Rattle.ua_wire.specs.declared.fault.ReadFault.{ReadFault}
+use Rattle.ua_wire.specs.declared.fault.ReadFault.TheVariants as read_fault
 use Rattle.ua_wire.proofs.Readers.{bind_some, some_is}
 use Rattle.ua_variant.specs.Data.{LeafData, ScalarData, leaf, reserved}
 use Rattle.ua_variant.specs.Leaf.{leaf_at, leaf_kind, leaf_canonical, is_reserved, holds_values}
 use Rattle.ua_variant.specs.Canonical.{scalar_canonical}
 use Rattle.ua_variant.proofs.LeavesRead.{exact_leaf, leaf_kind_within, leaf_apart, if_true}
-use Rattle.ua_canonical.specs.Recoded.{Recodes, element_fits}
+use Rattle.ua_canonical.specs.Fault.{of_read}
+use Rattle.ua_canonical.specs.Recoded.{Recodes, Refused, element_fits}
 use Rattle.ua_canonical.specs.declared.fault.RecodeFault.{RecodeFault}
+use Rattle.ua_canonical.specs.declared.fault.RecodeFault.TheVariants.{NotWritable}
 use Rattle.ua_canonical.proofs.Steps.{image_recodes}
+use Rattle.ua_canonical.proofs.Skipped.{none_passed, one_passed, refused_image}
 
 leaf_recodes_at : {A : Type 0} (make : A → LeafData) (f : Flat A) (k : ℕ) (old left before after : List ℕ) (r : Result (Unit {0}) RecodeFault)
     → leaf_at k old ≡ image_read make f.decode old → ((x : A) → element_fits k (leaf (make x)) ≡ f.encodable x)
@@ -30,6 +36,17 @@ pub leaf_recodes : {A : Type 0} (make : A → LeafData) (f : Flat A) (k kind : �
 leaf_recodes make f k kind old left before after r is at fits same h =
     subst (λ j. Recodes (element_fits j) scalar_canonical (image_read leaf (leaf_at j) old) left before after r) (sym is)
     (leaf_recodes_at make f k old left before after r at fits same h)
+
+-- a scalar that was decoded and cannot be encoded
+pub leaf_refused : {A : Type 0} (make : A → LeafData) (f : Flat A) (k kind : ℕ) (old left : List ℕ) (r : Result (Unit {0}) RecodeFault) → kind ≡ k
+    → leaf_at k old ≡ image_read make f.decode old → ((x : A) → element_fits k (leaf (make x)) ≡ f.encodable x)
+    → (IsErrOf r NotWritable → Refused f.encodable (f.decode old) left) → IsErrOf r NotWritable
+    → Refused (element_fits kind) (image_read leaf (leaf_at kind) old) left
+leaf_refused make f k kind old left r is at fits h e =
+    let found = refused_image f.encodable (λ l. element_fits k (leaf l)) make (f.decode old) left fits (h e) in
+    let whole = subst (λ o. Refused (λ l. element_fits k (leaf l)) o left) (sym at) found in
+    subst (λ j. Refused (element_fits j) (image_read leaf (leaf_at j) old) left) (sym is)
+    (refused_image (λ l. element_fits k (leaf l)) (element_fits k) leaf (leaf_at k old) left (λ x. refl) whole)
 
 -- ---- reserved type ids
 
@@ -52,6 +69,29 @@ reserved_refused k old rest s h l e =
     let one : reserved k v.0.0 ≡ w.0.0 = ap (λ (p : LeafData × List ℕ). p.0) (some_is (reserved k v.0.0, v.0.1) w.0 v.2) in
     let two : leaf w.0.0 ≡ s = ap (λ (p : ScalarData × List ℕ). p.0) (some_is (leaf w.0.0, w.0.1) (s, rest) w.2) in
     subst (λ y. element_fits k y ≡ false) two (subst (λ y. element_fits k (leaf y) ≡ false) one (and_never (eqb k k)))
+
+reserved_passed : (k : ℕ) (old left : List ℕ) (v : Option (List ℕ)) → is_reserved k ≡ true → counted.decode old ≡ Some (v, left)
+    → image_read leaf (leaf_at k) old ≡ Some (leaf (reserved k v), left)
+reserved_passed k old left v h e =
+    let inner : leaf_at k old ≡ Some (reserved k v, left) =
+    reserved_at k old h ∙ ap (λ (o : Option (Option (List ℕ) × List ℕ)). o >>= λ x. Some (reserved k x.0, x.1)) e in
+    ap (λ (o : Option (LeafData × List ℕ)). o >>= λ x. Some (leaf x.0, x.1)) inner
+
+pub reserved_found : (k : ℕ) (old left : List ℕ) → 26 ≤ k → k < 32 → skipped counted.decode old ≡ Some (tt, left)
+    → Refused (element_fits k) (image_read leaf (leaf_at k) old) left
+reserved_found k old left h l e =
+    let one = one_passed (counted.decode old) left e in
+    let found = reserved_passed k old left one.0 (reserved_is k h l) one.1 in
+    record { value = leaf (reserved k one.0); found = found; unfit = reserved_refused k old left (leaf (reserved k one.0)) h l found }
+
+pub reserved_unread : (k : ℕ) (old new left before after : List ℕ) (e : ReadFault) → 26 ≤ k → k < 32 → Gives (skipped counted.decode) old new (Err e)
+    → Recodes (element_fits k) scalar_canonical (image_read leaf (leaf_at k) old) left before after (Err (of_read e))
+reserved_unread k old new left before after read_fault.NoValue h l e =
+    let inner : leaf_at k old ≡ None =
+    reserved_at k old (reserved_is k h l)
+    ∙ ap (λ (o : Option (Option (List ℕ) × List ℕ)). o >>= λ x. Some (reserved k x.0, x.1)) (none_passed (counted.decode old) e) in
+    ap (λ (o : Option (LeafData × List ℕ)). o >>= λ x. Some (leaf x.0, x.1)) inner
+reserved_unread k old new left before after read_fault.OutOfMemory h l e = tt
 
 -- ---- other type ids
 

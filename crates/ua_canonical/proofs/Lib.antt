@@ -1,4 +1,6 @@
 mod Steps
+mod Kept
+mod Skipped
 mod Levels
 mod FieldsRecoded
 mod DiagnosticsRecoded

@@ -10,7 +10,6 @@ use Rattle.ua_wire.specs.Number.{number_at}
 use Rattle.ua_wire.specs.Format.{Gives}
 use Rattle.ua_wire.specs.declared.fault.ReadFault.{ReadFault}
 use Rattle.ua_canonical.specs.Fault.{of_read}
-use Rattle.ua_wire.proofs.Readers.{guard_some}
 use Rattle.ua_diagnostic.specs.Parts.{when}
 use Rattle.ua_diagnostic.proofs.DimensionsRead.{eqb_of}
 use Rattle.ua_variant.specs.Data.{VariantData, ScalarData, ScalarsData, null, one, absent, many, leaf, data_value, variant, diagnostic}
@@ -110,14 +109,10 @@ array_unfit n k flagged v b h (inl r) = subst (λ y. variant_fits y ≡ false) (
 array_unfit n k flagged v b h (inr r) = subst (λ y. variant_fits y ≡ false) (sym r.2) (many_unfit k r.0 r.1 h)
 
 -- an array of a reserved type id
-pub reserved_array : (n t : ℕ) (old : List ℕ) → 128 ≤ t → t ≤ 255 → is_kind (bit_and t 63) ≡ false → (v : VariantData) (rest : List ℕ)
-    → variant_after (scalars_at n) t old ≡ Some (v, rest) → variant_fits v ≡ false
-reserved_array n t old high byte kind v rest e =
-    let k = bit_and t 63 in
-    let flagged = has t 64 in
-    let w = guard_some (is_read_kind k) (array_of n t old) (v, rest) (sym (array_is n t old high byte) ∙ e) in
-    let s = (exact_array n k flagged (scalars_at n) (exact_scalars n k)).sound old v rest w.1 in
-    array_unfit n k flagged v s.front kind s.encoded
+pub reserved_array : (n k : ℕ) (flagged : Bool) (old : List ℕ) → is_kind k ≡ false → (v : VariantData) (rest : List ℕ)
+    → variant_array_at (scalars_at n) k flagged old ≡ Some (v, rest) → variant_fits v ≡ false
+reserved_array n k flagged old kind v rest e =
+    let s = (exact_array n k flagged (scalars_at n) (exact_scalars n k)).sound old v rest e in array_unfit n k flagged v s.front kind s.encoded
 
 -- ---- the other first bytes
 
@@ -174,10 +169,10 @@ diagnostic_element n k old left before after r e h =
     (image_recodes diagnostic_fits diagnostic_canonical (element_fits 25) scalar_canonical diagnostic (diagnostic_at n old) left before after r (λ x. refl)
     (λ x. refl) h)
 
-no_holder : (k : ℕ) → (k ≡ 23 → ⊥) → (k ≡ 24 → ⊥) → (k ≡ 25 → ⊥) → holds_values k ≡ false
+pub no_holder : (k : ℕ) → (k ≡ 23 → ⊥) → (k ≡ 24 → ⊥) → (k ≡ 25 → ⊥) → holds_values k ≡ false
 no_holder k a b c = Prim.grind (arith, common_steps)
 
-leaf_scalar : (n k : ℕ) (old : List ℕ) → holds_values k ≡ false → scalars_at n k old ≡ image_read leaf (leaf_at k) old
+pub leaf_scalar : (n k : ℕ) (old : List ℕ) → holds_values k ≡ false → scalars_at n k old ≡ image_read leaf (leaf_at k) old
 unfolding scalar_at
 leaf_scalar n k old h = rw (h) refl
 

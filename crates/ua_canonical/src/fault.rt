@@ -12,8 +12,8 @@ pub enum RecodeFault {
     /// No prefix of the bytes encodes a value of the type within the allowed nesting depth.
     #[error("the octets do not begin with a value")]
     NoValue,
-    /// The value, if the bytes begin with one, cannot be encoded, which comes of a reserved type
-    /// id, from 26 to 31, in it.
+    /// The bytes begin with a value that cannot be encoded, which comes of a reserved type id, from
+    /// 26 to 31, in it.
     #[error("the value cannot be encoded")]
     NotWritable,
     /// An allocation failed.

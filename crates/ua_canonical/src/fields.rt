@@ -6,7 +6,7 @@ ghost use Rattle.ua_diagnostic.specs.Parts.{optional_read, optional_fits, option
 ghost use Rattle.ua_variant.specs.Canonical.{data_fields_canonical};
 ghost use Rattle.ua_variant.specs.Encodable.{data_fields_encodable};
 ghost use Rattle.ua_variant.specs.Fields.{data_fields};
-ghost use Rattle.ua_canonical.specs.Recoded.{Recodes};
+ghost use Rattle.ua_canonical.specs.Recoded.{KeepsFront, Recodes};
 
 use crate::fault::RecodeFault;
 use crate::leaf::rewrite_as;
@@ -25,6 +25,7 @@ fn rewrite_field<T: Wire + Drop, S: Source>(
         (optional_read set (T.format.decode 0) (S.octets src.old)) (S.octets src.new) out.old.items out.new.items
         result }
     ensures behind { StaysBehind (S.octets src.old) (S.octets src.new) }
+    ensures kept { KeepsFront out.old.items out.new.items }
 {
     if !set {
         return Ok(());
@@ -43,6 +44,7 @@ pub fn rewrite_data_fields<S: Source>(
     ensures exact { Recodes data_fields_encodable data_fields_canonical ((data_fields mask).decode (S.octets src.old))
         (S.octets src.new) out.old.items out.new.items result }
     ensures behind { StaysBehind (S.octets src.old) (S.octets src.new) }
+    ensures kept { KeepsFront out.old.items out.new.items }
 {
     rewrite_field::<StatusCode, S>(alloc, src, mask & masks::STATUS != 0, out)?;
     rewrite_field::<DateTime, S>(alloc, src, mask & masks::SOURCE_TIMESTAMP != 0, out)?;

@@ -1,19 +1,21 @@
 //! Values that hold no further values.
 
-ghost use Rattle.std.specs.Prelude.{◌≡◌, ◌≤◌};
+ghost use Rattle.std.specs.Prelude.{◌≡◌, ◌≤◌, ◌⊎◌, IsErrOf, OnErr};
 ghost use Rattle.ua_builtin.specs.Exact.{image_read};
 ghost use Rattle.ua_builtin.specs.Format.{most_levels, StaysBehind};
 ghost use Rattle.ua_diagnostic.specs.Diagnostic.{diagnostic_at, diagnostic_canonical, diagnostic_fits};
 ghost use Rattle.ua_variant.specs.Canonical.{scalar_canonical};
 ghost use Rattle.ua_variant.specs.Data.{leaf};
 ghost use Rattle.ua_variant.specs.Leaf.{leaf_at};
-ghost use Rattle.ua_canonical.specs.Recoded.{Recodes, element_fits};
+ghost use Rattle.ua_wire.specs.Counted.{IsOverlong};
+ghost use Rattle.ua_canonical.specs.Recoded.{Recodes, Refused, element_fits};
+ghost use Rattle.ua_canonical.specs.declared.fault.RecodeFault.TheVariants.{NoValue, NotWritable};
 
 use crate::fault::RecodeFault;
 use std::alloc::Global;
 use ua_builtin::{
     DateTime, DoubleBits, ExpandedNodeId, ExtensionObject, FloatBits, Guid, LocalizedText, NodeId,
-    QualifiedName, Source, StatusCode, UaBytes, UaString, Wire, XmlElement,
+    QualifiedName, Skip, Source, StatusCode, UaBytes, UaString, Wire, XmlElement,
 };
 use ua_diagnostic::DiagnosticInfo;
 
@@ -29,6 +31,10 @@ pub fn rewrite_as<T: Wire + Drop, S: Source>(
     ensures exact { Recodes T.format.encodable T.format.canonical (T.format.decode depth (S.octets src.old))
         (S.octets src.new) out.old.items out.new.items result }
     ensures behind { StaysBehind (S.octets src.old) (S.octets src.new) }
+    ensures kept { OnErr result (out.new.items ≡ out.old.items) }
+    ensures refused { IsErrOf result NotWritable
+        → Refused T.format.encodable (T.format.decode depth (S.octets src.old)) (S.octets src.new) }
+    ensures long { T.overlong (S.octets src.old) → IsErrOf result NoValue }
 {
     let value = T::read_value(alloc, src, depth)?;
     value.write(out)?;
@@ -48,6 +54,9 @@ pub fn rewrite_diagnostic<S: Source>(
     ensures exact { Recodes diagnostic_fits diagnostic_canonical (diagnostic_at depth (S.octets src.old))
         (S.octets src.new) out.old.items out.new.items result }
     ensures behind { StaysBehind (S.octets src.old) (S.octets src.new) }
+    ensures kept { OnErr result (out.new.items ≡ out.old.items) }
+    ensures refused { IsErrOf result NotWritable
+        → Refused diagnostic_fits (diagnostic_at depth (S.octets src.old)) (S.octets src.new) }
 {
     rewrite_as::<DiagnosticInfo, S>(alloc, src, depth, out)
 }
@@ -64,6 +73,10 @@ pub fn rewrite_leaf<S: Source>(
     ensures exact { Recodes (element_fits kind) scalar_canonical (image_read leaf (leaf_at kind) (S.octets src.old))
         (S.octets src.new) out.old.items out.new.items result }
     ensures behind { StaysBehind (S.octets src.old) (S.octets src.new) }
+    ensures kept { OnErr result (out.new.items ≡ out.old.items) }
+    ensures refused { IsErrOf result NotWritable
+        → Refused (element_fits kind) (image_read leaf (leaf_at kind) (S.octets src.old)) (S.octets src.new) }
+    ensures long { (kind ≡ 12) ⊎ (kind ≡ 15) → IsOverlong (S.octets src.old) → IsErrOf result NoValue }
 {
     match kind {
         1 => rewrite_as::<bool, S>(alloc, src, 0, out),
@@ -88,7 +101,10 @@ pub fn rewrite_leaf<S: Source>(
         20 => rewrite_as::<QualifiedName, S>(alloc, src, 0, out),
         21 => rewrite_as::<LocalizedText, S>(alloc, src, 0, out),
         22 => rewrite_as::<ExtensionObject, S>(alloc, src, 0, out),
-        26..=31 => Err(RecodeFault::NotWritable),
+        26..=31 => {
+            UaBytes::skip_value(alloc, src, 0)?;
+            Err(RecodeFault::NotWritable)
+        }
         _ => Err(RecodeFault::NoValue),
     }
 }

@@ -10,7 +10,7 @@
 //! match recode_variant(alloc, &mut src, MOST_LEVELS, &mut out) {
 //!     Ok(()) => show(&out), // 98 00 00 00 00: an empty array of Variants
 //!     Err(RecodeFault::NoValue) => return Ok(None), // the bytes do not begin with a Variant
-//!     Err(RecodeFault::NotWritable) => out.clear(), // or only with one that cannot be encoded
+//!     Err(RecodeFault::NotWritable) => refused += 1, // one that cannot be encoded was consumed
 //!     Err(RecodeFault::OutOfMemory) => return Err(AllocError),
 //! }
 //! ```
@@ -19,6 +19,7 @@
 mod fault;
 mod fields;
 mod leaf;
+mod least;
 mod masks;
 mod recode;
 mod rewrite;

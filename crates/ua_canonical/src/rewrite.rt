@@ -2,7 +2,7 @@
 //! the encoding, one leaf, one DiagnosticInfo or the dimensions of one array are held at a time, so
 //! that memory does not grow with the number of values.
 
-ghost use Rattle.std.specs.Prelude.{◌≡◌, ◌<◌, ◌≤◌, true};
+ghost use Rattle.std.specs.Prelude.{◌≡◌, ◌<◌, ◌≤◌, ◌%◌, true, IsErrOf};
 ghost use Rattle.ua_builtin.specs.Counted.{first_negative};
 ghost use Rattle.ua_builtin.specs.Format.{most_levels, StaysBehind};
 ghost use Rattle.ua_diagnostic.specs.Dimensions.{has_dims};
@@ -12,13 +12,16 @@ ghost use Rattle.ua_variant.specs.Decoding.{variant_at, variant_step, variant_af
 ghost use Rattle.ua_variant.specs.Decoding.{data_value_step, scalars_at, variant_array_at, elements_at};
 ghost use Rattle.ua_variant.specs.Decoding.{no_dims_behind, row_at};
 ghost use Rattle.ua_variant.specs.Encoding.{array_octet};
+ghost use Rattle.ua_variant.specs.Formats.{IsOverlongArray, IsOverlongRow};
 ghost use Rattle.ua_variant.specs.Encodable.{variant_fits, scalars_fit, data_value_fits};
 ghost use Rattle.ua_variant.specs.Encodable.{is_read_kind as read_kind, is_kind as written_kind};
-ghost use Rattle.ua_canonical.specs.Recoded.{Recodes, element_fits};
+ghost use Rattle.ua_canonical.specs.Recoded.{KeepsFront, Recodes, element_fits};
+ghost use Rattle.ua_canonical.specs.declared.fault.RecodeFault.TheVariants.{NoValue};
 
 use crate::fault::RecodeFault;
 use crate::fields::rewrite_data_fields;
 use crate::leaf::{rewrite_diagnostic, rewrite_leaf};
+use crate::least::least_octets;
 use crate::masks;
 use std::alloc::Global;
 use ua_builtin::{FIRST_NEGATIVE, NULL_COUNT, Source, Wire};
@@ -36,6 +39,8 @@ pub fn rewrite_variant<S: Source>(
     ensures exact { Recodes variant_fits variant_canonical (variant_at depth (S.octets src.old)) (S.octets src.new)
         out.old.items out.new.items result }
     ensures behind { StaysBehind (S.octets src.old) (S.octets src.new) }
+    ensures kept { KeepsFront out.old.items out.new.items }
+    ensures long { IsOverlongArray (S.octets src.old) → IsErrOf result NoValue }
 {
     if depth == 0 {
         return Err(RecodeFault::NoValue);
@@ -55,6 +60,8 @@ fn rewrite_variant_level<S: Source>(
     ensures exact { Recodes variant_fits variant_canonical (variant_step (scalars_at depth) (S.octets src.old))
         (S.octets src.new) out.old.items out.new.items result }
     ensures behind { StaysBehind (S.octets src.old) (S.octets src.new) }
+    ensures kept { KeepsFront out.old.items out.new.items }
+    ensures long { IsOverlongArray (S.octets src.old) → IsErrOf result NoValue }
 {
     let tag = u8::read_value(alloc, src, 0)?;
     rewrite_tagged(alloc, src, depth, tag, out)
@@ -73,6 +80,9 @@ fn rewrite_tagged<S: Source>(
     ensures exact { Recodes variant_fits variant_canonical (variant_after (scalars_at depth) tag (S.octets src.old))
         (S.octets src.new) out.old.items out.new.items result }
     ensures behind { StaysBehind (S.octets src.old) (S.octets src.new) }
+    ensures kept { KeepsFront out.old.items out.new.items }
+    ensures long { 0x80 ≤ tag → read_kind (tag % 0x40) ≡ true → IsOverlongRow (tag % 0x40) (S.octets src.old)
+        → IsErrOf result NoValue }
 {
     if tag == 0 {
         out.push(0)?;
@@ -82,9 +92,6 @@ fn rewrite_tagged<S: Source>(
         let kind = tag & masks::TYPE_ID;
         if !is_read_kind(kind) {
             return Err(RecodeFault::NoValue);
-        }
-        if !is_written_kind(kind) {
-            return Err(RecodeFault::NotWritable);
         }
         return rewrite_array(alloc, src, depth, kind, tag & masks::DIMENSIONS != 0, out);
     }
@@ -109,7 +116,8 @@ fn is_written_kind(kind: u8) -> bool
     1 <= kind && kind <= 25
 }
 
-/// Rewrites an array whose first byte was read.
+/// Rewrites an array whose first byte was read; nothing is appended where the bytes left cannot hold
+/// so many elements.
 #[cycle(rewrites)]
 fn rewrite_array<S: Source>(
     alloc: Global,
@@ -120,17 +128,23 @@ fn rewrite_array<S: Source>(
     out: &mut Vec<u8>,
 ) -> Result<(), RecodeFault>
     requires levels { depth ≤ most_levels }
-    requires written { written_kind kind ≡ true }
+    requires read { read_kind kind ≡ true }
     ensures exact { Recodes variant_fits variant_canonical (variant_array_at (scalars_at depth) kind flagged
         (S.octets src.old)) (S.octets src.new) out.old.items out.new.items result }
     ensures behind { StaysBehind (S.octets src.old) (S.octets src.new) }
+    ensures kept { KeepsFront out.old.items out.new.items }
+    ensures long { IsOverlongRow kind (S.octets src.old) → IsErrOf result NoValue }
 {
     let count = u32::read_value(alloc, src, 0)?;
+    let room = src.left() / least_octets(kind);
+    if count < FIRST_NEGATIVE && room < count as usize {
+        return Err(RecodeFault::NoValue);
+    }
+    if !is_written_kind(kind) {
+        return Err(RecodeFault::NotWritable);
+    }
     if count >= FIRST_NEGATIVE {
         return rewrite_null_array(alloc, src, kind, flagged, out);
-    }
-    if src.left() < count as usize {
-        return Err(RecodeFault::NoValue);
     }
     rewrite_elements(alloc, src, depth, kind, flagged, count, out)
 }
@@ -147,6 +161,7 @@ fn rewrite_null_array<S: Source>(
     ensures exact { Recodes variant_fits variant_canonical (no_dims_behind kind flagged (S.octets src.old))
         (S.octets src.new) out.old.items out.new.items result }
     ensures behind { StaysBehind (S.octets src.old) (S.octets src.new) }
+    ensures kept { KeepsFront out.old.items out.new.items }
 {
     read_no_dims(alloc, src, flagged)?;
     out.push(masks::ARRAY + kind)?;
@@ -184,6 +199,7 @@ fn rewrite_elements<S: Source>(
     ensures exact { Recodes variant_fits variant_canonical (elements_at (scalars_at depth) kind flagged count
         (S.octets src.old)) (S.octets src.new) out.old.items out.new.items result }
     ensures behind { StaysBehind (S.octets src.old) (S.octets src.new) }
+    ensures kept { KeepsFront out.old.items out.new.items }
 {
     let first = out.len();
     out.push(masks::ARRAY + kind)?;
@@ -209,6 +225,7 @@ fn rewrite_row<S: Source>(
     ensures exact { Recodes (scalars_fit kind) row_canonical (row_at count (scalars_at depth kind) (S.octets src.old))
         (S.octets src.new) out.old.items out.new.items result }
     ensures behind { StaysBehind (S.octets src.old) (S.octets src.new) }
+    ensures kept { KeepsFront out.old.items out.new.items }
 {
     for _ in 0..count {
         rewrite_scalar(alloc, src, depth, kind, out)?;
@@ -218,7 +235,7 @@ fn rewrite_row<S: Source>(
 
 /// Rewrites a value of the type id, whose inner values may have that nesting depth.
 #[cycle(rewrites)]
-pub fn rewrite_scalar<S: Source>(
+fn rewrite_scalar<S: Source>(
     alloc: Global,
     src: &mut S,
     depth: u32,
@@ -229,6 +246,7 @@ pub fn rewrite_scalar<S: Source>(
     ensures exact { Recodes (element_fits kind) scalar_canonical (scalars_at depth kind (S.octets src.old))
         (S.octets src.new) out.old.items out.new.items result }
     ensures behind { StaysBehind (S.octets src.old) (S.octets src.new) }
+    ensures kept { KeepsFront out.old.items out.new.items }
 {
     match kind {
         23 => rewrite_data_value(alloc, src, depth, out),
@@ -250,6 +268,7 @@ pub fn rewrite_data_value<S: Source>(
     ensures exact { Recodes data_value_fits data_value_canonical (data_value_at depth (S.octets src.old))
         (S.octets src.new) out.old.items out.new.items result }
     ensures behind { StaysBehind (S.octets src.old) (S.octets src.new) }
+    ensures kept { KeepsFront out.old.items out.new.items }
 {
     if depth == 0 {
         return Err(RecodeFault::NoValue);
@@ -269,6 +288,7 @@ fn rewrite_data_value_level<S: Source>(
     ensures exact { Recodes data_value_fits data_value_canonical (data_value_step (variant_at depth) (S.octets src.old))
         (S.octets src.new) out.old.items out.new.items result }
     ensures behind { StaysBehind (S.octets src.old) (S.octets src.new) }
+    ensures kept { KeepsFront out.old.items out.new.items }
 {
     let mask = u8::read_value(alloc, src, 0)?;
     if mask > masks::KNOWN_FLAGS {
@@ -293,6 +313,7 @@ fn rewrite_held<S: Source>(
         (optional_read set (variant_at depth) (S.octets src.old)) (S.octets src.new) out.old.items out.new.items
         result }
     ensures behind { StaysBehind (S.octets src.old) (S.octets src.new) }
+    ensures kept { KeepsFront out.old.items out.new.items }
 {
     if !set {
         return Ok(());

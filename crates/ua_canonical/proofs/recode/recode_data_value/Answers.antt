@@ -1,7 +1,45 @@
-use Rattle.ua_canonical.proofs.PublicRecoded.{data_value_recodes}
+use Rattle.std.proofs.Common.{Ok, arith}
+use Rattle.std.proofs.lemmas.Result.{err_from_is_err_and}
+use Rattle.ua_canonical.proofs.Kept.{cut_back}
+use Rattle.ua_canonical.proofs.PublicRecoded.{data_value_recodes, data_value_unskipped, data_value_refused}
 use Rattle.ua_canonical.proofs.recode.recode_data_value.Goals as goal
 
-pub returns-clause-exact : goal.returns-clause-exact
-returns-clause-exact g c =
+pub returns-in-Ok-clause-exact : goal.returns-in-Ok-clause-exact
+returns-in-Ok-clause-exact g c =
     data_value_recodes c.args.depth (g.S.Source.octets c.args.src.now) (g.S.Source.octets c.rewrite_data_value.new.src) c.args.out.now.items
-    c.rewrite_data_value.new.out.items c.rewrite_data_value.result c.requires.levels c.rewrite_data_value.ensures.exact
+    c.rewrite_data_value.new.out.items (Ok tt) c.requires.levels c.in-Ok.ensures.exact
+
+pub returns-in_err-skip_value-in-Err-NotWritable-clause-exact : goal.returns-in_err-skip_value-in-Err-NotWritable-clause-exact
+returns-in_err-skip_value-in-Err-NotWritable-clause-exact g c =
+    let fault = err_from_is_err_and c.from_residual.result c.from_residual.ensures.1 in
+    rw (fault.1, fault.2) (data_value_unskipped c.args.depth _ (g.S.Source.octets c.args.src.now) (g.S.Source.octets c.skip_value.new.src)
+    (g.S.Source.octets c.skip_value.new.src) c.args.out.now.items c.truncate-in-Err-NotWritable.new.self.items
+    c.in_err-skip_value-in-Err-NotWritable.field-0.0 c.fork-start.ensures c.in_err-skip_value-in-Err-NotWritable.ensures.exact)
+
+pub returns-in_err-skip_value-in-Err-NotWritable-clause-kept : goal.returns-in_err-skip_value-in-Err-NotWritable-clause-kept
+returns-in_err-skip_value-in-Err-NotWritable-clause-kept g c =
+    let fault = err_from_is_err_and c.from_residual.result c.from_residual.ensures.1 in
+    rw (fault.1) (cut_back c.args.out.now.items c.rewrite_data_value.new.out.items _ c.len-begun.result (omega arith) c.in-Err-NotWritable.ensures.kept
+    c.truncate-in-Err-NotWritable.ensures.items)
+
+pub returns-in_ok-skip_value-in-Err-NotWritable-clause-kept : goal.returns-in_ok-skip_value-in-Err-NotWritable-clause-kept
+returns-in_ok-skip_value-in-Err-NotWritable-clause-kept g c =
+    cut_back c.args.out.now.items c.rewrite_data_value.new.out.items _ c.len-begun.result (omega arith) c.in-Err-NotWritable.ensures.kept
+    c.truncate-in-Err-NotWritable.ensures.items
+
+pub returns-in_ok-skip_value-in-Err-NotWritable-clause-refused : goal.returns-in_ok-skip_value-in-Err-NotWritable-clause-refused
+returns-in_ok-skip_value-in-Err-NotWritable-clause-refused g c =
+    λ e.
+    data_value_refused c.args.depth _ (g.S.Source.octets c.args.src.now) (g.S.Source.octets c.skip_value.new.src)
+    (g.S.Source.octets c.rewrite_data_value.new.src)
+    c.args.out.now.items c.rewrite_data_value.new.out.items c.in-Err-NotWritable.field-0 c.requires.levels c.fork-start.ensures
+    c.in-Err-NotWritable.field-0-is c.in-Err-NotWritable.ensures.exact c.in_ok-skip_value-in-Err-NotWritable.ensures.exact
+
+pub returns-in-Err-NoValue-clause-kept : goal.returns-in-Err-NoValue-clause-kept
+returns-in-Err-NoValue-clause-kept g c =
+    cut_back c.args.out.now.items c.rewrite_data_value.new.out.items _ c.len-begun.result (omega arith) c.in-Err-NoValue.ensures.kept c.truncate.ensures.items
+
+pub returns-in-Err-OutOfMemory-clause-kept : goal.returns-in-Err-OutOfMemory-clause-kept
+returns-in-Err-OutOfMemory-clause-kept g c =
+    cut_back c.args.out.now.items c.rewrite_data_value.new.out.items _ c.len-begun.result (omega arith) c.in-Err-OutOfMemory.ensures.kept
+    c.truncate-in-Err-OutOfMemory.ensures.items

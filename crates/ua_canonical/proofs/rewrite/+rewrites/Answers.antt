@@ -1,10 +1,11 @@
-use Rattle.std.proofs.Common.{◌-◌, set, arith, ap, sym, ◌∙◌}
+use Rattle.std.proofs.Common.{◌-◌, set, refl, arith, ap, sym, ◌∙◌}
 use Rattle.std.proofs.lemmas.Result.{err_from_is_err_and}
 use Rattle.ua_variant.specs.Canonical.{variant_canonical, data_value_canonical}
 use Rattle.ua_variant.specs.Decoding.{variant_at, variant_step, data_value_at, data_value_step, scalars_at}
 use Rattle.ua_variant.specs.Encodable.{variant_fits, data_value_fits}
 use Rattle.ua_variant.proofs.VariantsRead.{variant_none, variant_level, data_value_none, data_value_level}
 use Rattle.ua_canonical.proofs.Steps.{recodes_as}
+use Rattle.ua_canonical.proofs.Kept.{kept_more, kept_extended, elements_kept}
 use Rattle.ua_canonical.proofs.FieldsRecoded.{field_recodes}
 use Rattle.ua_canonical.proofs.RowsRecoded.{row_goes_on, row_fault, row_done}
 use Rattle.ua_canonical.proofs.ArraysRecoded.{no_count, null_array, some_array, array_short, row_refused, dims_encodable_at, elements_recoded}
@@ -27,11 +28,11 @@ rewrite_array-returns-then-count-ge-FIRST_NEGATIVE-clause-exact g t c =
     c.args.out.now.items c.rewrite_null_array.new.out.items c.rewrite_null_array.result c.in_ok-count.ensures.exact c.if-count-ge-FIRST_NEGATIVE.true
     c.rewrite_null_array.ensures.exact
 
-pub rewrite_array-returns-then-left-count-clause-exact : goal.rewrite_array-returns-then-left-count-clause-exact
-rewrite_array-returns-then-left-count-clause-exact g t c =
-    array_short c.args.depth c.args.kind c.args.flagged c.in_ok-count.count (g.S.Source.octets c.args.src.now) (g.S.Source.octets
-    c.read_value.new.src) c.in_ok-count.ensures.exact (omega arith)
-    (omega (arith, c.left.ensures, c.if-left-count.true))
+pub rewrite_array-returns-then-room-count-clause-exact : goal.rewrite_array-returns-then-room-count-clause-exact
+rewrite_array-returns-then-room-count-clause-exact g t c =
+    array_short c.args.depth c.args.kind c.args.flagged c.in_ok-count.count (g.S.Source.octets c.args.src.now) (g.S.Source.octets c.read_value.new.src)
+    c.left.result c.least_octets.result c.in_ok-count.ensures.exact (omega arith) c.left.ensures c.least_octets.ensures.octets c.least_octets.ensures.some
+    c.if-room-count.true
 
 pub rewrite_array-returns-clause-exact : goal.rewrite_array-returns-clause-exact
 rewrite_array-returns-clause-exact g t c =
@@ -101,6 +102,18 @@ rewrite_elements-returns-clause-exact g t c =
     c.in_ok-push.ensures.items c.in_ok-append.ensures.ok
     (ap (λ x. set c.rewrite_row.new.out.items c.len-first.result x) c.array_tag.ensures) c.in_ok-append_dims.ensures.ok
 
+pub rewrite_elements-returns-in_err-append_dims-clause-kept : goal.rewrite_elements-returns-in_err-append_dims-clause-kept
+rewrite_elements-returns-in_err-append_dims-clause-kept g t c =
+    elements_kept c.args.out.now.items c.push.new.self.items c.append.new.out.items c.rewrite_row.new.out.items _ c.append_dims.new.out.items _ _
+    c.len-first.result c.array_tag.result (omega arith) c.in_ok-push.ensures.items c.in_ok-append.ensures.ok c.in_ok-rewrite_row.ensures.kept refl
+    (kept_extended _ c.append_dims.new.out.items c.in_err-append_dims.ensures.err)
+
+pub rewrite_elements-returns-clause-kept : goal.rewrite_elements-returns-clause-kept
+rewrite_elements-returns-clause-kept g t c =
+    elements_kept c.args.out.now.items c.push.new.self.items c.append.new.out.items c.rewrite_row.new.out.items _ c.append_dims.new.out.items _ _
+    c.len-first.result c.array_tag.result (omega arith) c.in_ok-push.ensures.items c.in_ok-append.ensures.ok c.in_ok-rewrite_row.ensures.kept refl
+    (kept_more _ c.append_dims.new.out.items _ c.in_ok-append_dims.ensures.ok)
+
 pub rewrite_held-returns-clause-exact : goal.rewrite_held-returns-clause-exact
 rewrite_held-returns-clause-exact g t c =
     field_recodes variant_fits variant_canonical (variant_at c.args.depth) c.args.set (g.S.Source.octets c.args.src.now) (g.S.Source.octets
@@ -123,6 +136,7 @@ rewrite_row-loop-preserved g t c = record {
       c.in_ok-rewrite_scalar.ensures.exact
       c.loop.invariant.so_far;
   behind = λ start h. c.in_ok-rewrite_scalar.ensures.behind start (c.loop.invariant.behind start h);
+  kept = λ start h. c.in_ok-rewrite_scalar.ensures.kept start (c.loop.invariant.kept start h);
 }
 
 pub rewrite_row-returns-clause-exact : goal.rewrite_row-returns-clause-exact
@@ -165,11 +179,11 @@ rewrite_tagged-returns-then-not-is_read_kind-clause-exact g t c =
     no_array c.args.depth c.args.tag (g.S.Source.octets c.args.src.now) c.if-tag-ge-ARRAY.true (omega arith) (sym c.is_read_kind.ensures ∙
     c.if-not-is_read_kind.true)
 
-pub rewrite_tagged-returns-then-not-is_written_kind-clause-exact : goal.rewrite_tagged-returns-then-not-is_written_kind-clause-exact
-rewrite_tagged-returns-then-not-is_written_kind-clause-exact g t c =
+pub rewrite_array-returns-then-not-is_written_kind-clause-exact : goal.rewrite_array-returns-then-not-is_written_kind-clause-exact
+rewrite_array-returns-then-not-is_written_kind-clause-exact g t c =
     λ v rest e.
-    reserved_array c.args.depth c.args.tag (g.S.Source.octets c.args.src.now) c.if-tag-ge-ARRAY.true (omega arith)
-    (sym c.is_written_kind.ensures ∙ c.if-not-is_written_kind.true) v rest e
+    reserved_array c.args.depth c.args.kind c.args.flagged (g.S.Source.octets c.args.src.now) (sym c.is_written_kind.ensures ∙
+    c.if-not-is_written_kind.true) v rest e
 
 pub rewrite_tagged-returns-then-tag-ge-ARRAY-clause-exact : goal.rewrite_tagged-returns-then-tag-ge-ARRAY-clause-exact
 rewrite_tagged-returns-then-tag-ge-ARRAY-clause-exact g t c =

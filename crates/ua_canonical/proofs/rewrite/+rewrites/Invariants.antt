@@ -1,6 +1,7 @@
 use Rattle.std.proofs.Common.{◌+◌, ◌*◌, ◌-◌}
 use Rattle.ua_wire.specs.Format.{StaysBehind}
 use Rattle.ua_variant.specs.Decoding.{scalars_at}
+use Rattle.ua_canonical.specs.Recoded.{KeepsFront}
 use Rattle.ua_canonical.proofs.RowsRecoded.{SaysAll}
 use Rattle.ua_canonical.proofs.rewrite.+rewrites.Given as goal
 
@@ -39,4 +40,5 @@ invariant-rewrite_row-loop g l = record {
   so_far : SaysAll l.kind (scalars_at l.depth l.kind) (l.count - l.counter) l.count (g.S.Source.octets l.src) (g.S.Source.octets l.fn.src) l.out.items
       l.fn.out.items;
   behind : StaysBehind (g.S.Source.octets l.fn.src) (g.S.Source.octets l.src);
+  kept : KeepsFront l.fn.out.items l.out.items;
 }

@@ -1,0 +1,21 @@
+//! The least number of bytes that encode a value.
+
+ghost use Rattle.std.specs.Prelude.{◌≡◌, ◌<◌};
+ghost use Rattle.ua_variant.specs.Least.{least_octets as least_of};
+
+/// The least number of bytes that encode a value of the type id.
+#[tactic(auto, unfolding(ua_variant::specs::Least::least_octets))]
+pub fn least_octets(kind: u8) -> usize
+    ensures octets { result ≡ least_of kind }
+    ensures some { 0 < result }
+{
+    match kind {
+        4 | 5 | 17 | 18 => 2,
+        6 | 7 | 10 | 12 | 15 | 16 | 19 | 26..=31 => 4,
+        8 | 9 | 11 | 13 => 8,
+        14 => 16,
+        20 => 6,
+        22 => 3,
+        _ => 1,
+    }
+}
