@@ -125,9 +125,6 @@ LONG = [
     ('CreateSessionRequest of a nonce', '', b'\x01\0\xCD\x01' + header(False) + APPLICATION + 3 * NULL, NULL + bytes(12), b'a'),
     ('ReadResponse of a DiagnosticInfo', '--server', b'\x01\0\x7A\x02' + RESPONSE + NULL + b'\1\0\0\0\x10', b'', b'a'),
     ('ReadResponse that is cut off, with a StringTable', '--server', b'\x01\0\x7A\x02' + RESPONSE[:17], bytes(3), NULL),
-]
-# The same for `dissect` alone: OPNs, and an array in a value.
-SKIPPED = [
     ('OpenSecureChannelRequest of a nonce', '', OPEN_REQUEST + header(False) + bytes(12), bytes(4), b'a'),
     ('OpenSecureChannelResponse of a nonce', '--server', OPEN_RESPONSE + RESPONSE + bytes(24), b'', b'a'),
     ('OpenSecureChannelResponse with a StringTable of null Strings', '--server', OPEN_RESPONSE + RESPONSE[:17], bytes(27) + NULL, NULL),

@@ -52,7 +52,7 @@ mutual
       (subst (λ (x : List ℕ). AreElementsBehind style margin path (index + 1) x others new) one.1 h.2) in
       (rest.0, rest.1, (one.0, one.2, rest.2))
 
-  fields_shifted : (style : FieldStyle) (margin path front old : List ℕ) (inner : Fields) (new : List ℕ)
+  pub fields_shifted : (style : FieldStyle) (margin path front old : List ℕ) (inner : Fields) (new : List ℕ)
       → AreFieldsBehind style margin path (front ++ old) inner new → (more : List ℕ) × (new ≡ front ++ more) × AreFieldsBehind style margin path old inner more
   fields_shifted style margin path front old no_fields new h = (old, h, refl)
   fields_shifted style margin path front old (field name tree others) new h =

@@ -23,4 +23,5 @@ mod ValueArrays
 mod ValueLines
 mod PrintedBodies
 mod Headed
+mod OpenedBodies
 mod Titles

@@ -155,6 +155,17 @@ opening_told d fs place n f c old mid new s none found size follows first second
   opening_text d.options place n f c old mid new found size first second,
 )
 
+-- the same where its fields are pending
+pub opening_titled : (d : Teller) (fs : List Frame) (place n : ℕ) (f : Frame) (c : OpenChunk) (pending : Option Pending) (old mid new : List ℕ)
+    → TellerStands d fs → open_refusal f.body ≡ None → opening_in f ≡ Some c → n ≡ frame_size f
+    → IsTrue (may_follow (last_number d.assembler) c.sequence) → mid ≡ old ++ opening_line place n c
+    → ((more : List ℕ) × (new ≡ mid ++ more) × IsOpenedText d.options c more)
+    → JudgesKind {A = Option Pending} Opn d.options fs place f (Ok pending) old new
+opening_titled d fs place n f c pending old mid new s none found size follows first second = (
+  opening_taken (last_sequence fs) f c none found (subst (λ (o : Option ℕ). IsTrue (may_follow o c.sequence)) s.last follows),
+  opening_text d.options place n f c old mid new found size first second,
+)
+
 -- ---- any frame
 
 -- a HEL, an ACK or an ERR, by its body and size

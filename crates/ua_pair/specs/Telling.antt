@@ -1,5 +1,5 @@
 -- The state of the part that prints lines after frames, and what one more frame makes of it.
-use Rattle.std.specs.Prelude.{◌≡◌, ℕ, List, [], ◌++◌, Option, Some, None, Result, Ok, Err}
+use Rattle.std.specs.Prelude.{◌≡◌, ℕ, Bool, List, [], ◌++◌, Option, Some, None, Result, Ok, Err}
 use Rattle.std.specs.List.{concat}
 use Rattle.ua_builtin.specs.Reasons.{first_reason}
 use Rattle.ua_builtin.specs.Status.{of_code}
@@ -12,6 +12,7 @@ use Rattle.ua_chunk.specs.declared.fault.OpenFault.{OpenFault}
 use Rattle.ua_chunk.specs.declared.fault.OpenFault.TheVariants as opening
 use Rattle.ua_chunk.specs.Assembling.{Stands as AssemblerStands, octet_limit, chunk_limit, last_number}
 use Rattle.ua_pair.specs.declared.teller.Pending.{Pending}
+use Rattle.ua_pair.specs.declared.teller.Pending.TheVariants.{Message, Opening}
 use Rattle.ua_pair.specs.declared.teller.Teller.{Teller}
 use Rattle.ua_pair.specs.declared.fault.DissectFault.{DissectFault}
 use Rattle.ua_pair.specs.declared.fault.DissectFault.TheVariants.{Refused, OutOfMemory}
@@ -19,7 +20,7 @@ use Rattle.ua_pair.specs.declared.side.Side.{Side}
 use Rattle.ua_pair.specs.declared.options.DissectOptions.{DissectOptions}
 use Rattle.ua_pair.specs.Before.{message_chunks, last_sequence}
 use Rattle.ua_pair.specs.Refused.{most_message_octets, most_chunks, chunk_code, reasons_by}
-use Rattle.ua_pair.specs.Names.{message_kind}
+use Rattle.ua_pair.specs.Names.{message_kind, opening_kind}
 use Rattle.ua_pair.specs.Told.{AreFieldsOf, IsHeaderOf, IsTextBy}
 
 -- the error that results from an error of the assembler: a rejection with its code, or OutOfMemory
@@ -46,13 +47,18 @@ pub record TellerStands (t : Teller) (fs : List Frame) : Type 0 where
   pub octets : octet_limit t.assembler ≡ most_message_octets
   pub chunks : chunk_limit t.assembler ≡ most_chunks
 
--- a text has the lines of the fields of the message whose line is told, or of its header, if they
--- are wanted; it is empty where no message is pending
+-- a text has the lines of the fields of a message, or of its header, if they are wanted
+abbrev pub AreMessageFields : DissectOptions → Bool → List ℕ → List ℕ → Type 0
+AreMessageFields options unsupported octets text =
+    (fields : List ℕ) × (header : List ℕ) × (text ≡ fields ++ header) × AreFieldsOf options (message_kind options.side) octets fields
+    × IsHeaderOf options unsupported octets header
+
+-- a text has the lines of the fields of what has its line told, a message or an OPN, if they are
+-- wanted; it is empty where nothing is pending
 abbrev pub ArePendingLines : DissectOptions → Option Pending → List ℕ → Type 0
 ArePendingLines options None text = text ≡ []
-ArePendingLines options (Some p) text =
-    (fields : List ℕ) × (header : List ℕ) × (text ≡ fields ++ header) × AreFieldsOf options (message_kind options.side) (concat p.message) fields
-    × IsHeaderOf options p.unsupported (concat p.message) header
+ArePendingLines options (Some (Message m unsupported)) text = AreMessageFields options unsupported (concat m) text
+ArePendingLines options (Some (Opening c)) text = AreFieldsOf options (opening_kind options.side) c.body text
 
 -- the outcome where no message is pending
 abbrev pub none_pending : Result (Unit {0}) DissectFault → Result (Option Pending) DissectFault

@@ -294,10 +294,10 @@ impl Dissector {
     }
 
     /// Takes the next bytes, and prints what [`take`](Dissector::take) would append, without holding
-    /// all of it: the fields of each request and response in a MSG are printed as they are read, an
-    /// element of an array at a time, also of one in a value; with `plain` a value is read whole. On
-    /// an error the dissector takes nothing more. Where an allocation failed, the first of the lines
-    /// may have been printed; where the writer failed, it is not known what was.
+    /// all of it: the fields of each request and response in a MSG or an OPN are printed as they are
+    /// read, an element of an array at a time, also of an array in a value; with `plain` a value is
+    /// read whole. On an error the dissector takes nothing more. Where an allocation failed, the
+    /// first of the lines may have been printed; where the writer failed, it is not known what was.
     pub fn print<O: Write>(&mut self, piece: &[u8], out: &mut O) -> Result<(), PrintFault>
         // The lines printed so far depend on the bytes alone, however they were fragmented.
         ensures told { (options : DissectOptions) (octets told : List ℕ) → StandsBehind self.old options octets told

@@ -16,6 +16,7 @@ mod leaves;
 mod lines;
 mod message;
 mod null;
+mod opened;
 mod path;
 mod pending;
 mod pieces;
@@ -35,5 +36,6 @@ pub use message::{
     push_close_request_fields, push_open_answer_fields, push_open_request_fields,
     push_open_response_fields, push_request_fields, push_response_fields,
 };
+pub(crate) use opened::print_opening;
 pub(crate) use pending::print_message;
 pub(crate) use text::push_node;

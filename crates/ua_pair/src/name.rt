@@ -102,7 +102,7 @@ fn open_request_name<S: Source>(alloc: Global, src: &mut S) -> Result<&'static s
 /// Skips the OpenSecureChannelResponse at the start of the source, field by field (OPC 10000-4,
 /// 5.6.2). After an error, discard the source.
 #[tactic(auto, unfolding(ua_opening::specs::SecureChannel::open_response))]
-fn skip_open_response<S: Source>(alloc: Global, src: &mut S) -> Result<(), ReadFault>
+pub(crate) fn skip_open_response<S: Source>(alloc: Global, src: &mut S) -> Result<(), ReadFault>
     ensures exact { Gives (skipped (open_response.decode most_levels)) (S.octets src.old) (S.octets src.new) result }
 {
     ResponseHeader::skip_value(alloc, src, MOST_LEVELS)?;

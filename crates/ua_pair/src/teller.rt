@@ -15,7 +15,8 @@ ghost use Rattle.ua_pair.specs.Before.{message_chunks};
 ghost use Rattle.ua_pair.specs.Dissected.{every_frame};
 ghost use Rattle.ua_pair.specs.Printing.{PrintsOrBreaks};
 ghost use Rattle.ua_pair.specs.Styles.{style_of};
-ghost use Rattle.ua_pair.specs.Telling.{ArePendingLines, TellerStands, JudgesFrameTelling, JudgesKind, none_pending};
+ghost use Rattle.ua_pair.specs.Telling.{AreMessageFields, ArePendingLines, TellerStands};
+ghost use Rattle.ua_pair.specs.Telling.{JudgesFrameTelling, JudgesKind, none_pending};
 ghost use Rattle.ua_pair.specs.Refused.{greeting_reasons, frame_reasons};
 ghost use Rattle.ua_pair.specs.Lines.{message_line};
 ghost use Rattle.ua_pair.specs.Names.{message_kind as kind_of_message, opening_kind as kind_of_opening};
@@ -28,7 +29,9 @@ ghost use Rattle.ua_pair.specs.Told.{IsItemText, IsOpenedText, line_if, place_be
 
 use crate::encoding::push_encoding;
 use crate::fault::DissectFault;
-use crate::fields::{BodyKind, print_header, print_message, push_body_text, push_header_fields};
+use crate::fields::{
+    BodyKind, print_header, print_message, print_opening, push_body_text, push_header_fields,
+};
 use crate::line::{
     GreetingLine, push_aborted_line, push_chunk_line, push_message_line, push_message_start,
     push_newline, push_opening_line,
@@ -234,12 +237,13 @@ fn push_opened(
     push_fields(alloc, options, opening_kind(options.side), &mut src, lines)
 }
 
-/// A message whose line is appended, and whose fields are to be printed after it.
+/// What has its line appended, and its fields to be printed after it.
 #[derive(Debug, Drop)]
-pub struct Pending {
-    message: Message,
-    /// Whether it is of no known kind.
-    unsupported: bool,
+pub enum Pending {
+    /// A message, and whether it is of no known kind.
+    Message(Message, bool),
+    /// The chunk of an OPN.
+    Opening(OpenChunk),
 }
 
 /// Prints the lines of the fields of a message of this side, if they are wanted.
@@ -280,8 +284,61 @@ fn print_header_if<O: Write>(
     }
 }
 
-/// Prints the lines of the fields of the message whose line is appended, if they are wanted; none
-/// where no message is pending.
+/// Prints the lines of the fields of a message, or of its header, if they are wanted.
+fn print_message_fields<O: Write>(
+    alloc: Global,
+    options: &DissectOptions,
+    unsupported: bool,
+    message: &Message,
+    text: &mut String,
+    out: &mut O,
+) -> Result<(), PrintFault>
+    ensures { PrintsOrBreaks (style_of options.now) (O.contents out.old) (string_bytes text.old) (O.contents out.new)
+        (string_bytes text.new) (AreMessageFields options.now unsupported (concat message.now)) result }
+{
+    print_fields(alloc, options, message, text, out)?;
+    print_header_if(alloc, options, unsupported, message, text, out)
+}
+
+/// Prints the lines of the fields of the body of an OPN of this side, if they are wanted.
+fn print_opened<O: Write>(
+    alloc: Global,
+    options: &DissectOptions,
+    chunk: &OpenChunk,
+    text: &mut String,
+    out: &mut O,
+) -> Result<(), PrintFault>
+    ensures { PrintsOrBreaks (style_of options.now) (O.contents out.old) (string_bytes text.old) (O.contents out.new)
+        (string_bytes text.new) (AreFieldsOf options.now (kind_of_opening options.now.side) chunk.now.body) result }
+{
+    if options.fields {
+        print_opening(alloc, options.side, options.style(), &chunk.body, text, out)
+    } else {
+        Ok(())
+    }
+}
+
+/// Prints the lines of the fields of what has its line appended, if they are wanted.
+fn print_fields_of<O: Write>(
+    alloc: Global,
+    options: &DissectOptions,
+    pending: &Pending,
+    text: &mut String,
+    out: &mut O,
+) -> Result<(), PrintFault>
+    ensures { PrintsOrBreaks (style_of options.now) (O.contents out.old) (string_bytes text.old) (O.contents out.new)
+        (string_bytes text.new) (ArePendingLines options.now (Some pending.now)) result }
+{
+    match pending {
+        Pending::Message(message, unsupported) => {
+            print_message_fields(alloc, options, *unsupported, message, text, out)
+        }
+        Pending::Opening(chunk) => print_opened(alloc, options, chunk, text, out),
+    }
+}
+
+/// Prints the lines of the fields of what has its line appended, if they are wanted; none where
+/// nothing is pending.
 pub fn print_pending<O: Write>(
     alloc: Global,
     options: &DissectOptions,
@@ -292,18 +349,10 @@ pub fn print_pending<O: Write>(
     ensures { PrintsOrBreaks (style_of options.now) (O.contents out.old) (string_bytes text.old) (O.contents out.new)
         (string_bytes text.new) (ArePendingLines options.now pending.now) result }
 {
-    let Some(pending) = pending else {
-        return Ok(());
-    };
-    print_fields(alloc, options, &pending.message, text, out)?;
-    print_header_if(
-        alloc,
-        options,
-        pending.unsupported,
-        &pending.message,
-        text,
-        out,
-    )
+    match pending {
+        Some(pending) => print_fields_of(alloc, options, pending, text, out),
+        None => Ok(()),
+    }
 }
 
 /// Appends the line of a message, whose fields are pending then.
@@ -319,10 +368,7 @@ fn push_title(
         × IsItemText options.now (Whole request (concat message)) text) }
 {
     let unsupported = push_message_head(alloc, options, request, &message, lines)?;
-    Ok(Pending {
-        message,
-        unsupported,
-    })
+    Ok(Pending::Message(message, unsupported))
 }
 
 /// Appends the line of what a chunk completes, and returns the message whose fields are pending.
@@ -346,6 +392,22 @@ fn push_titled(
             Ok(None)
         }
     }
+}
+
+/// Appends the line of the body of an OPN, whose fields are pending then.
+fn push_opened_title(
+    alloc: Global,
+    options: &DissectOptions,
+    chunk: OpenChunk,
+    lines: &mut String,
+) -> Result<Pending, AllocError>
+    ensures { IfOk result (λ pending. (more : List ℕ) → ArePendingLines options.now (Some pending) more
+        → (text : List ℕ) × (string_bytes lines.new ++ more ≡ string_bytes lines.old ++ text)
+        × IsOpenedText options.now chunk text) }
+{
+    let name = opening_name(alloc, options.side, &chunk.body)?;
+    push_message_line(lines, chunk.request, chunk.body.len(), name)?;
+    Ok(Pending::Opening(chunk))
 }
 
 /// What is returned for a UA TCP message that leaves no fields pending.
@@ -516,6 +578,37 @@ impl Teller {
         }
     }
 
+    /// Appends the line of an OPN at this offset and that of its body, whose fields are pending
+    /// then.
+    fn push_opening_title(
+        &mut self,
+        frame: Frame,
+        place: usize,
+        lines: &mut String,
+    ) -> Result<Option<Pending>, DissectFault>
+        requires kind { frame.kind ≡ Opn }
+        requires sized { IsSized frame }
+        ensures judged { (before : List Frame) (more : List ℕ) → TellerStands self.old before
+            → IfOk result (λ pending. ArePendingLines self.old.options pending more) →
+            JudgesKind Opn self.old.options before place frame result (string_bytes lines.old)
+            (string_bytes lines.new ++ more) }
+        ensures stands { (before : List Frame) → TellerStands self.old before
+            → OnOk result (TellerStands self.new (before ++ frame ∷ [])) }
+        ensures options { self.new.options ≡ self.old.options }
+    {
+        let size = frame_size(&frame);
+        let chunk = match read_open(frame) {
+            Ok(chunk) => chunk,
+            Err(fault) => return Err(DissectFault::from_opening(fault)),
+        };
+        if let Err(fault) = self.assembler.step(chunk.sequence) {
+            return Err(DissectFault::from_chunk(self.options.side, fault));
+        }
+        push_opening_line(lines, place, size, &chunk)?;
+        let pending = push_opened_title(self.alloc, &self.options, chunk, lines)?;
+        Ok(Some(pending))
+    }
+
     /// Appends the lines of the next UA TCP message, which begins at this offset, without those of
     /// the fields of the message that is returned.
     pub fn push_frame_title(
@@ -538,6 +631,7 @@ impl Teller {
     {
         match frame.kind {
             Kind::Msg => self.push_message_title(frame, place, lines),
+            Kind::Opn => self.push_opening_title(frame, place, lines),
             _ => without_pending(self.push_frame(frame, place, lines)),
         }
     }

@@ -56,7 +56,7 @@ fn print_behind<T: Printed, S: Source, O: Write>(
 
 /// Prints the lines of the structure that is there after the NodeId at the start of the source.
 /// Discard the source afterwards.
-fn print_known<T: Printed, S: Source, O: Write>(
+pub(crate) fn print_known<T: Printed, S: Source, O: Write>(
     alloc: Global,
     style: FieldStyle,
     src: &mut S,

@@ -1,9 +1,12 @@
 //! The ChannelSecurityToken, and the response that holds its fields, as lines.
 
 use crate::fields::lines::{Lines, Place, push_fields};
+use crate::fields::printing::{Printed, PrintedFields};
+use crate::printing::{TellFault, write_full};
 use std::alloc::{AllocError, Global};
-use ua_builtin::DateTime;
-use ua_services::OpenResponse;
+use std::io::Write;
+use ua_builtin::{DateTime, MOST_LEVELS, Source, UaBytes, Wire};
+use ua_services::{OpenResponse, ResponseHeader};
 
 /// A ChannelSecurityToken (OPC 10000-4, 5.6.2), whose fields an [`OpenResponse`] has as its own.
 #[derive(Clone, Copy)]
@@ -60,5 +63,59 @@ impl Lines for OpenResponse {
         place.push_part(alloc, out, "security_token", &SecurityToken::of(self))?;
         place.push_field(alloc, out, "server_nonce", &self.server_nonce)?;
         Ok(())
+    }
+}
+
+/// The fields of an [`OpenResponse`] after its header.
+struct OpenedFields;
+
+impl PrintedFields for OpenedFields {
+    ghost use Rattle.ua_pair.specs.SecurityToken.{opened_fields};
+
+    type Values = (u32, (u32, (u32, (DateTime, (u32, UaBytes)))));
+
+    type Names = ();
+
+    ghost fields = { λ names value. opened_fields value };
+
+    fn print_fields<S: Source, O: Write>(
+        alloc: Global,
+        src: &mut S,
+        place: Place,
+        _names: (),
+        text: &mut String,
+        out: &mut O,
+    ) -> Result<(), TellFault> {
+        let value = Self::Values::read_value(alloc, src, MOST_LEVELS)?;
+        let (version, (channel_id, (token_id, (created_at, (revised_lifetime, nonce))))) = value;
+        let token = SecurityToken {
+            channel_id,
+            token_id,
+            created_at,
+            revised_lifetime,
+        };
+        place.push_field(alloc, text, "server_protocol_version", &version)?;
+        place.push_part(alloc, text, "security_token", &token)?;
+        place.push_field(alloc, text, "server_nonce", &nonce)?;
+        drop(nonce);
+        write_full(text, out)?;
+        Ok(())
+    }
+}
+
+impl Printed for OpenResponse {
+    fn is_structure() -> bool {
+        true
+    }
+
+    fn print<S: Source, O: Write>(
+        alloc: Global,
+        src: &mut S,
+        place: Place,
+        text: &mut String,
+        out: &mut O,
+    ) -> Result<(), TellFault> {
+        let names = ("response_header", ());
+        <(ResponseHeader, OpenedFields)>::print_fields(alloc, src, place, names, text, out)
     }
 }

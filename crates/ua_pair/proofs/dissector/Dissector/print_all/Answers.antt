@@ -23,6 +23,20 @@ loop-lines-preserved-in_ok-write_full g c =
     c.loop-lines.invariant (take_rest c.args.piece.now c.loop-lines.at) (rw c.in-Some.is at c.in_ok-taken.ensures.taken)
     c.deref.ensures c.in_ok-push_str.ensures.bytes c.in_ok-print_pending.ensures c.in_ok-write_full.ensures
 
+pub loop-lines-preserved-in_ok-write_full-2 : goal.loop-lines-preserved-in_ok-write_full-2
+loop-lines-preserved-in_ok-write_full-2 g c =
+    printed_more c.args.self.now c.loop-lines.self c.take_title.new.self c.args.piece.now c.loop-lines.at c.in-Some.taken _ _ _ c.in-Some.pending _ _ _ _ _ _ _
+    _
+    c.loop-lines.invariant (take_rest c.args.piece.now c.loop-lines.at) (rw c.in-Some.is at c.in_ok-taken.ensures.taken)
+    c.deref.ensures c.in_ok-push_str.ensures.bytes c.in_ok-print_pending.ensures c.in_ok-write_full.ensures
+
+pub loop-lines-preserved-in_ok-write_full-3 : goal.loop-lines-preserved-in_ok-write_full-3
+loop-lines-preserved-in_ok-write_full-3 g c =
+    printed_more c.args.self.now c.loop-lines.self c.take_title.new.self c.args.piece.now c.loop-lines.at c.in-Some.taken _ _ _ c.in-Some.pending _ _ _ _ _ _ _
+    _
+    c.loop-lines.invariant (take_rest c.args.piece.now c.loop-lines.at) (rw c.in-Some.is at c.in_ok-taken.ensures.taken)
+    c.deref.ensures c.in_ok-push_str.ensures.bytes c.in_ok-print_pending.ensures c.in_ok-write_full.ensures
+
 pub returns-in_err-taken-clause-begun : goal.returns-in_err-taken-clause-begun
 returns-in_err-taken-clause-begun g c =
     let p = err_from_is_err_and c.from_residual.result c.from_residual.ensures.1 in

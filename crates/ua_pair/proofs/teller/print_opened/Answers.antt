@@ -1,0 +1,8 @@
+use Rattle.ua_pair.specs.Styles.{style_of}
+use Rattle.ua_pair.proofs.PrintedBodies.{printed_as}
+use Rattle.ua_pair.proofs.teller.print_opened.Goals as goal
+
+pub returns-then-options : goal.returns-then-options
+returns-then-options g c =
+    printed_as (style_of c.args.options.now) c.print_opening.result _ _ _ _ _ _ (λ text h. rw c.if-options.true h)
+    (rw (c.style.ensures, c.deref.ensures) at c.print_opening.ensures)
