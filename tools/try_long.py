@@ -19,7 +19,7 @@ from typing import Iterable
 sys.dont_write_bytecode = True
 sys.path.insert(0, os.path.dirname(os.path.abspath(__file__)))
 from try_large import TOP, framed
-from try_parts.large import APPLICATION, NULL, READ, RESPONSE, header
+from try_parts.large import APPLICATION, NULL, OPEN_RESPONSE, READ, RESPONSE, header
 
 # The bytes of a piece.
 PIECE = 24576
@@ -68,6 +68,7 @@ def trials(size: int) -> Iterable[tuple[str, bytes, str, str]]:
            base64.b64encode(octets).decode())
     yield '', READ + b'\1\0\0\0\3\7\0' + counted(text.encode()) + item, 'nodes_to_read[0].node_id', 'ns=7;s=' + escaped(text)
     yield '', READ + b'\1\0\0\0\5\0\0' + counted(octets) + item, 'nodes_to_read[0].node_id', 'b=' + base64.b64encode(octets).decode()
+    yield '--server', OPEN_RESPONSE + RESPONSE + bytes(24) + counted(octets), 'server_nonce', base64.b64encode(octets).decode()
     name = b'\7\0' + counted(text.encode())
     yield '', READ + b'\1\0\0\0\0\1' + item[:-6] + name, 'nodes_to_read[0].data_encoding', '0x' + name.hex()
     localized = b'\2' + counted(text.encode())

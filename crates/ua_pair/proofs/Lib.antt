@@ -24,4 +24,5 @@ mod ValueLines
 mod PrintedBodies
 mod Headed
 mod OpenedBodies
+mod Splits
 mod Titles

@@ -1,7 +1,7 @@
 //! The ChannelSecurityToken, and the response that holds its fields, as lines.
 
 use crate::fields::lines::{Lines, Place, push_fields};
-use crate::fields::printing::{Printed, PrintedFields};
+use crate::fields::printing::{Printed, PrintedFields, print_field};
 use crate::printing::{TellFault, write_full};
 use std::alloc::{AllocError, Global};
 use std::io::Write;
@@ -66,7 +66,8 @@ impl Lines for OpenResponse {
     }
 }
 
-/// The fields of an [`OpenResponse`] after its header.
+/// The fields of an [`OpenResponse`] after its header. Those before the nonce, which may be long,
+/// are read and printed first.
 struct OpenedFields;
 
 impl PrintedFields for OpenedFields {
@@ -86,8 +87,8 @@ impl PrintedFields for OpenedFields {
         text: &mut String,
         out: &mut O,
     ) -> Result<(), TellFault> {
-        let value = Self::Values::read_value(alloc, src, MOST_LEVELS)?;
-        let (version, (channel_id, (token_id, (created_at, (revised_lifetime, nonce))))) = value;
+        let front = <(u32, (u32, (u32, (DateTime, u32))))>::read_value(alloc, src, MOST_LEVELS)?;
+        let (version, (channel_id, (token_id, (created_at, revised_lifetime)))) = front;
         let token = SecurityToken {
             channel_id,
             token_id,
@@ -96,10 +97,8 @@ impl PrintedFields for OpenedFields {
         };
         place.push_field(alloc, text, "server_protocol_version", &version)?;
         place.push_part(alloc, text, "security_token", &token)?;
-        place.push_field(alloc, text, "server_nonce", &nonce)?;
-        drop(nonce);
         write_full(text, out)?;
-        Ok(())
+        print_field::<UaBytes, S, O>(alloc, src, place, "server_nonce", text, out)
     }
 }
 
