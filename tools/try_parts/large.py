@@ -120,6 +120,7 @@ LONG = [
     ('ServiceFault with a StringTable of null Strings', '--server', b'\x01\0\x8D\x01' + RESPONSE[:17], bytes(3), NULL),
     ('ServiceFault of an additional header', '--server', b'\x01\0\x8D\x01' + RESPONSE[:-1] + b'\1', b'', b'a'),
     ('Read of a NodeId', '', READ + b'\1\0\0\0\3\0\0', b'\x0D\0\0\0' + NULL + bytes(2) + NULL, b'a'),
+    ('Read of a NodeId of bytes', '', READ + b'\1\0\0\0\5\0\0', b'\x0D\0\0\0' + NULL + bytes(2) + NULL, b'a'),
     ('Read of an index range that prints escaped', '', READ + b'\1\0\0\0\0\1\x0D\0\0\0', bytes(2) + NULL, b'\1'),
     ('Read of a name', '', READ + b'\1\0\0\0\0\1\x0D\0\0\0' + NULL + bytes(2), b'', b'a'),
     ('CreateSessionRequest of a nonce', '', b'\x01\0\xCD\x01' + header(False) + APPLICATION + 3 * NULL, NULL + bytes(12), b'a'),

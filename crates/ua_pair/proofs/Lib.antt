@@ -17,6 +17,7 @@ mod Refusing
 mod Printings
 mod Pieces
 mod Long
+mod NodeTexts
 mod ValueTexts
 mod ValueElements
 mod ValueArrays

@@ -1,6 +1,6 @@
 -- Texts that are printed in pieces.
 use Rattle.std.proofs.Common.{◌≡◌, ℕ, ◌+◌, ◌/◌, ◌%◌, ◌<◌, ◌≤◌, List, [], ◌∷◌, ◌++◌, Option, Result, Ok, Err, length, get_or, drop, slice_index}
-use Rattle.std.proofs.Common.{encode_utf8, encode_utf8_all, codes, refl, sym, ap, ap₂, ◌∙◌, append-nil, append_assoc, arith, length-append}
+use Rattle.std.proofs.Common.{encode_utf8, encode_utf8_all, codes, refl, sym, subst, ap, ap₂, ◌∙◌, append-nil, append_assoc, arith, length-append}
 use Rattle.std.proofs.lemmas.List.{drop_all, drop_more, take-append-drop}
 use Rattle.std.proofs.lemmas.Str.{encodes-chars}
 use Rattle.std.specs.List.{IsSplitAt, flat_map}
@@ -156,6 +156,19 @@ pub line_stopped : (a b c : Option (List ℕ)) (ka kb kc one rest text : List �
     → PrintsPieces b kb c kc one (Err fault) → PrintsPieces a ka c kc text (Err fault)
 line_stopped a b c ka kb kc one rest text OutOfMemory s h = piece_broken a b c ka kb one rest text s h
 line_stopped a b c ka kb kc one rest text (Output error) s h = tt
+
+-- a text was, and the last one behind it, or not
+pub pieces_both : (a b c : Option (List ℕ)) (ka kb kc one two text : List ℕ) (r : Result (Unit {0}) PrintFault) → one ++ two ≡ text
+    → PrintsLines a ka b kb one → PrintsPieces b kb c kc two r → PrintsPieces a ka c kc text r
+pieces_both a b c ka kb kc one two text (Ok x) e h k = subst (PrintsLines a ka c kc) e (lines_then a b c ka kb kc one two h k)
+pieces_both a b c ka kb kc one two text (Err fault) e h k =
+    line_stopped a b c ka kb kc two [] text fault
+    (record { part = one; printed = h; front = ap (λ (t : List ℕ). one ++ t) (append-nil two) ∙ e }) k
+
+-- the first of two texts was not printed whole
+pub pieces_stopped : (a b : Option (List ℕ)) (ka kb one two text : List ℕ) (fault : PrintFault) → one ++ two ≡ text
+    → PrintsPieces a ka b kb one (Err fault) → PrintsPieces a ka b kb text (Err fault)
+pieces_stopped a b ka kb one two text fault e h = line_stopped a a b ka ka kb one two text fault (pieces_from a ka (one ++ two) text e) h
 
 -- the newline was not kept
 pub line_broken : (a b c : Option (List ℕ)) (ka kb kc one two text : List ℕ) → PiecesSoFar a ka b kb (one ++ two) text → PrintsLines b kb c kc one

@@ -5,6 +5,7 @@ pub mod Tree
 pub mod Paths
 pub mod Printing
 pub mod Leaves
+pub mod NodeText
 pub mod Header
 pub mod DataValue
 pub mod Attribute

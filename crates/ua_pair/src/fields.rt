@@ -15,6 +15,7 @@ mod identity;
 mod leaves;
 mod lines;
 mod message;
+mod node;
 mod null;
 mod opened;
 mod path;

@@ -2,6 +2,7 @@
 //! long.
 
 use crate::fields::lines::Place;
+use crate::fields::node::print_node_line;
 use crate::fields::null::{is_empty, is_null_name, is_null_object, is_null_text};
 use crate::fields::pieces::{print_base64_line, print_encoded_line, print_escaped_line};
 use crate::fields::printing::{Printed, print_lines};
@@ -106,8 +107,7 @@ impl Printed for NodeId {
         text: &mut String,
         out: &mut O,
     ) -> Result<(), PrintFault> {
-        let shown = self.to_text(alloc)?;
-        print_escaped_line(place, &shown, text, out)
+        print_node_line(alloc, place, self, text, out)
     }
 }
 
