@@ -1,5 +1,5 @@
 -- What is recoded of values within the levels that are encoded.
-use Rattle.std.specs.Prelude.{◌≡◌, ℕ, ◌≤◌, ◌<◌, ◌⊎◌, Bool, false, List, Option, Some, Result, Ok, Err, IsErrOf}
+use Rattle.std.specs.Prelude.{◌≡◌, ℕ, ◌≤◌, ◌<◌, ◌⊎◌, Bool, List, Option, Some, Result, Ok, Err, IsErrOf}
 use Rattle.std.proofs.Common.{inl, inr, refl, sym, ◌∙◌, subst, arith}
 use Rattle.ua_wire.specs.Counted.{IsOverlong}
 use Rattle.ua_wire.specs.Exact.{image_read, skipped}

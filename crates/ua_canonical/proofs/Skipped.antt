@@ -1,5 +1,5 @@
 -- What is skipped, as what is decoded there.
-use Rattle.std.specs.Prelude.{◌≡◌, ℕ, Bool, false, List, Option, Some, None, Result, Ok, Err}
+use Rattle.std.specs.Prelude.{◌≡◌, ℕ, Bool, List, Option, Some, None, Err}
 use Rattle.std.proofs.Common.{refl, sym, ap, ◌∙◌}
 use Rattle.ua_wire.specs.Exact.{◌>>=◌, image_read, skipped}
 use Rattle.ua_wire.specs.Format.{Gives}
@@ -9,7 +9,6 @@ use Rattle.ua_wire.proofs.Readers.{some_is}
 use Rattle.ua_diagnostic.specs.Parts.{Decoder}
 use Rattle.ua_diagnostic.proofs.Skipped.{rest, skipped_image, gives_on}
 use Rattle.ua_canonical.specs.Recoded.{Recodes, Refused}
-use Rattle.ua_canonical.specs.declared.fault.RecodeFault.{RecodeFault}
 use Rattle.ua_canonical.specs.declared.fault.RecodeFault.TheVariants.{NotWritable}
 use Rattle.ua_canonical.specs.Fault.{of_read}
 

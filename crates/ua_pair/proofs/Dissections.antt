@@ -23,7 +23,7 @@ use Rattle.ua_pair.specs.declared.dissector.Dissector.{Dissector}
 use Rattle.ua_pair.specs.declared.dissector.State.{State}
 use Rattle.ua_pair.specs.declared.dissector.State.TheVariants as state
 use Rattle.ua_pair.specs.declared.options.DissectOptions.{DissectOptions}
-use Rattle.ua_pair.specs.declared.teller.Pending.{Pending}
+use Rattle.ua_pair.specs.declared.pending.Pending.{Pending}
 use Rattle.ua_pair.specs.declared.teller.Teller.{Teller}
 use Rattle.ua_chunk.specs.declared.chunk.Chunk.{Chunk}
 use Rattle.ua_chunk.specs.Open.{open_octets}

@@ -26,7 +26,7 @@ use Rattle.ua_chunk.specs.Refusal.{reasons, chunk_refusal, IsFor}
 use Rattle.ua_pair.specs.declared.fault.DissectFault.{DissectFault}
 use Rattle.ua_pair.specs.declared.fault.DissectFault.TheVariants.{Refused}
 use Rattle.ua_pair.specs.declared.fault.DissectFault.TheVariants as fault
-use Rattle.ua_pair.specs.declared.teller.Pending.{Pending}
+use Rattle.ua_pair.specs.declared.pending.Pending.{Pending}
 use Rattle.ua_pair.specs.declared.side.Side.{Side}
 use Rattle.ua_pair.specs.declared.options.DissectOptions.{DissectOptions}
 use Rattle.ua_pair.specs.Before.{message_chunks, last_sequence, sequence_by}

@@ -16,7 +16,7 @@ use Rattle.ua_pair.specs.Printing.{EachHasText}
 use Rattle.ua_pair.specs.Styles.{style_of}
 use Rattle.ua_pair.specs.declared.printing.PrintFault.{PrintFault}
 use Rattle.ua_pair.specs.declared.printing.PrintFault.TheVariants as print
-use Rattle.ua_pair.specs.declared.teller.Pending.{Pending}
+use Rattle.ua_pair.specs.declared.pending.Pending.{Pending}
 use Rattle.ua_pair.specs.Telling.{ArePendingLines, TellerStands}
 use Rattle.ua_pair.specs.Told.{IsFrameText, place_behind}
 

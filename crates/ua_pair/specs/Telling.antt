@@ -11,8 +11,8 @@ use Rattle.ua_chunk.specs.declared.fault.AssembleFault.TheVariants as assemble
 use Rattle.ua_chunk.specs.declared.fault.OpenFault.{OpenFault}
 use Rattle.ua_chunk.specs.declared.fault.OpenFault.TheVariants as opening
 use Rattle.ua_chunk.specs.Assembling.{Stands as AssemblerStands, octet_limit, chunk_limit, last_number}
-use Rattle.ua_pair.specs.declared.teller.Pending.{Pending}
-use Rattle.ua_pair.specs.declared.teller.Pending.TheVariants.{Message, Opening}
+use Rattle.ua_pair.specs.declared.pending.Pending.{Pending}
+use Rattle.ua_pair.specs.declared.pending.Pending.TheVariants.{Message, Opening}
 use Rattle.ua_pair.specs.declared.teller.Teller.{Teller}
 use Rattle.ua_pair.specs.declared.fault.DissectFault.{DissectFault}
 use Rattle.ua_pair.specs.declared.fault.DissectFault.TheVariants.{Refused, OutOfMemory}

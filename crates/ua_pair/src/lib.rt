@@ -27,6 +27,7 @@
 //! ```
 #![tactic(auto)]
 
+mod delivered;
 mod dissector;
 mod encoding;
 mod encodings;
@@ -36,6 +37,7 @@ pub mod laws;
 mod line;
 mod name;
 mod options;
+mod pending;
 mod printing;
 mod reader;
 mod side;

@@ -2,7 +2,7 @@ use Rattle.std.proofs.Common.{List, ℕ, ◌≡◌, [], ◌∷◌, ◌++◌, ◌
 use Rattle.ua_chunk.specs.Delivered.{given}
 use Rattle.ua_chunk.specs.View.{item_of}
 use Rattle.ua_pair.specs.Before.{message_chunks}
-use Rattle.ua_pair.specs.declared.teller.Pending.{Pending}
+use Rattle.ua_pair.specs.declared.pending.Pending.{Pending}
 use Rattle.ua_pair.proofs.Refusals.{message_continued, message_delivered, message_fails}
 use Rattle.ua_pair.proofs.Standings.{stands_message}
 use Rattle.ua_pair.proofs.teller.Teller.push_message_title.Goals as goal

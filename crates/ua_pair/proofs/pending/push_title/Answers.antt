@@ -3,7 +3,7 @@ use Rattle.std.specs.List.{concat}
 use Rattle.ua_pair.specs.Lines.{message_line}
 use Rattle.ua_pair.specs.Names.{message_title}
 use Rattle.ua_pair.specs.Told.{IsHeaderOf}
-use Rattle.ua_pair.proofs.teller.push_title.Goals as goal
+use Rattle.ua_pair.proofs.pending.push_title.Goals as goal
 
 pub returns : goal.returns
 returns c = λ more p.

@@ -1,6 +1,6 @@
 use Rattle.ua_pair.specs.Styles.{style_of}
 use Rattle.ua_pair.proofs.PrintedBodies.{printed_as}
-use Rattle.ua_pair.proofs.teller.print_opened.Goals as goal
+use Rattle.ua_pair.proofs.pending.print_opened.Goals as goal
 
 pub returns-then-options : goal.returns-then-options
 returns-then-options g c =

@@ -5,7 +5,7 @@ use Rattle.ua_opening.specs.Message.{id_of_body}
 use Rattle.ua_pair.specs.Lines.{message_line}
 use Rattle.ua_pair.specs.Names.{encoding_text, is_unsupported, message_name}
 use Rattle.ua_pair.proofs.Titles.{title_ends}
-use Rattle.ua_pair.proofs.teller.push_message_head.Goals as goal
+use Rattle.ua_pair.proofs.delivered.push_message_head.Goals as goal
 
 pub returns-clause-line : goal.returns-clause-line
 unfolding message_line

@@ -1,6 +1,6 @@
 use Rattle.std.proofs.Common.{List, ℕ, ◌++◌, ◌∙◌, ap, append-nil, refl, string_bytes}
 use Rattle.ua_pair.specs.Lines.{aborted_line}
-use Rattle.ua_pair.proofs.teller.push_titled.Goals as goal
+use Rattle.ua_pair.proofs.pending.push_titled.Goals as goal
 
 pub returns : goal.returns
 returns c = λ more none. (

@@ -4,7 +4,7 @@ use Rattle.ua_texts.specs.PlainLeaf.{Adds}
 use Rattle.ua_pair.specs.Lines.{message_line}
 use Rattle.ua_pair.specs.Names.{opening_kind, opening_name}
 use Rattle.ua_pair.specs.Told.{AreFieldsOf, IsOpenedText}
-use Rattle.ua_pair.proofs.teller.push_opened.Goals as goal
+use Rattle.ua_pair.proofs.delivered.push_opened.Goals as goal
 
 pub returns : goal.returns
 returns c =

@@ -1,6 +1,6 @@
 use Rattle.ua_pair.specs.Styles.{style_of}
 use Rattle.ua_pair.proofs.PrintedBodies.{printed_as}
-use Rattle.ua_pair.proofs.teller.print_header_if.Goals as goal
+use Rattle.ua_pair.proofs.pending.print_header_if.Goals as goal
 
 pub returns-then-unsupported : goal.returns-then-unsupported
 returns-then-unsupported g c =

@@ -6,7 +6,7 @@ use Rattle.ua_pair.specs.Styles.{style_of}
 use Rattle.ua_pair.specs.Told.{AreFieldsOf, IsHeaderOf}
 use Rattle.ua_pair.proofs.Headed.{fields_then_header}
 use Rattle.ua_pair.proofs.PrintedBodies.{fields_break}
-use Rattle.ua_pair.proofs.teller.print_message_fields.Goals as goal
+use Rattle.ua_pair.proofs.pending.print_message_fields.Goals as goal
 
 pub returns-in_err-print_fields : goal.returns-in_err-print_fields
 returns-in_err-print_fields g c =

@@ -1,7 +1,7 @@
 use Rattle.std.proofs.Common.{List, ℕ, ◌≡◌, ◌++◌, ◌∙◌, append_assoc, refl, ap, ap₂, length, string_bytes}
 use Rattle.ua_pair.specs.Lines.{message_line}
 use Rattle.ua_pair.specs.Names.{opening_name}
-use Rattle.ua_pair.proofs.teller.push_opened_title.Goals as goal
+use Rattle.ua_pair.proofs.pending.push_opened_title.Goals as goal
 
 pub returns : goal.returns
 returns c = λ more p.

@@ -5,7 +5,7 @@ use Rattle.ua_texts.specs.PlainLeaf.{Adds}
 use Rattle.ua_pair.specs.Lines.{message_line}
 use Rattle.ua_pair.specs.Names.{is_unsupported, message_kind, message_title}
 use Rattle.ua_pair.specs.Told.{AreFieldsOf, IsHeaderOf, IsMessageText}
-use Rattle.ua_pair.proofs.teller.push_message.Goals as goal
+use Rattle.ua_pair.proofs.delivered.push_message.Goals as goal
 
 pub returns : goal.returns
 returns c =
