@@ -7,7 +7,7 @@ import re
 
 from add_service_parts.kinds import TABLE, Kind, plain_kinds
 from add_service_parts.schema import FOLDER, LINE, File, Schema, Structure
-from add_service_parts.texts import OPENING, PAIR, SERVER, STRUCTURES, TOP, Refused, code, read, under, uses
+from add_service_parts.texts import FIELDS, OPENING, SERVER, STRUCTURES, TOP, Refused, code, read, under, uses
 from add_service_parts.words import LACKS
 
 # Words of Rust, of Rattle and of antt, which no field and no file has as its name.
@@ -68,9 +68,9 @@ def refuse_file(new: Kind, k: Schema) -> None:
     if new.module in {s.module for s in k.structures.values() if s.crate == STRUCTURES}:
         return
     paths = [f"{OPENING}/src/{new.module}.rt", f"{OPENING}/specs/{new.spec}.antt"]
-    paths += [f"{folder}/{new.module}.rt" for folder in (f"{STRUCTURES}/src", f"{PAIR}/src/fields", f"{SERVER}/src")]
-    paths += [f"{crate}/specs/{new.spec}.antt" for crate in (STRUCTURES, PAIR, SERVER)] + [f"{STRUCTURES}/proofs/{new.spec}Sound.antt", f"{STRUCTURES}/src/{new.module}_wire.rt"]
-    folders = [f"{folder}/{new.module}/" for folder in (f"{STRUCTURES}/src", f"{PAIR}/src/fields", f"{SERVER}/src")]
+    paths += [f"{folder}/{new.module}.rt" for folder in (f"{STRUCTURES}/src", f"{FIELDS}/src", f"{SERVER}/src")]
+    paths += [f"{crate}/specs/{new.spec}.antt" for crate in (STRUCTURES, FIELDS, SERVER)] + [f"{STRUCTURES}/proofs/{new.spec}Sound.antt", f"{STRUCTURES}/src/{new.module}_wire.rt"]
+    folders = [f"{folder}/{new.module}/" for folder in (f"{STRUCTURES}/src", f"{FIELDS}/src", f"{SERVER}/src")]
     for path in paths:
         if read(path):
             raise Refused(f"a file {new.module}: {path} stands already")
@@ -94,7 +94,7 @@ def types_in(text: str) -> set[str]:
 @functools.cache
 def types_that_stand() -> dict[str, str]:
     """The types that the crates of messages declare or import, by their names in small letters."""
-    crates = ("ua_wire", "ua_builtin", "ua_diagnostic", "ua_variant", "ua_opening", "ua_structures", "ua_services", "ua_pair", "ua_server", "test_values")
+    crates = ("ua_wire", "ua_builtin", "ua_diagnostic", "ua_variant", "ua_opening", "ua_structures", "ua_services", "ua_fields", "ua_pair", "ua_server", "test_values")
     names = {name for crate in crates for path in under(f"crates/{crate}/src") for name in types_in(read(path))}
     return {name.lower(): name for name in sorted(names)}
 

@@ -127,8 +127,8 @@ def lines_of(s: Structure, k: Schema) -> str:
     """Its fields as lines."""
     calls = [f"push_{'part' if is_part(k, kind) else 'field'} {name}" for name, kind in s.fields]
     return f"""impl Lines for {s.name} {{
-    ghost use Rattle.ua_pair.specs.Tree.{{structure}};
-    ghost use Rattle.ua_pair.specs.{s.spec}.{{{s.word}_entries}};
+    ghost use Rattle.ua_fields.specs.Tree.{{structure}};
+    ghost use Rattle.ua_fields.specs.{s.spec}.{{{s.word}_entries}};
 
     ghost tree = {{ λ m. structure ({s.word}_entries m) }};
 
@@ -152,8 +152,8 @@ def answer_of(s: Structure, k: Schema) -> str:
     for call in reversed(calls):
         proof = f"(_, {call}, {proof})"
     return f"""use Rattle.std.proofs.Common.{{refl}}
-use Rattle.ua_pair.specs.{s.spec}.{{{s.word}_entries}}
-use Rattle.ua_pair.proofs.fields.{s.module}.{s.name}Lines.push_lines.Goals as goal
+use Rattle.ua_fields.specs.{s.spec}.{{{s.word}_entries}}
+use Rattle.ua_fields.proofs.{s.module}.{s.name}Lines.push_lines.Goals as goal
 
 pub returns : goal.returns
 unfolding {s.word}_entries
@@ -187,9 +187,9 @@ def printed_answer_of(s: Structure, k: Schema) -> str:
     """That the lines of its fields are those of the structure."""
     return f"""use Rattle.std.proofs.Common.{{refl}}
 use Rattle.{s.library}.specs.{s.spec}.{{{s.word}}}
-use Rattle.ua_pair.specs.{s.spec}.{{{s.word}_entries}}
-use Rattle.ua_pair.proofs.Printings.{{struct_printed}}
-use Rattle.ua_pair.proofs.fields.{s.module}.{s.name}Printed.print.Goals as goal
+use Rattle.ua_fields.specs.{s.spec}.{{{s.word}_entries}}
+use Rattle.ua_fields.proofs.Printings.{{struct_printed}}
+use Rattle.ua_fields.proofs.{s.module}.{s.name}Printed.print.Goals as goal
 
 pub returns : goal.returns
 unfolding {s.word} {s.word}_entries

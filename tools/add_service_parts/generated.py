@@ -11,13 +11,13 @@ from typing import Iterable
 from add_service_parts.forms import (answer_of, entries_of, format_of, lemma_of, lines_of, printed_answer_of, printed_of, shown_of, skip_of,
                                      wire_of)
 from add_service_parts.schema import File, Schema, Structure, title_case
-from add_service_parts.texts import OPENING, PAIR, ROWS, STRUCTURES, text_of
+from add_service_parts.texts import FIELDS, OPENING, ROWS, STRUCTURES, text_of
 from add_service_parts.words import COMMON, SOUND_FILE, TREE_FILE
 from break_lines import settled
 
 SHOWN = f"{ROWS}/src/structures.rt"
 # The crates from the lowest up, in which order imports of specs/ and proofs/ stand.
-CRATES = ("std", "ua_wire", "ua_builtin", "ua_diagnostic", "ua_variant", "ua_opening", "ua_structures", "ua_pair")
+CRATES = ("std", "ua_wire", "ua_builtin", "ua_diagnostic", "ua_variant", "ua_opening", "ua_structures", "ua_fields")
 
 
 def uses(names: Iterable[tuple[str, str]]) -> str:
@@ -36,8 +36,8 @@ def uses(names: Iterable[tuple[str, str]]) -> str:
 def imports(names: Iterable[tuple[str, str]]) -> str:
     """Imports of a file of specs/ or proofs/, by name and file.
 
-    >>> imports([("b", "Rattle.ua_pair.specs.B"), ("a", "Rattle.std.a"), ("a", "Rattle.ua_pair.specs.B")])
-    'use Rattle.std.a.{a}\\nuse Rattle.ua_pair.specs.B.{a, b}\\n'
+    >>> imports([("b", "Rattle.ua_fields.specs.B"), ("a", "Rattle.std.a"), ("a", "Rattle.ua_fields.specs.B")])
+    'use Rattle.std.a.{a}\\nuse Rattle.ua_fields.specs.B.{a, b}\\n'
     """
     found = set(names)
     paths = sorted({p for _, p in found}, key=lambda it: (CRATES.index(it.split(".")[1]), ".declared." in it, it))
@@ -116,10 +116,10 @@ def sound_file(file: File, k: Schema) -> str:
 def lines_file(file: File, k: Schema) -> str:
     """The structures of a module as lines."""
     found = [s for s in file.structures if s.has_lines()]
-    names = [(it, "crate::fields::lines") for it in ("Lines", "Place", "push_fields")] + [("AllocError", "std::alloc"), ("Global", "std::alloc")]
+    names = [(it, "crate::lines") for it in ("Lines", "Place", "push_fields")] + [("AllocError", "std::alloc"), ("Global", "std::alloc")]
     names += [(s.name, "ua_services") for s in found]
     if found:
-        names += [(it, "crate::fields::printing") for it in ("Last", "Printed", "PrintedFields")] + [("TellFault", "crate::printing"), ("Write", "std::io")]
+        names += [(it, "crate::printed") for it in ("Last", "Printed", "PrintedFields")] + [("TellFault", "crate::printing"), ("Write", "std::io")]
         names += [("Source", "ua_builtin")] + [("UaArray", "ua_services")] * has_arrays(found)
     for kind in elements(found):
         names += [(k.of(kind).rust, "ua_services" if kind in k.structures else k.of(kind).library)] if k.of(kind).library else []
@@ -152,13 +152,13 @@ def generated(k: Schema) -> dict[str, str]:
         spec = title_case(file.module)
         found |= {f"{file.crate}/src/{file.module}_wire.rt": wire_file(file, k), f"{file.crate}/src/{file.module}_skip.rt": skip_file(file, k)}
         found |= {f"{file.crate}/specs/{spec}.antt": format_file(file, k),
-                  f"{file.crate}/proofs/{spec}Sound.antt": sound_file(file, k), f"{PAIR}/src/fields/{file.module}.rt": lines_file(file, k),
-                  f"{PAIR}/specs/{spec}.antt": tree_file(file, k)}
+                  f"{file.crate}/proofs/{spec}Sound.antt": sound_file(file, k), f"{FIELDS}/src/{file.module}.rt": lines_file(file, k),
+                  f"{FIELDS}/specs/{spec}.antt": tree_file(file, k)}
         for s in file.structures:
-            path = f"{PAIR}/proofs/fields/{file.module}/{s.name}Lines/push_lines/Answers.antt"
+            path = f"{FIELDS}/proofs/{file.module}/{s.name}Lines/push_lines/Answers.antt"
             found[path] = head(file, "--", "The lines of its fields stand one behind the other.") + answer_of(s, k) if s.has_lines() else ""
             if s.has_lines():
-                path = f"{PAIR}/proofs/fields/{file.module}/{s.name}Printed/print/Answers.antt"
+                path = f"{FIELDS}/proofs/{file.module}/{s.name}Printed/print/Answers.antt"
                 found[path] = head(file, "--", "What is printed are the lines of its fields.") + printed_answer_of(s, k)
     return {path: text for path, text in found.items() if text}
 

@@ -187,7 +187,7 @@ class Schema:
         if s:
             tree = f"structure ({s.word}_entries @)" if s.has_lines() else ""
             lemma, specs = "" if s.by("lawful by hand") else f"sound_{s.word}", f"Rattle.{s.library}.specs.{s.spec}"
-            return Word(kind, s.library, s.word, specs, lemma, tree, f"Rattle.{s.library}.proofs.{s.spec}Sound", f"Rattle.ua_pair.specs.{s.spec}")
+            return Word(kind, s.library, s.word, specs, lemma, tree, f"Rattle.{s.library}.proofs.{s.spec}Sound", f"Rattle.ua_fields.specs.{s.spec}")
         if kind not in BUILT_IN:
             raise Refused(f"the type {kind}: {LACKS['rust']}")
         return BUILT_IN[kind]

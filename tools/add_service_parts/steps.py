@@ -11,7 +11,7 @@ from add_service_parts.forms import declaration_of, row_of
 from add_service_parts.generated import elements, generated, has_arrays, laid_out
 from add_service_parts.kinds import Kind, add, kinds_of, places
 from add_service_parts.schema import FOLDER, Schema, Structure
-from add_service_parts.texts import DEFINITIONS, NEW, OLD, PAIR, ROWS, SERVER, STRUCTURES, TOP, behind, line_with_end, put, read, text_of, uses, write
+from add_service_parts.texts import DEFINITIONS, FIELDS, NEW, OLD, ROWS, SERVER, STRUCTURES, TOP, behind, line_with_end, put, read, text_of, uses, write
 
 LEFT = """left to write:
   ua_server: in specs/ the reasons against it and its response, in specs/Answer.antt the service and its line of `answer`,
@@ -48,10 +48,10 @@ def write_structures(new: Kind, old: Kind, structures: list[Structure], k: Schem
     put(path, f"//! The service {new.name}.", origins, [declaration_of(s, k) for s in structures])
 
 
-def write_pair(new: Kind, old: Kind) -> None:
+def write_fields(new: Kind, old: Kind) -> None:
     """Step 4, but for what is written from schema/ alone: the names of the files."""
-    if not read(f"{PAIR}/src/fields/{new.module}.rt"):
-        add_of("file", new, old, PAIR)
+    if not read(f"{FIELDS}/src/{new.module}.rt"):
+        add_of("file", new, old, FIELDS)
 
 
 def answering(row: str, kinds: set[str], old: Kind, new: Kind) -> str:
@@ -98,7 +98,7 @@ def write_service(text: str, k: Schema) -> str:
     refuse_what_stands(new, file, k)
     write(f"{FOLDER}/{new.module}.txt", kept(text, new))
     write_structures(new, old, file.structures, k)
-    write_pair(new, old)
+    write_fields(new, old)
     write_messages(new, old, file.structures, k)
     write_server(new, old, file.structures)
     write_generated(Schema())

@@ -7,7 +7,7 @@ import re
 from typing import NamedTuple
 
 TOP = os.path.dirname(os.path.dirname(os.path.dirname(os.path.abspath(__file__))))
-OPENING, STRUCTURES, PAIR, ROWS = "crates/ua_opening", "crates/ua_structures", "crates/ua_pair", "crates/test_values"
+OPENING, STRUCTURES, FIELDS, ROWS = "crates/ua_opening", "crates/ua_structures", "crates/ua_fields", "crates/test_values"
 SERVICES, SERVER = "crates/ua_services", "crates/ua_server"
 DEFINITIONS = "docs/ENCODINGS.md"
 OLD: dict[str, str] = {}

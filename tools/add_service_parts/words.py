@@ -4,7 +4,7 @@ from __future__ import annotations
 from typing import NamedTuple
 
 BUILTIN, FIELD = "Rattle.ua_builtin.specs", "Rattle.ua_opening.specs.Field"
-SOUND_FILE, LEAVES_FILE, TREE_FILE = "Rattle.ua_opening.proofs.Sound", "Rattle.ua_pair.specs.Leaves", "Rattle.ua_pair.specs.Tree"
+SOUND_FILE, LEAVES_FILE, TREE_FILE = "Rattle.ua_opening.proofs.Sound", "Rattle.ua_fields.specs.Leaves", "Rattle.ua_fields.specs.Tree"
 
 
 class Word(NamedTuple):
@@ -49,7 +49,7 @@ BUILT_IN = {
     "ExtensionObject": flat("ExtensionObject", "extension_object", "ExtensionObject"),
     "DiagnosticInfo": Word("DiagnosticInfo", "ua_variant", "diagnostic_format", "Rattle.ua_diagnostic.specs.Formats", "sound_diagnostic", "diagnostic_info @"),
     "DataValue": Word("DataValue", "ua_variant", "data_value_format", "Rattle.ua_variant.specs.Formats", "", "structure (data_value_entries @)",
-                      tree_file="Rattle.ua_pair.specs.DataValue"),
+                      tree_file="Rattle.ua_fields.specs.DataValue"),
 }
 # The calls that skip what has no `impl Skip`.
 SKIPS = {"RequestHeader": "RequestHeader::skip_for_handle", "LocalizedText": "skip_one::<LocalizedText, S>", "StatusCode": "skip_one::<StatusCode, S>",
@@ -58,7 +58,7 @@ SKIPS = {"RequestHeader": "RequestHeader::skip_for_handle", "LocalizedText": "sk
 LACKS = {"rust": "schema/ has no such structure, and words.py no such type",
          "lemma": "it is not sound, or words.py does not say which lemma of proofs/Sound.antt says so",
          "skip": "ua_structures does not skip it: write how in its src/skip.rt, and in SKIPS of words.py",
-         "tree": "it has no lines: write them first, in specs/Leaves.antt, src/fields/leaves.rt and whole.rt of ua_pair, and their word in words.py"}
+         "tree": "it has no lines: write them first, in specs/Leaves.antt, src/leaves.rt and src/whole.rt of ua_fields, and their word in words.py"}
 # Words that are of no one type, and the files of specs/ and proofs/ that have them.
 COMMON = {
     "Format": f"{BUILTIN}.Format", "flat": f"{BUILTIN}.Format", "pair": f"{BUILTIN}.Join", "struct": f"{BUILTIN}.Join",

@@ -6,7 +6,7 @@ use crate::shown::{page, quoted};
 use crate::words::cut;
 use std::alloc::Global;
 use ua_builtin::{Octets, Wire};
-use ua_pair::{
+use ua_fields::{
     BodyKind, push_body_fields, push_close_request_fields, push_open_answer_fields,
     push_open_request_fields, push_open_response_fields, push_request_fields, push_response_fields,
 };

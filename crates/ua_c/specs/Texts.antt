@@ -6,8 +6,8 @@ use Rattle.ua_nodes.specs.ValueText.{value_denoted}
 use Rattle.ua_wire.specs.Counted.{text as counted_text}
 use Rattle.ua_wire.specs.Format.{IsWhole, Within, most_levels}
 use Rattle.ua_pair.specs.Dissected.{AreLines, plain_of_side}
-use Rattle.ua_pair.specs.declared.side.Side.{Side}
-use Rattle.ua_pair.specs.declared.side.Side.TheVariants.{Client, Server}
+use Rattle.ua_fields.specs.declared.side.Side.{Side}
+use Rattle.ua_fields.specs.declared.side.Side.TheVariants.{Client, Server}
 use Rattle.ua_answers.specs.PlainRead.{plain_denoted}
 use Rattle.ua_texts.specs.Values.{variant_text}
 use Rattle.ua_variant.specs.Data.{VariantData}

@@ -34,15 +34,15 @@ use Rattle.ua_pair.specs.Dissecting.{IsStarved, PrintsFirst, PrintsMore, WritesP
 use Rattle.ua_pair.specs.Dissecting.{EndsLines, is_dissecting, MovesOn, TakesPiece, Accepts, RefusesFrame, FrameTold, TakesNone, DissectsSome}
 use Rattle.ua_pair.specs.Lines.{refused_line}
 use Rattle.ua_pair.specs.Refused.{frame_reasons}
-use Rattle.ua_pair.specs.Printing.{BreaksOffLines, EachHasText, PrintsText, PrintsLines, PrintsOrBreaks}
+use Rattle.ua_fields.specs.Printing.{BreaksOffLines, EachHasText, PrintsText, PrintsLines, PrintsOrBreaks}
 use Rattle.ua_pair.specs.Styles.{style_of}
-use Rattle.ua_pair.specs.declared.options.FieldStyle.{FieldStyle}
-use Rattle.ua_pair.specs.declared.printing.PrintFault.{PrintFault}
-use Rattle.ua_pair.specs.declared.printing.PrintFault.TheVariants as print
+use Rattle.ua_fields.specs.declared.style.FieldStyle.{FieldStyle}
+use Rattle.ua_fields.specs.declared.printing.PrintFault.{PrintFault}
+use Rattle.ua_fields.specs.declared.printing.PrintFault.TheVariants as print
 use Rattle.ua_pair.specs.Telling.{ArePendingLines, TellerStands}
 use Rattle.ua_pair.specs.Told.{IsFrameText, place_behind}
 use Rattle.ua_pair.proofs.Befores.{message_chunks-nil}
-use Rattle.ua_pair.proofs.Printings.{lines_then, only_kept}
+use Rattle.ua_fields.proofs.Printings.{lines_then, only_kept}
 use Rattle.ua_pair.proofs.Texts.{texts_push}
 
 -- ---- states

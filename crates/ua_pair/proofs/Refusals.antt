@@ -27,13 +27,13 @@ use Rattle.ua_pair.specs.declared.fault.DissectFault.{DissectFault}
 use Rattle.ua_pair.specs.declared.fault.DissectFault.TheVariants.{Refused}
 use Rattle.ua_pair.specs.declared.fault.DissectFault.TheVariants as fault
 use Rattle.ua_pair.specs.declared.pending.Pending.{Pending}
-use Rattle.ua_pair.specs.declared.side.Side.{Side}
+use Rattle.ua_fields.specs.declared.side.Side.{Side}
 use Rattle.ua_pair.specs.declared.options.DissectOptions.{DissectOptions}
 use Rattle.ua_pair.specs.Before.{message_chunks, last_sequence, sequence_by}
 use Rattle.ua_pair.specs.Telling.{ArePendingLines, TellerStands, JudgesFrameTelling, JudgesKind, chunk_fault, none_pending}
 use Rattle.ua_pair.specs.Refused.{most_message_octets, most_chunks, breaks_number_order, chunk_code, chunk_reasons_of_side}
 use Rattle.ua_pair.specs.Refused.{greeting_reasons, frame_reasons, is_other_policy, is_open_unreadable, opening_reasons}
-use Rattle.ua_pair.specs.Bodies.{IsFound}
+use Rattle.ua_fields.specs.Bodies.{IsFound}
 use Rattle.ua_pair.specs.Told.{AreParts, IsChunkText, IsFrameText, IsItemText, IsOpenedText, IsOpeningText, IsTextBy, line_if, place_behind}
 
 -- ---- MSG

@@ -16,18 +16,19 @@ use Rattle.ua_chunk.specs.Item.Item.{Whole, Aborted}
 use Rattle.ua_chunk.specs.Layout.{chunk_in}
 use Rattle.ua_chunk.specs.Opening.{opening_in}
 use Rattle.ua_texts.specs.PlainLeaf.{Either}
-use Rattle.ua_pair.specs.declared.fields.body.BodyKind.{BodyKind}
+use Rattle.ua_fields.specs.declared.body.BodyKind.{BodyKind}
 use Rattle.ua_pair.specs.declared.options.DissectOptions.{DissectOptions}
-use Rattle.ua_pair.specs.declared.options.FieldStyle.{FieldStyle}
+use Rattle.ua_fields.specs.declared.style.FieldStyle.{FieldStyle}
 use Rattle.ua_pair.specs.Before.{message_chunks}
-use Rattle.ua_pair.specs.Bodies.{IsBodyText, IsFound, IsHeaderText, body_fields, header_fields}
+use Rattle.ua_fields.specs.Bodies.{IsBodyText, IsFound, IsHeaderText, body_fields, header_fields, message_kind, opening_kind}
 use Rattle.ua_pair.specs.Dissected.{AreTexts, rules}
 use Rattle.ua_pair.specs.Lines.{chunk_line, message_line, opening_line}
-use Rattle.ua_pair.specs.Names.{is_unsupported, message_kind, message_title, opening_kind, opening_name}
-use Rattle.ua_pair.specs.Styles.{exact_field_style, style_of}
+use Rattle.ua_pair.specs.Names.{is_unsupported, message_title, opening_name}
+use Rattle.ua_fields.specs.Styles.{exact_field_style}
+use Rattle.ua_pair.specs.Styles.{style_of}
 use Rattle.ua_pair.specs.Told.{AreFieldsOf, AreParts, AreTextsBehind, IsChunkText, IsFrameText, IsHeaderOf, IsItemText, IsOpeningText, IsTextBy}
 use Rattle.ua_pair.specs.Told.{chunk_lines, field_lines_of, frame_lines, header_lines_of, item_lines, line_if, lines_by, opening_lines, place_behind}
-use Rattle.ua_pair.proofs.Bodies.{exact_header, exact_text_of, header_exact, text_exact}
+use Rattle.ua_fields.proofs.Bodies.{exact_header, exact_text_of, header_exact, text_exact}
 
 -- ---- one frame more
 

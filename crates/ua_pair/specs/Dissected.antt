@@ -4,7 +4,7 @@ use Rattle.ua_frame.specs.declared.frame.Frame.{Frame}
 use Rattle.ua_frame.specs.declared.gate.Gate.{Gate}
 use Rattle.ua_frame.specs.Run.{Rules, Run, End, Going, Stopped, Over}
 use Rattle.ua_pair.specs.declared.options.DissectOptions.{DissectOptions}
-use Rattle.ua_pair.specs.declared.side.Side.{Side}
+use Rattle.ua_fields.specs.declared.side.Side.{Side}
 use Rattle.ua_pair.specs.Lines.{rest_line, refused_line}
 use Rattle.ua_pair.specs.Refused.{frame_reasons}
 use Rattle.ua_pair.specs.Told.{AreTextsBehind, frame_lines, place_behind}

@@ -12,10 +12,10 @@ use Rattle.ua_pair.specs.declared.dissector.State.TheVariants as state
 use Rattle.ua_pair.specs.declared.options.DissectOptions.{DissectOptions}
 use Rattle.ua_pair.specs.Before.{message_chunks}
 use Rattle.ua_pair.specs.Dissected.{rules, every_frame, AreTold, AreLines}
-use Rattle.ua_pair.specs.Printing.{EachHasText}
+use Rattle.ua_fields.specs.Printing.{EachHasText}
 use Rattle.ua_pair.specs.Styles.{style_of}
-use Rattle.ua_pair.specs.declared.printing.PrintFault.{PrintFault}
-use Rattle.ua_pair.specs.declared.printing.PrintFault.TheVariants as print
+use Rattle.ua_fields.specs.declared.printing.PrintFault.{PrintFault}
+use Rattle.ua_fields.specs.declared.printing.PrintFault.TheVariants as print
 use Rattle.ua_pair.specs.declared.pending.Pending.{Pending}
 use Rattle.ua_pair.specs.Telling.{ArePendingLines, TellerStands}
 use Rattle.ua_pair.specs.Told.{IsFrameText, place_behind}

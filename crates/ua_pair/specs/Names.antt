@@ -20,20 +20,8 @@ use Rattle.ua_services.specs.declared.fault.ResponseFault.TheVariants as respons
 use Rattle.ua_texts.specs.Names.{name_in, name_part}
 use Rattle.ua_texts.specs.Shown.{escaped}
 use Rattle.ua_pair.specs.Encodings.{encodings}
-use Rattle.ua_pair.specs.declared.fields.body.BodyKind.{BodyKind}
-use Rattle.ua_pair.specs.declared.fields.body.BodyKind.TheVariants as kind
-use Rattle.ua_pair.specs.declared.side.Side.{Side}
-use Rattle.ua_pair.specs.declared.side.Side.TheVariants.{Client, Server}
-
--- how the body of a MSG is decoded
-abbrev pub message_kind : Side → BodyKind
-message_kind Client = kind.Request
-message_kind Server = kind.Response
-
--- how the body of an OPN is decoded
-abbrev pub opening_kind : Side → BodyKind
-opening_kind Client = kind.OpenRequest
-opening_kind Server = kind.OpenResponse
+use Rattle.ua_fields.specs.declared.side.Side.{Side}
+use Rattle.ua_fields.specs.declared.side.Side.TheVariants.{Client, Server}
 
 -- ---- requests
 

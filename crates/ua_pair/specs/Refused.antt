@@ -18,8 +18,8 @@ use Rattle.ua_chunk.specs.Layout.{chunk_in}
 use Rattle.ua_chunk.specs.Opening.{open_refusal}
 use Rattle.ua_chunk.specs.Refusal.{reasons}
 use Rattle.ua_chunk.specs.Sequence.{may_follow}
-use Rattle.ua_pair.specs.declared.side.Side.{Side}
-use Rattle.ua_pair.specs.declared.side.Side.TheVariants.{Client, Server}
+use Rattle.ua_fields.specs.declared.side.Side.{Side}
+use Rattle.ua_fields.specs.declared.side.Side.TheVariants.{Client, Server}
 use Rattle.ua_pair.specs.Before.{message_chunks, last_sequence, sequence_by}
 
 -- the most bytes of a message

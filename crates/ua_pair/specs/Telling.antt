@@ -16,11 +16,11 @@ use Rattle.ua_pair.specs.declared.pending.Pending.TheVariants.{Message, Opening}
 use Rattle.ua_pair.specs.declared.teller.Teller.{Teller}
 use Rattle.ua_pair.specs.declared.fault.DissectFault.{DissectFault}
 use Rattle.ua_pair.specs.declared.fault.DissectFault.TheVariants.{Refused, OutOfMemory}
-use Rattle.ua_pair.specs.declared.side.Side.{Side}
+use Rattle.ua_fields.specs.declared.side.Side.{Side}
 use Rattle.ua_pair.specs.declared.options.DissectOptions.{DissectOptions}
 use Rattle.ua_pair.specs.Before.{message_chunks, last_sequence}
 use Rattle.ua_pair.specs.Refused.{most_message_octets, most_chunks, chunk_code, reasons_by}
-use Rattle.ua_pair.specs.Names.{message_kind, opening_kind}
+use Rattle.ua_fields.specs.Bodies.{message_kind, opening_kind}
 use Rattle.ua_pair.specs.Told.{AreFieldsOf, IsHeaderOf, IsTextBy}
 
 -- the error that results from an error of the assembler: a rejection with its code, or OutOfMemory

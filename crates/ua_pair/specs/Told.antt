@@ -16,13 +16,13 @@ use Rattle.ua_chunk.specs.Item.Item.{Whole, Aborted}
 use Rattle.ua_chunk.specs.Layout.{chunk_in}
 use Rattle.ua_chunk.specs.Opening.{opening_in}
 use Rattle.ua_texts.specs.PlainLeaf.{Either}
-use Rattle.ua_pair.specs.Bodies.{IsBodyText, IsFound, IsHeaderText, body_fields, header_fields}
+use Rattle.ua_fields.specs.Bodies.{IsBodyText, IsFound, IsHeaderText, body_fields, header_fields, message_kind, opening_kind}
 use Rattle.ua_pair.specs.Styles.{style_of}
-use Rattle.ua_pair.specs.declared.fields.body.BodyKind.{BodyKind}
+use Rattle.ua_fields.specs.declared.body.BodyKind.{BodyKind}
 use Rattle.ua_pair.specs.declared.options.DissectOptions.{DissectOptions}
 use Rattle.ua_pair.specs.Before.{message_chunks}
 use Rattle.ua_pair.specs.Lines.{hello_line, ack_line, error_line, opening_line, chunk_line, message_line, aborted_line}
-use Rattle.ua_pair.specs.Names.{is_unsupported, message_kind, message_title, opening_kind, opening_name}
+use Rattle.ua_pair.specs.Names.{is_unsupported, message_title, opening_name}
 
 -- the line of what was decoded, or nothing if nothing was
 abbrev pub line_if : {A : Type 0} → (A → List ℕ) → Option A → List ℕ

@@ -6,7 +6,7 @@ ghost use Rattle.std.specs.List.{concat};
 ghost use Rattle.ua_chunk.specs.Item.Item.{Whole};
 ghost use Rattle.ua_chunk.specs.View.{item_of};
 ghost use Rattle.ua_pair.specs.Lines.{message_line};
-ghost use Rattle.ua_pair.specs.Names.{message_kind as kind_of_message, opening_kind as kind_of_opening};
+ghost use Rattle.ua_fields.specs.Bodies.{message_kind as kind_of_message, opening_kind as kind_of_opening};
 ghost use Rattle.ua_opening.specs.Message.{id_of_body};
 ghost use Rattle.ua_pair.specs.Names.{encoding_text, is_unsupported, message_title};
 ghost use Rattle.ua_texts.specs.PlainLeaf.{Adds};
@@ -14,14 +14,13 @@ ghost use Rattle.ua_pair.specs.Told.{AreFieldsOf, IsHeaderOf};
 ghost use Rattle.ua_pair.specs.Told.{IsItemText, IsOpenedText};
 
 use crate::encoding::push_encoding;
-use crate::fields::{BodyKind, push_body_text, push_header_fields};
 use crate::line::{push_aborted_line, push_message_line, push_message_start, push_newline};
 use crate::name::{message_name, opening_name};
 use crate::options::DissectOptions;
-use crate::side::Side;
 use std::alloc::{AllocError, Global};
 use ua_builtin::{Octets, Source};
 use ua_chunk::{Delivered, Message, OpenChunk};
+use ua_fields::{BodyKind, Side, push_body_text, push_header_fields};
 
 /// How the body of a MSG of this side is decoded.
 fn message_kind(side: Side) -> BodyKind

@@ -17,12 +17,12 @@ use crate::fault::DissectFault;
 use crate::line::{push_refused_line, push_rest_line};
 use crate::options::DissectOptions;
 use crate::pending::{Pending, print_pending};
-use crate::printing::{PrintFault, write_full, write_kept};
 use crate::reader::EveryReader;
 use crate::teller::{Teller, frame_size};
 use std::alloc::{AllocError, Global};
 use std::io::Write;
 use ua_builtin::StatusCode;
+use ua_fields::{PrintFault, write_full, write_kept};
 use ua_frame::Frame;
 
 /// The most bytes that a dissector buffers: those of a UA TCP message of the greatest size, and as

@@ -7,9 +7,9 @@ ghost use Rattle.ua_pair.specs.Encodings.{encodings};
 ghost use Rattle.ua_pair.specs.Names.{encoding_text, name_of_encoding};
 
 use crate::encodings::{ENCODING_NAMES, ENCODING_NUMBERS};
-use crate::fields::push_node;
 use std::alloc::{AllocError, Global};
 use ua_builtin::{MOST_LEVELS, NodeId, ReadFault, Source, Wire};
+use ua_fields::push_node;
 use ua_opening::standard_number;
 
 /// The name of the message whose binary encoding has this number (OPC 10000-6, A.3), where the

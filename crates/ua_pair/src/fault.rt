@@ -3,11 +3,11 @@
 ghost use Rattle.std.specs.Prelude.{◌≡◌};
 ghost use Rattle.ua_pair.specs.Telling.{chunk_fault, opening_fault};
 
-use crate::side::Side;
 use std::alloc::AllocError;
 use thiserror::Error;
 use ua_builtin::StatusCode;
 use ua_chunk::{AssembleFault, OpenFault};
+use ua_fields::Side;
 
 /// The reason why a UA TCP message has no lines.
 #[derive(Clone, Copy, PartialEq, Eq, Debug, Error)]

@@ -3,10 +3,12 @@
 ghost use Rattle.std.specs.Prelude.{◌≡◌, ℕ, List, false};
 ghost use Rattle.ua_texts.specs.Shown.{shown};
 ghost use Rattle.ua_pair.specs.declared.options.DissectOptions.{DissectOptions};
-ghost use Rattle.ua_pair.specs.declared.options.FieldStyle.{FieldStyle};
+ghost use Rattle.ua_fields.specs.declared.style.FieldStyle.{FieldStyle};
 ghost use Rattle.ua_pair.specs.Dissected.{AreLines, HasLines};
 ghost use Rattle.ua_pair.specs.Laws.{HasNoControl};
-ghost use Rattle.ua_pair.specs.Printing.{EachHasText};
+ghost use Rattle.ua_fields.specs.Printing.{EachHasText};
+
+use ua_fields::FieldStyle;
 
 /// The output is defined for every byte sequence, for either side, with or without fields, unless
 /// fields are as people write them.
@@ -23,7 +25,7 @@ pub fn one_reading()
 
 /// Each value has a text, unless fields are as people write them: what is printed before an
 /// allocation fails is then the first of the lines that there are.
-#[tactic(auto, using(crate::proofs::Printings::each_has_text))]
+#[tactic(auto, using(ua_fields::proofs::Printings::each_has_text))]
 pub fn each_has_text()
     ensures { (style : FieldStyle) → style.plain ≡ false → EachHasText style }
 {}

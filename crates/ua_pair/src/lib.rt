@@ -16,15 +16,7 @@
 //! dissector.finish(&mut text)?; // the last line: `end P`, `rest N`, or `refused CODE at P`
 //! ```
 //!
-//! The crate also prints the fields of messages as lines: of requests and responses, of the
-//! SecureChannel messages, and of bodies that are decoded as such. A message is a tree of its
-//! fields, and its lines are those of the tree.
-//!
-//! ```
-//! let mut out = String::new(alloc);
-//! push_request_fields(alloc, &request, false, &mut out)?; // one line each
-//! push_body_fields(alloc, BodyKind::Response, true, &mut src, &mut out)?; // a response
-//! ```
+//! `ua_fields` prints the fields of messages; its calls for whole messages are re-exported.
 #![tactic(auto)]
 
 mod delivered;
@@ -32,25 +24,21 @@ mod dissector;
 mod encoding;
 mod encodings;
 mod fault;
-mod fields;
 pub mod laws;
 mod line;
 mod name;
 mod options;
 mod pending;
-mod printing;
 mod reader;
-mod side;
 mod stream;
 mod teller;
 
 pub use dissector::Dissector;
 pub use encoding::encoding_name;
-pub use fields::{
-    BodyKind, push_body_fields, push_close_request_fields, push_open_answer_fields,
-    push_open_request_fields, push_open_response_fields, push_request_fields, push_response_fields,
-};
 pub use options::DissectOptions;
-pub use printing::PrintFault;
-pub use side::Side;
 pub use stream::dissect;
+pub use ua_fields::{
+    BodyKind, PrintFault, Side, push_body_fields, push_close_request_fields,
+    push_open_answer_fields, push_open_request_fields, push_open_response_fields,
+    push_request_fields, push_response_fields,
+};

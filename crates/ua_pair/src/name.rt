@@ -2,22 +2,20 @@
 
 ghost use Rattle.std.specs.List.{concat};
 ghost use Rattle.std.specs.Prelude.{◌≡◌, None, IfOk};
-ghost use Rattle.ua_builtin.specs.Exact.{skipped};
-ghost use Rattle.ua_builtin.specs.Format.{Gives, most_levels};
 ghost use Rattle.ua_opening.specs.Header.{service_fault};
 ghost use Rattle.ua_opening.specs.Message.{body_of};
 ghost use Rattle.ua_opening.specs.Open.{answer_found};
 ghost use Rattle.ua_opening.specs.SecureChannel.{open_response};
-ghost use Rattle.ua_pair.specs.declared.side.Side.TheVariants.{Client, Server};
+ghost use Rattle.ua_fields.specs.declared.side.Side.TheVariants.{Client, Server};
 ghost use Rattle.ua_pair.specs.Names.{open_answer_name, request_name as name_of_request};
 ghost use Rattle.ua_pair.specs.Names.{response_name as name_of_response, message_name as name_of_message};
 ghost use Rattle.ua_pair.specs.Names.{is_unsupported, is_unsupported_request};
 ghost use Rattle.ua_pair.specs.Names.{is_unsupported_response, opening_name as name_of_opening};
 
-use crate::side::Side;
 use std::alloc::{AllocError, Global};
-use ua_builtin::{DateTime, MOST_LEVELS, NodeId, Octets, ReadFault, Skip, Source, UaBytes, Wire};
+use ua_builtin::{MOST_LEVELS, NodeId, Octets, ReadFault, Skip, Source, Wire};
 use ua_chunk::Message;
+use ua_fields::{Side, skip_open_response};
 use ua_opening::standard_number;
 use ua_services::{
     RequestFault, ResponseFault, ResponseHeader, read_open_request, skip_request, skip_response,
@@ -99,24 +97,9 @@ fn open_request_name<S: Source>(alloc: Global, src: &mut S) -> Result<&'static s
     }
 }
 
-/// Skips the OpenSecureChannelResponse at the start of the source, field by field (OPC 10000-4,
-/// 5.6.2). After an error, discard the source.
-#[tactic(auto, unfolding(ua_opening::specs::SecureChannel::open_response))]
-pub(crate) fn skip_open_response<S: Source>(alloc: Global, src: &mut S) -> Result<(), ReadFault>
-    ensures exact { Gives (skipped (open_response.decode most_levels)) (S.octets src.old) (S.octets src.new) result }
-{
-    ResponseHeader::skip_value(alloc, src, MOST_LEVELS)?;
-    u32::skip_value(alloc, src, MOST_LEVELS)?;
-    u32::skip_value(alloc, src, MOST_LEVELS)?;
-    u32::skip_value(alloc, src, MOST_LEVELS)?;
-    DateTime::skip_value(alloc, src, MOST_LEVELS)?;
-    u32::skip_value(alloc, src, MOST_LEVELS)?;
-    UaBytes::skip_value(alloc, src, MOST_LEVELS)
-}
-
 /// The name of an OpenSecureChannelResponse that is the whole source, after the NodeId of its
 /// encoding.
-#[tactic(auto, using(crate::proofs::Openings::open_skipped, crate::proofs::Openings::open_left, crate::proofs::Openings::open_fails))]
+#[tactic(auto, using(crate::proofs::OpeningNames::open_skipped, crate::proofs::OpeningNames::open_left, crate::proofs::OpeningNames::open_fails))]
 fn open_name<S: Source>(alloc: Global, src: &mut S) -> Result<&'static str, AllocError>
     ensures { IfOk result (λ name. name.now ≡ open_answer_name (answer_found (body_of open_response (S.octets src.old))
         None)) }
@@ -131,7 +114,7 @@ fn open_name<S: Source>(alloc: Global, src: &mut S) -> Result<&'static str, Allo
 
 /// The name of a ServiceFault that is the whole source, after the NodeId of its encoding: it is a
 /// header (OPC 10000-4, 7.35).
-#[tactic(auto, using(crate::proofs::Openings::fault_skipped, crate::proofs::Openings::fault_left, crate::proofs::Openings::fault_fails))]
+#[tactic(auto, using(crate::proofs::OpeningNames::fault_skipped, crate::proofs::OpeningNames::fault_left, crate::proofs::OpeningNames::fault_fails))]
 fn fault_name<S: Source>(alloc: Global, src: &mut S) -> Result<&'static str, AllocError>
     ensures { IfOk result (λ name. name.now ≡ open_answer_name (answer_found None (body_of service_fault
         (S.octets src.old)))) }
@@ -145,7 +128,7 @@ fn fault_name<S: Source>(alloc: Global, src: &mut S) -> Result<&'static str, All
 }
 
 /// The name of the response to an OpenSecureChannel request, of which nothing is kept.
-#[tactic(auto, using(crate::proofs::Openings::no_id, crate::proofs::Openings::is_open, crate::proofs::Openings::is_fault, crate::proofs::Openings::no_answer))]
+#[tactic(auto, using(crate::proofs::OpeningNames::no_id, crate::proofs::OpeningNames::is_open, crate::proofs::OpeningNames::is_fault, crate::proofs::OpeningNames::no_answer))]
 fn open_response_name<S: Source>(alloc: Global, src: &mut S) -> Result<&'static str, AllocError>
     ensures { IfOk result (λ name. name.now ≡ name_of_opening Server (S.octets src.old)) }
 {

@@ -4,7 +4,7 @@ ghost use Rattle.std.specs.Prelude.{◌≡◌};
 ghost use Rattle.ua_pair.specs.Dissected.{plain_of_side as plain_options};
 ghost use Rattle.ua_pair.specs.Styles.{style_of};
 
-use crate::side::Side;
+use ua_fields::{FieldStyle, Side};
 
 /// The side whose bytes are printed, and what is printed of them.
 #[derive(Clone, Copy, PartialEq, Eq, Debug)]
@@ -18,31 +18,6 @@ pub struct DissectOptions {
     pub names: bool,
     /// Whether the fields are as people write them.
     pub plain: bool,
-}
-
-/// How the texts of fields are written.
-#[derive(Clone, Copy, PartialEq, Eq, Debug)]
-pub struct FieldStyle {
-    /// Whether the standard name of a StatusCode follows it.
-    pub names: bool,
-    /// Whether they are as people write them: decimals, times, names, the fields of a
-    /// DiagnosticInfo and of an identity token.
-    pub plain: bool,
-}
-
-impl FieldStyle {
-    ghost use Rattle.std.specs.Prelude.{◌≡◌};
-    ghost use Rattle.ua_pair.specs.Styles.{exact_field_style};
-
-    /// Exact texts, with or without the names of StatusCodes.
-    pub fn exact(names: bool) -> FieldStyle
-        ensures { result ≡ exact_field_style names }
-    {
-        FieldStyle {
-            names,
-            plain: false,
-        }
-    }
 }
 
 impl DissectOptions {

@@ -5,24 +5,23 @@ ghost use Rattle.std.specs.Prelude.{string_bytes};
 ghost use Rattle.std.specs.List.{concat};
 ghost use Rattle.ua_chunk.specs.Item.Item.{Whole};
 ghost use Rattle.ua_chunk.specs.View.{item_of};
-ghost use Rattle.ua_pair.specs.Printing.{PrintsOrBreaks};
+ghost use Rattle.ua_fields.specs.Printing.{PrintsOrBreaks};
 ghost use Rattle.ua_pair.specs.Styles.{style_of};
 ghost use Rattle.ua_pair.specs.Telling.{AreMessageFields, ArePendingLines};
 ghost use Rattle.ua_pair.specs.Telling.{none_pending};
-ghost use Rattle.ua_pair.specs.Names.{message_kind as kind_of_message, opening_kind as kind_of_opening};
+ghost use Rattle.ua_fields.specs.Bodies.{message_kind as kind_of_message, opening_kind as kind_of_opening};
 ghost use Rattle.ua_pair.specs.Told.{AreFieldsOf, IsHeaderOf};
 ghost use Rattle.ua_pair.specs.Told.{IsItemText, IsOpenedText};
 
 use crate::delivered::push_message_head;
 use crate::fault::DissectFault;
-use crate::fields::{print_header, print_message, print_opening};
 use crate::line::{push_aborted_line, push_message_line};
 use crate::name::opening_name;
 use crate::options::DissectOptions;
-use crate::printing::PrintFault;
 use std::alloc::{AllocError, Global};
 use std::io::Write;
 use ua_chunk::{Delivered, Message, OpenChunk};
+use ua_fields::{PrintFault, print_header, print_message, print_opening};
 
 /// What has its line appended, and its fields to be printed after it.
 #[derive(Debug, Drop)]

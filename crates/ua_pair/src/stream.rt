@@ -6,8 +6,8 @@ ghost use Rattle.ua_pair.specs.Dissected.{AddsLines, plain_of_side};
 
 use crate::dissector::Dissector;
 use crate::options::DissectOptions;
-use crate::side::Side;
 use std::alloc::{AllocError, Global};
+use ua_fields::Side;
 
 /// Appends the lines of bytes, which are taken at once. After an error some of them may have been
 /// appended.

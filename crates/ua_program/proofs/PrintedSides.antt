@@ -9,7 +9,7 @@ use Rattle.ua_judge.specs.declared.mark.Mark.{Mark}
 use Rattle.ua_pair.specs.Dissected.{AreTold}
 use Rattle.ua_pair.specs.Dissecting.{EndsLines, StandsBehind, TellsMore}
 use Rattle.ua_pair.specs.declared.options.DissectOptions.{DissectOptions}
-use Rattle.ua_pair.specs.declared.side.Side.TheVariants.{Client, Server}
+use Rattle.ua_fields.specs.declared.side.Side.TheVariants.{Client, Server}
 use Rattle.ua_program.specs.Judges.{AreLinesBetween, PrintsTurn, PrintsTurns, lines_behind, printed_options, printed_to}
 use Rattle.ua_program.specs.Recorded.{IsRecord}
 use Rattle.ua_program.specs.Printing.{AddsLastLines, AddsTurns, ArePrinted, EndsSideBehind, PrinterStands, PrintersStand, PrintsMark, PrintsSide}

@@ -8,8 +8,8 @@ use Rattle.ua_pair.specs.declared.dissector.Dissector.{Dissector}
 use Rattle.ua_pair.specs.declared.options.DissectOptions.{DissectOptions}
 use Rattle.ua_pair.specs.Dissected.{AreTold}
 use Rattle.ua_pair.specs.Dissecting.{StandsBehind, TellsMore, EndsLines, IsStarved, PrintsFirst, PrintsMore}
-use Rattle.ua_pair.specs.declared.printing.PrintFault.{PrintFault}
-use Rattle.ua_pair.specs.declared.printing.PrintFault.TheVariants as print
+use Rattle.ua_fields.specs.declared.printing.PrintFault.{PrintFault}
+use Rattle.ua_fields.specs.declared.printing.PrintFault.TheVariants as print
 use Rattle.hex.specs.Hex.{decode_of}
 use Rattle.hex.proofs.HexLemmas.{decode_of-ok}
 use Rattle.ua_program.specs.Looped.{HasLoopedUntil}

@@ -6,9 +6,9 @@ use Rattle.ua_pair.specs.declared.dissector.Dissector.{Dissector}
 use Rattle.ua_pair.specs.declared.options.DissectOptions.{DissectOptions}
 use Rattle.ua_pair.specs.Dissected.{AreLines, AreTold}
 use Rattle.ua_pair.specs.Dissecting.{StandsBehind, is_stopped}
-use Rattle.ua_pair.specs.Printing.{EachHasText}
-use Rattle.ua_pair.specs.declared.printing.PrintFault.{PrintFault}
-use Rattle.ua_pair.specs.declared.printing.PrintFault.TheVariants as print
+use Rattle.ua_fields.specs.Printing.{EachHasText}
+use Rattle.ua_fields.specs.declared.printing.PrintFault.{PrintFault}
+use Rattle.ua_fields.specs.declared.printing.PrintFault.TheVariants as print
 use Rattle.ua_pair.specs.Styles.{style_of}
 use Rattle.ua_frame.specs.Run.{End}
 use Rattle.ua_session.specs.declared.verdict.Verdict.{Verdict}

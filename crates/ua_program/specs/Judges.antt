@@ -13,8 +13,8 @@ use Rattle.ua_judge.specs.declared.verdict.Verdict.{Verdict}
 use Rattle.ua_judge.specs.declared.verdict.Verdict.TheVariants.{Keeps, Closes, Breaks, Refuses, Stops}
 use Rattle.ua_pair.specs.Dissected.{AreLines, AreTold}
 use Rattle.ua_pair.specs.declared.options.DissectOptions.{DissectOptions}
-use Rattle.ua_pair.specs.declared.side.Side.{Side}
-use Rattle.ua_pair.specs.declared.side.Side.TheVariants.{Client, Server}
+use Rattle.ua_fields.specs.declared.side.Side.{Side}
+use Rattle.ua_fields.specs.declared.side.Side.TheVariants.{Client, Server}
 use Rattle.ua_session.specs.declared.verdict.Verdict.{Verdict as Status}
 use Rattle.ua_session.specs.declared.verdict.Verdict.TheVariants.{AllGood, SomeBad}
 use Rattle.ua_texts.specs.Names.{named_code}

@@ -3,7 +3,7 @@ use Rattle.std.specs.Prelude.{◌≡◌, ◌≤◌, ℕ, List, ◌++◌, codes, 
 use Rattle.ua_judge.specs.declared.mark.Mark.{Mark}
 use Rattle.ua_pair.specs.Dissecting.{StandsBehind}
 use Rattle.ua_pair.specs.declared.options.DissectOptions.{DissectOptions}
-use Rattle.ua_pair.specs.declared.side.Side.TheVariants.{Client, Server}
+use Rattle.ua_fields.specs.declared.side.Side.TheVariants.{Client, Server}
 use Rattle.ua_program.specs.Judges.{AreLinesBetween, EndsSide, PrintsLastLines, PrintsTurn, PrintsTurns, lines_behind}
 use Rattle.ua_program.specs.Judges.{printed_options, printed_to}
 use Rattle.ua_words.specs.declared.arguments.JudgeRecord.{JudgeRecord}

@@ -3,7 +3,8 @@ use Rattle.std.specs.List.{concat}
 use Rattle.ua_texts.proofs.PlainAdds.{adds_behind, adds_both}
 use Rattle.ua_texts.specs.PlainLeaf.{Adds}
 use Rattle.ua_pair.specs.Lines.{message_line}
-use Rattle.ua_pair.specs.Names.{is_unsupported, message_kind, message_title}
+use Rattle.ua_fields.specs.Bodies.{message_kind}
+use Rattle.ua_pair.specs.Names.{is_unsupported, message_title}
 use Rattle.ua_pair.specs.Told.{AreFieldsOf, IsHeaderOf, IsMessageText}
 use Rattle.ua_pair.proofs.delivered.push_message.Goals as goal
 

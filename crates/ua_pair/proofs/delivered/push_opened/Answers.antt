@@ -2,7 +2,8 @@ use Rattle.std.proofs.Common.{List, ℕ, ◌≡◌, ◌++◌, ◌∙◌, refl, a
 use Rattle.ua_texts.proofs.PlainAdds.{adds_behind}
 use Rattle.ua_texts.specs.PlainLeaf.{Adds}
 use Rattle.ua_pair.specs.Lines.{message_line}
-use Rattle.ua_pair.specs.Names.{opening_kind, opening_name}
+use Rattle.ua_fields.specs.Bodies.{opening_kind}
+use Rattle.ua_pair.specs.Names.{opening_name}
 use Rattle.ua_pair.specs.Told.{AreFieldsOf, IsOpenedText}
 use Rattle.ua_pair.proofs.delivered.push_opened.Goals as goal
 

@@ -1,5 +1,5 @@
 use Rattle.ua_pair.specs.Styles.{style_of}
-use Rattle.ua_pair.proofs.PrintedBodies.{printed_as}
+use Rattle.ua_fields.proofs.PrintedBodies.{printed_as}
 use Rattle.ua_pair.proofs.pending.print_header_if.Goals as goal
 
 pub returns-then-unsupported : goal.returns-then-unsupported

@@ -1,5 +1,5 @@
 use Rattle.ua_pair.specs.Styles.{style_of}
-use Rattle.ua_pair.proofs.PrintedBodies.{printed_as}
+use Rattle.ua_fields.proofs.PrintedBodies.{printed_as}
 use Rattle.ua_pair.proofs.pending.print_opened.Goals as goal
 
 pub returns-then-options : goal.returns-then-options

@@ -1,5 +1,5 @@
 use Rattle.std.specs.Prelude.{codes}
-use Rattle.ua_pair.specs.declared.side.Side.TheVariants.{Client, Server}
+use Rattle.ua_fields.specs.declared.side.Side.TheVariants.{Client, Server}
 use Rattle.ua_program.specs.Judges.{printed_options}
 use Rattle.ua_program.proofs.PrintedSides.{prints_mark, side_within}
 use Rattle.ua_program.proofs.judge.Printers.print_to.Goals as goal

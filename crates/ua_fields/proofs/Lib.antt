@@ -1,0 +1,17 @@
+mod ElementLines
+mod Behind
+mod Identities
+pub mod Bodies
+pub mod Openings
+pub mod Printings
+mod PrintedPieces
+mod Long
+mod NodeTexts
+mod ValueTexts
+mod ValueElements
+mod ValueArrays
+mod ValueLines
+pub mod PrintedBodies
+pub mod PrintedHeaders
+mod OpenedBodies
+mod Splits

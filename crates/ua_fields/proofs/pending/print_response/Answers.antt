@@ -1,0 +1,25 @@
+use Rattle.std.proofs.Common.{◌∙◌, sym}
+use Rattle.std.specs.List.{concat}
+use Rattle.ua_fields.proofs.PrintedHeaders.{response_absent}
+use Rattle.ua_fields.proofs.PrintedBodies.{body_breaks, response_is}
+use Rattle.ua_fields.specs.declared.body.BodyKind.TheVariants as body
+use Rattle.ua_fields.proofs.pending.print_response.Goals as goal
+
+pub print_response_of-requires : goal.print_response_of-requires
+print_response_of-requires g c =
+    response_is (concat c.args.message.now) c.skip_response.result c.in-Ok.kind (rw c.source.ensures at c.skip_response.ensures.kind) c.in-Ok.is
+
+pub returns-in-Err-Unknown : goal.returns-in-Err-Unknown
+returns-in-Err-Unknown g c =
+    response_absent c.args.style (concat c.args.message.now) c.skip_response.result c.in-Err-Unknown.field-0 _ _
+    (rw c.source.ensures at c.skip_response.ensures.kind)
+    c.in-Err-Unknown.is (λ e. let both = sym c.in-Err-Unknown.field-0-is ∙ e in cc)
+
+pub returns-in-Err-Unreadable : goal.returns-in-Err-Unreadable
+returns-in-Err-Unreadable g c =
+    response_absent c.args.style (concat c.args.message.now) c.skip_response.result c.in-Err-Unreadable.field-0 _ _
+    (rw c.source.ensures at c.skip_response.ensures.kind)
+    c.in-Err-Unreadable.is (λ e. let both = sym c.in-Err-Unreadable.field-0-is ∙ e in cc)
+
+pub returns-in-Err-OutOfMemory : goal.returns-in-Err-OutOfMemory
+returns-in-Err-OutOfMemory g c = body_breaks c.args.style body.Response (concat c.args.message.now) _ _

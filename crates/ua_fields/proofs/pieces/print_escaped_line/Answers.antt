@@ -1,0 +1,32 @@
+use Rattle.std.proofs.Common.{codes, string_bytes}
+use Rattle.std.proofs.lemmas.Result.{err_from_is_err_and}
+use Rattle.ua_fields.proofs.PrintedPieces.{line_begun, line_broken, line_ended, line_stopped, none_printed}
+use Rattle.ua_fields.specs.Tree.{line}
+use Rattle.ua_texts.specs.Shown.{escaped}
+use Rattle.ua_fields.proofs.pieces.print_escaped_line.Goals as goal
+
+pub returns-in_err-push_start : goal.returns-in_err-push_start
+returns-in_err-push_start g c =
+    let p = err_from_is_err_and c.from_residual.result c.from_residual.ensures.1 in
+    rw (p.1, p.2) (none_printed _ _ _)
+
+pub returns-in_err-print_escaped : goal.returns-in_err-print_escaped
+returns-in_err-print_escaped g c =
+    let p = err_from_is_err_and c.from_residual-in_err-print_escaped.result c.from_residual-in_err-print_escaped.ensures.1 in
+    rw (p.1, p.2)
+    (line_stopped (g.O.Write.contents c.args.out.now) (g.O.Write.contents c.args.out.now) (g.O.Write.contents c.print_escaped.new.out)
+    (string_bytes c.args.text.now) (string_bytes c.push_start.new.out) (string_bytes c.print_escaped.new.text) (escaped c.args.value.now) (codes "\n")
+    (line c.args.place.margin.now c.args.place.path.now (escaped c.args.value.now)) c.in_err-print_escaped.field-0.0
+    (line_begun _ _ _ c.args.place.margin.now c.args.place.path.now _ c.in_ok-push_start.ensures) c.in_err-print_escaped.ensures)
+
+pub returns-in_err-push_str : goal.returns-in_err-push_str
+returns-in_err-push_str g c =
+    let p = err_from_is_err_and c.from_residual-in_err-push_str.result c.from_residual-in_err-push_str.ensures.1 in
+    rw (p.1, p.2)
+    (line_broken _ _ _ _ _ _ _ _ _ (line_begun _ _ _ c.args.place.margin.now c.args.place.path.now _ c.in_ok-push_start.ensures)
+    c.in_ok-print_escaped.ensures)
+
+pub returns : goal.returns
+returns g c =
+    line_ended _ _ _ _ _ _ _ _ _ _ _ _ (line_begun _ _ _ c.args.place.margin.now c.args.place.path.now _ c.in_ok-push_start.ensures)
+    c.in_ok-print_escaped.ensures c.in_ok-push_str.ensures.bytes c.in_ok-write_full.ensures

@@ -1,0 +1,13 @@
+-- Written by `tools/add_service.py --write` from `schema/session.txt`.
+-- What is printed are the lines of its fields.
+use Rattle.std.proofs.Common.{refl}
+use Rattle.ua_structures.specs.Session.{activate_session_response}
+use Rattle.ua_fields.specs.Session.{activate_session_response_entries}
+use Rattle.ua_fields.proofs.Printings.{struct_printed}
+use Rattle.ua_fields.proofs.session.ActivateSessionResponsePrinted.print.Goals as goal
+
+pub returns : goal.returns
+unfolding activate_session_response activate_session_response_entries
+returns g c =
+    struct_printed c.args.place.style c.args.place.margin.now c.args.place.path.now _ _ activate_session_response activate_session_response_entries _ _ _ _ _ _
+    c.print_fields.result refl c.print_fields.ensures

@@ -1,0 +1,29 @@
+-- Written by `tools/add_service.py --write` from `schema/session.txt`.
+-- The lines of its fields stand one behind the other.
+use Rattle.std.proofs.Common.{refl}
+use Rattle.ua_fields.specs.Session.{create_session_request_entries}
+use Rattle.ua_fields.proofs.session.CreateSessionRequestLines.push_lines.Goals as goal
+
+pub returns : goal.returns
+unfolding create_session_request_entries
+returns c = (
+  _,
+  c.in_ok-push_part.ensures,
+  (
+    _,
+    c.in_ok-push_part-2.ensures,
+    (
+      _,
+      c.in_ok-push_field.ensures,
+      (
+        _,
+        c.in_ok-push_field-2.ensures,
+        (
+          _,
+          c.in_ok-push_field-3.ensures,
+          (_, c.in_ok-push_field-4.ensures, (_, c.in_ok-push_field-5.ensures, (_, c.in_ok-push_field-6.ensures, (_, c.in_ok-push_field-7.ensures, refl)))),
+        ),
+      ),
+    ),
+  ),
+)

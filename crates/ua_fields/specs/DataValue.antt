@@ -1,0 +1,31 @@
+-- The fields of a DataValue.
+use Rattle.std.specs.Prelude.{false, List, ℕ, [], ◌∷◌, Option, codes}
+use Rattle.ua_variant.specs.Data.{DataFields, VariantData}
+use Rattle.ua_variant.specs.declared.values.DataValue.{DataValue}
+use Rattle.ua_fields.specs.Tree.{Fields, exact_leaf_text, named, moment_of, value_of}
+use Rattle.ua_fields.specs.Leaves.{optional_tree, code_leaf, leaf_or_null, number_leaf}
+
+-- DataValue (OPC 10000-6, 5.2.2.17)
+unfoldable pub data_value_entries : DataValue → Fields
+data_value_entries d = named (
+    (codes "value", optional_tree value_of d.value)
+    ∷ (codes "status", optional_tree code_leaf d.status)
+    ∷ (codes "source_timestamp", optional_tree moment_of d.source_timestamp)
+    ∷ (codes "source_picoseconds", optional_tree number_leaf d.source_picoseconds)
+    ∷ (codes "server_timestamp", optional_tree moment_of d.server_timestamp)
+    ∷ (codes "server_picoseconds", optional_tree number_leaf d.server_picoseconds)
+    ∷ [])
+
+-- the fields after its value
+abbrev pub fields_after_value : DataFields → Fields
+fields_after_value f = named (
+    (codes "status", optional_tree code_leaf f.status)
+    ∷ (codes "source_timestamp", optional_tree moment_of f.source_timestamp)
+    ∷ (codes "source_picoseconds", optional_tree number_leaf f.source_picoseconds)
+    ∷ (codes "server_timestamp", optional_tree moment_of f.server_timestamp)
+    ∷ (codes "server_picoseconds", optional_tree number_leaf f.server_picoseconds)
+    ∷ [])
+
+-- the text of its value, or `null`
+abbrev pub value_text : Option VariantData → List ℕ
+value_text v = exact_leaf_text false (leaf_or_null value_of v)

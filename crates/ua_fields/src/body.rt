@@ -1,0 +1,234 @@
+//! Message bodies as lines.
+
+ghost use Rattle.std.specs.Prelude.{◌≡◌, ◌++◌, string_bytes, IfOk, OnOk};
+ghost use Rattle.ua_opening.specs.SecureChannel.{close_request, open_request};
+ghost use Rattle.ua_opening.specs.Message.{body_of, message, standard_number as number_of_id};
+ghost use Rattle.ua_opening.specs.Open.{answer_read};
+ghost use Rattle.ua_services.specs.Request.{request};
+ghost use Rattle.ua_services.specs.Response.{response};
+ghost use Rattle.ua_fields.specs.Bodies.{AreBodyFields, IsBodyText, IsFound, IsHeaderText, behind_id, body_fields};
+ghost use Rattle.ua_texts.specs.PlainLeaf.{Adds};
+ghost use Rattle.ua_fields.specs.Messages.{AreMessageLines};
+
+use crate::lines::Lines;
+use crate::message::push_message;
+use crate::side::Side;
+use crate::style::FieldStyle;
+use std::alloc::{AllocError, Global};
+use ua_builtin::{Identifier, MOST_LEVELS, NodeId, ReadFault, Source, Wire};
+use ua_services::{
+    CloseRequest, OpenAnswer, OpenRequest, Request, RequestFault, Response, ResponseFault,
+    ServiceFault, read_open_request, read_open_response, read_request, read_response,
+};
+
+/// How a body is decoded, given its sender and its message type (OPC 10000-6, 6.7.2).
+#[derive(Clone, Copy, PartialEq, Eq, Debug)]
+pub enum BodyKind {
+    /// A request, from a client in a MSG.
+    Request,
+    /// A response, from a server in a MSG.
+    Response,
+    /// An OpenSecureChannel request, from a client in an OPN.
+    OpenRequest,
+    /// The response to an OpenSecureChannel request, or a ServiceFault, from a server in an OPN.
+    OpenResponse,
+    /// A CloseSecureChannel request, from a client in a CLO.
+    CloseRequest,
+}
+
+/// The number of the encoding of a CloseSecureChannel request (OPC 10000-6, A.3).
+const CLOSE_REQUEST: u32 = 452;
+
+/// The request that a body is, if it is one.
+#[tactic(auto, unfolding(ua_services::specs::Request::request_read), using(ua_opening::proofs::BodyRead::found_ok, ua_opening::proofs::BodyRead::found_err))]
+fn found_request<S: Source>(alloc: Global, src: &mut S) -> Result<Option<Request>, AllocError>
+    ensures { IfOk result (λ found. found ≡ body_of request (S.octets src.old)) }
+{
+    match read_request(alloc, src) {
+        Ok(message) => Ok(Some(message)),
+        Err(RequestFault::OutOfMemory) => Err(AllocError),
+        Err(_) => Ok(None),
+    }
+}
+
+/// The response that a body is, if it is one.
+#[tactic(auto, unfolding(ua_services::specs::Response::response_read), using(ua_opening::proofs::BodyRead::found_ok, ua_opening::proofs::BodyRead::found_err))]
+fn found_response<S: Source>(alloc: Global, src: &mut S) -> Result<Option<Response>, AllocError>
+    ensures { IfOk result (λ found. found ≡ body_of response (S.octets src.old)) }
+{
+    match read_response(alloc, src) {
+        Ok(message) => Ok(Some(message)),
+        Err(ResponseFault::OutOfMemory) => Err(AllocError),
+        Err(_) => Ok(None),
+    }
+}
+
+/// The OpenSecureChannel request that a body is, if it is one.
+#[tactic(auto, using(ua_opening::proofs::BodyRead::found_ok, ua_opening::proofs::BodyRead::found_err))]
+fn found_open_request<S: Source>(
+    alloc: Global,
+    src: &mut S,
+) -> Result<Option<OpenRequest>, AllocError>
+    ensures { IfOk result (λ found. found ≡ body_of (message 446 open_request) (S.octets src.old)) }
+{
+    match read_open_request(alloc, src) {
+        Ok(message) => Ok(Some(message)),
+        Err(ReadFault::OutOfMemory) => Err(AllocError),
+        Err(ReadFault::NoValue) => Ok(None),
+    }
+}
+
+/// The response to an OpenSecureChannel request that a body is, if it is one.
+#[tactic(auto, using(ua_opening::proofs::BodyRead::found_ok, ua_opening::proofs::BodyRead::found_err))]
+fn found_open_answer<S: Source>(
+    alloc: Global,
+    src: &mut S,
+) -> Result<Option<OpenAnswer>, AllocError>
+    ensures { IfOk result (λ found. found ≡ answer_read (S.octets src.old)) }
+{
+    match read_open_response(alloc, src) {
+        Ok(message) => Ok(Some(message)),
+        Err(ReadFault::OutOfMemory) => Err(AllocError),
+        Err(ReadFault::NoValue) => Ok(None),
+    }
+}
+
+/// The number of a NodeId of the standard's namespace.
+fn standard_number(id: &NodeId) -> Option<u32>
+    ensures { result ≡ number_of_id id.now }
+{
+    match &id.identifier {
+        Identifier::Numeric(number) if id.namespace == 0 => Some(*number),
+        _ => None,
+    }
+}
+
+/// The CloseSecureChannel request that bytes are, after the NodeId of its encoding.
+fn found_last<S: Source>(alloc: Global, src: &mut S) -> Result<Option<CloseRequest>, AllocError>
+    ensures { IfOk result (λ found. found ≡ body_of close_request (S.octets src.old)) }
+{
+    match CloseRequest::read_value(alloc, src, MOST_LEVELS) {
+        Ok(request) if src.left() == 0 => Ok(Some(request)),
+        Ok(_) => Ok(None),
+        Err(ReadFault::NoValue) => Ok(None),
+        Err(ReadFault::OutOfMemory) => Err(AllocError),
+    }
+}
+
+/// The CloseSecureChannel request that a body is, if it is one.
+fn found_close_request<S: Source>(
+    alloc: Global,
+    src: &mut S,
+) -> Result<Option<CloseRequest>, AllocError>
+    ensures { IfOk result (λ found. found ≡ body_of (message 452 close_request) (S.octets src.old)) }
+{
+    let id = match NodeId::read_value(alloc, src, MOST_LEVELS) {
+        Ok(id) => id,
+        Err(ReadFault::NoValue) => return Ok(None),
+        Err(ReadFault::OutOfMemory) => return Err(AllocError),
+    };
+    let Some(number) = standard_number(&id) else {
+        return Ok(None);
+    };
+    if number != CLOSE_REQUEST {
+        return Ok(None);
+    }
+    found_last(alloc, src)
+}
+
+/// Appends the lines of the message that was found, and drops it.
+fn push_found<T: Lines + Drop>(
+    alloc: Global,
+    found: Option<T>,
+    style: FieldStyle,
+    out: &mut String,
+) -> Result<(), AllocError>
+    ensures { Adds result (string_bytes out.old) (string_bytes out.new)
+        (IsFound (λ m. AreMessageLines style (T.tree m)) found) }
+{
+    match found {
+        Some(message) => push_message(alloc, &message, style, out),
+        None => Ok(()),
+    }
+}
+
+/// Appends the lines of a body in this style: those of the message in it, or none if the body
+/// cannot be decoded or is of an unknown service. Discard the source afterwards. If an allocation
+/// fails, some lines may have been appended.
+pub fn push_body_text<S: Source>(
+    alloc: Global,
+    kind: BodyKind,
+    style: FieldStyle,
+    src: &mut S,
+    out: &mut String,
+) -> Result<(), AllocError>
+    ensures { Adds result (string_bytes out.old) (string_bytes out.new) (IsBodyText style kind (S.octets src.old)) }
+{
+    match kind {
+        BodyKind::Request => push_found(alloc, found_request(alloc, src)?, style, out),
+        BodyKind::Response => push_found(alloc, found_response(alloc, src)?, style, out),
+        BodyKind::OpenRequest => push_found(alloc, found_open_request(alloc, src)?, style, out),
+        BodyKind::OpenResponse => push_found(alloc, found_open_answer(alloc, src)?, style, out),
+        BodyKind::CloseRequest => push_found(alloc, found_close_request(alloc, src)?, style, out),
+    }
+}
+
+/// Appends the exact lines of the message in a body, or none if the body cannot be decoded or is of
+/// an unknown service. Discard the source afterwards. If an allocation fails, some lines may have
+/// been appended.
+#[tactic(auto, using(crate::proofs::Bodies::body_told, crate::proofs::Bodies::exact_body))]
+pub fn push_body_fields<S: Source>(
+    alloc: Global,
+    kind: BodyKind,
+    names: bool,
+    src: &mut S,
+    out: &mut String,
+) -> Result<(), AllocError>
+    ensures fields { OnOk result (string_bytes out.new ≡ string_bytes out.old ++ body_fields names kind
+        (S.octets src.old)) }
+    ensures told { AreBodyFields names kind (S.octets src.old) (body_fields names kind (S.octets src.old)) }
+{
+    push_body_text(alloc, kind, FieldStyle::exact(names), src, out)
+}
+
+/// The value after the NodeId at the start of bytes, whatever follows it.
+pub(crate) fn found_behind<T: Wire, S: Source>(
+    alloc: Global,
+    src: &mut S,
+) -> Result<Option<T>, AllocError>
+    ensures { IfOk result (λ found. found ≡ behind_id T.format (S.octets src.old)) }
+{
+    match NodeId::read_value(alloc, src, MOST_LEVELS) {
+        Ok(id) => drop(id),
+        Err(ReadFault::NoValue) => return Ok(None),
+        Err(ReadFault::OutOfMemory) => return Err(AllocError),
+    }
+    match T::read_value(alloc, src, MOST_LEVELS) {
+        Ok(value) => Ok(Some(value)),
+        Err(ReadFault::NoValue) => Ok(None),
+        Err(ReadFault::OutOfMemory) => Err(AllocError),
+    }
+}
+
+/// Appends the lines of the header of a message that this side sent, if it is decoded completely.
+/// Discard the source afterwards. If an allocation fails, some lines may have been appended.
+pub fn push_header_fields<S: Source>(
+    alloc: Global,
+    side: Side,
+    style: FieldStyle,
+    src: &mut S,
+    out: &mut String,
+) -> Result<(), AllocError>
+    ensures { Adds result (string_bytes out.old) (string_bytes out.new) (IsHeaderText style side (S.octets src.old)) }
+{
+    match side {
+        Side::Client => {
+            let found: Option<CloseRequest> = found_behind(alloc, src)?;
+            push_found(alloc, found, style, out)
+        }
+        Side::Server => {
+            let found: Option<ServiceFault> = found_behind(alloc, src)?;
+            push_found(alloc, found, style, out)
+        }
+    }
+}

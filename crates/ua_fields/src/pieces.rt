@@ -1,0 +1,177 @@
+//! Long texts, which are printed in pieces: what is kept of them stays small.
+
+ghost use Rattle.std.specs.Prelude.{◌≡◌, ◌++◌, OnOk, string_bytes};
+ghost use Rattle.base64.specs.Engines.{standard};
+ghost use Rattle.base64.specs.GeneralPurpose.{encode_of};
+ghost use Rattle.hex.specs.Hex.{encode_lower};
+ghost use Rattle.ua_fields.specs.Printing.{PrintsPieces};
+ghost use Rattle.ua_fields.specs.Tree.{line};
+ghost use Rattle.ua_texts.specs.Shown.{escaped, octets_text, shown, written_text};
+
+use crate::lines::{Place, push_line, push_start};
+use crate::printing::{PrintFault, write_full};
+use base64::engine::general_purpose::STANDARD;
+use std::alloc::{AllocError, Global};
+use std::io::Write;
+use ua_builtin::{Wire, WriteFault};
+use ua_texts::{push_char, push_escaped_char};
+
+/// The bytes of a piece, which base64 has in groups of three. A value of no more bytes is printed
+/// whole.
+pub(crate) const PIECE: usize = 24576;
+
+/// Prints a text, escaped, in pieces.
+pub(crate) fn print_escaped<O: Write>(
+    value: &str,
+    text: &mut String,
+    out: &mut O,
+) -> Result<(), PrintFault>
+    ensures { PrintsPieces (O.contents out.old) (string_bytes text.old) (O.contents out.new) (string_bytes text.new)
+        (escaped value.now) result }
+{
+    for c in value.chars() {
+        push_escaped_char(text, c)?;
+        write_full(text, out)?;
+    }
+    Ok(())
+}
+
+/// Prints a text as the Strings in a value are shown, in pieces.
+pub(crate) fn print_shown<O: Write>(
+    value: &str,
+    text: &mut String,
+    out: &mut O,
+) -> Result<(), PrintFault>
+    ensures { PrintsPieces (O.contents out.old) (string_bytes text.old) (O.contents out.new) (string_bytes text.new)
+        (shown value.now) result }
+{
+    for c in value.chars() {
+        push_char(text, c)?;
+        write_full(text, out)?;
+    }
+    Ok(())
+}
+
+/// Prints bytes in base64, in pieces.
+pub(crate) fn print_base64<O: Write>(
+    octets: &[u8],
+    text: &mut String,
+    out: &mut O,
+) -> Result<(), PrintFault>
+    ensures { PrintsPieces (O.contents out.old) (string_bytes text.old) (O.contents out.new) (string_bytes text.new)
+        (encode_of standard octets.now) result }
+{
+    let mut rest = octets;
+    while let Some((piece, others)) = rest.split_at_checked(PIECE) {
+        STANDARD.encode_string(piece, text)?;
+        write_full(text, out)?;
+        rest = others;
+    }
+    STANDARD.encode_string(rest, text)?;
+    Ok(())
+}
+
+/// Appends two hexadecimal digits for each byte.
+fn push_digits(alloc: Global, octets: &[u8], text: &mut String) -> Result<(), AllocError>
+    ensures { OnOk result (string_bytes text.new ≡ string_bytes text.old ++ encode_lower octets.now) }
+{
+    let digits = hex::encode(alloc, octets)?;
+    text.push_str(&digits)
+}
+
+/// Prints bytes as `0x` and two hexadecimal digits for each, in pieces.
+pub(crate) fn print_octets<O: Write>(
+    alloc: Global,
+    octets: &[u8],
+    text: &mut String,
+    out: &mut O,
+) -> Result<(), PrintFault>
+    ensures { PrintsPieces (O.contents out.old) (string_bytes text.old) (O.contents out.new) (string_bytes text.new)
+        (octets_text octets.now) result }
+{
+    text.push_str("0x")?;
+    let mut rest = octets;
+    while let Some((piece, others)) = rest.split_at_checked(PIECE) {
+        push_digits(alloc, piece, text)?;
+        write_full(text, out)?;
+        rest = others;
+    }
+    push_digits(alloc, rest, text)?;
+    Ok(())
+}
+
+/// Prints the line of a text, escaped, in pieces.
+pub(crate) fn print_escaped_line<O: Write>(
+    place: Place<'_>,
+    value: &str,
+    text: &mut String,
+    out: &mut O,
+) -> Result<(), PrintFault>
+    ensures { PrintsPieces (O.contents out.old) (string_bytes text.old) (O.contents out.new) (string_bytes text.new)
+        (line place.entry.margin.now place.entry.path.now (escaped value.now)) result }
+{
+    push_start(text, place)?;
+    print_escaped(value, text, out)?;
+    text.push_str("\n")?;
+    write_full(text, out)?;
+    Ok(())
+}
+
+/// Prints the line of bytes in base64, in pieces.
+pub(crate) fn print_base64_line<O: Write>(
+    place: Place<'_>,
+    octets: &[u8],
+    text: &mut String,
+    out: &mut O,
+) -> Result<(), PrintFault>
+    ensures { PrintsPieces (O.contents out.old) (string_bytes text.old) (O.contents out.new) (string_bytes text.new)
+        (line place.entry.margin.now place.entry.path.now (encode_of standard octets.now)) result }
+{
+    push_start(text, place)?;
+    print_base64(octets, text, out)?;
+    text.push_str("\n")?;
+    write_full(text, out)?;
+    Ok(())
+}
+
+/// Prints the line of bytes as `0x` and their hexadecimal digits, in pieces.
+pub(crate) fn print_octets_line<O: Write>(
+    alloc: Global,
+    place: Place<'_>,
+    octets: &[u8],
+    text: &mut String,
+    out: &mut O,
+) -> Result<(), PrintFault>
+    ensures { PrintsPieces (O.contents out.old) (string_bytes text.old) (O.contents out.new) (string_bytes text.new)
+        (line place.entry.margin.now place.entry.path.now (octets_text octets.now)) result }
+{
+    push_start(text, place)?;
+    print_octets(alloc, octets, text, out)?;
+    text.push_str("\n")?;
+    write_full(text, out)?;
+    Ok(())
+}
+
+/// Prints the line of a value by the bytes of its canonical encoding, in pieces, or `unwritable` if
+/// it has none.
+pub(crate) fn print_encoded_line<T: Wire, O: Write>(
+    alloc: Global,
+    place: Place<'_>,
+    value: &T,
+    text: &mut String,
+    out: &mut O,
+) -> Result<(), PrintFault>
+    ensures { PrintsPieces (O.contents out.old) (string_bytes text.old) (O.contents out.new) (string_bytes text.new)
+        (line place.entry.margin.now place.entry.path.now
+        (written_text (T.format.encodable value.now) (T.format.canonical value.now))) result }
+{
+    let mut octets = Vec::new(alloc);
+    match value.write(&mut octets) {
+        Ok(()) => print_octets_line(alloc, place, octets.as_slice(), text, out),
+        Err(WriteFault::NotWritable) => {
+            push_line(text, place, "unwritable")?;
+            Ok(())
+        }
+        Err(WriteFault::OutOfMemory) => Err(PrintFault::OutOfMemory),
+    }
+}

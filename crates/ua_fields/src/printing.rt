@@ -1,0 +1,125 @@
+//! Lines that are written before all of them are made.
+
+ghost use Rattle.std.specs.Prelude.{◌≡◌, [], OnOk, string_bytes};
+ghost use Rattle.ua_fields.specs.Printing.{PrintsLines};
+
+use std::alloc::AllocError;
+use std::io;
+use std::io::Write;
+use thiserror::Error;
+use ua_builtin::ReadFault;
+
+/// The most bytes of lines that are kept before they are written, besides those of one value.
+const MOST_KEPT: usize = 65536;
+
+/// Why lines are not printed.
+#[derive(Debug, Drop)]
+pub enum PrintFault {
+    /// An allocation failed.
+    OutOfMemory,
+    /// The lines cannot be written, and why.
+    Output(io::Error),
+}
+
+/// Why the lines of a value are not printed as it is read.
+#[derive(Debug, Drop)]
+pub(crate) enum TellFault {
+    /// No value is at the start of the source.
+    NoValue,
+    /// An allocation failed.
+    OutOfMemory,
+    /// The lines cannot be written, and why.
+    Output(io::Error),
+}
+
+impl From<AllocError> for PrintFault {
+    ghost use Rattle.ua_fields.specs.declared.printing.PrintFault.TheVariants.{OutOfMemory};
+
+    ghost from_gives = { λ _ fault. fault ≡ OutOfMemory };
+
+    fn from(_: AllocError) -> PrintFault {
+        PrintFault::OutOfMemory
+    }
+}
+
+impl From<io::Error> for PrintFault {
+    ghost use Rattle.ua_fields.specs.declared.printing.PrintFault.TheVariants.{Output};
+
+    ghost from_gives = { λ error fault. fault ≡ Output error };
+
+    fn from(error: io::Error) -> PrintFault {
+        PrintFault::Output(error)
+    }
+}
+
+impl From<AllocError> for TellFault {
+    ghost use Rattle.ua_fields.specs.declared.printing.TellFault.TheVariants.{OutOfMemory};
+
+    ghost from_gives = { λ _ fault. fault ≡ OutOfMemory };
+
+    fn from(_: AllocError) -> TellFault {
+        TellFault::OutOfMemory
+    }
+}
+
+impl From<io::Error> for TellFault {
+    ghost use Rattle.ua_fields.specs.declared.printing.TellFault.TheVariants.{Output};
+
+    ghost from_gives = { λ error fault. fault ≡ Output error };
+
+    fn from(error: io::Error) -> TellFault {
+        TellFault::Output(error)
+    }
+}
+
+impl From<ReadFault> for TellFault {
+    ghost use Rattle.ua_fields.specs.Printing.{tell_fault};
+
+    ghost from_gives = { λ read fault. fault ≡ tell_fault read };
+
+    fn from(fault: ReadFault) -> TellFault {
+        match fault {
+            ReadFault::NoValue => TellFault::NoValue,
+            ReadFault::OutOfMemory => TellFault::OutOfMemory,
+        }
+    }
+}
+
+impl From<PrintFault> for TellFault {
+    ghost use Rattle.ua_fields.specs.Printing.{told_fault};
+
+    ghost from_gives = { λ print fault. fault ≡ told_fault print };
+
+    fn from(fault: PrintFault) -> TellFault {
+        match fault {
+            PrintFault::OutOfMemory => TellFault::OutOfMemory,
+            PrintFault::Output(error) => TellFault::Output(error),
+        }
+    }
+}
+
+/// Writes the lines that are kept, and flushes them; leaves the writer alone where there are none.
+pub fn write_kept<O: Write>(text: &mut String, out: &mut O) -> io::Result<()>
+    ensures printed { OnOk result (PrintsLines (O.contents out.old) (string_bytes text.old) (O.contents out.new)
+        (string_bytes text.new) []) }
+    ensures none { OnOk result (string_bytes text.new ≡ []) }
+{
+    if text.is_empty() {
+        return Ok(());
+    }
+    out.write_all(text.as_bytes())?;
+    out.flush()?;
+    text.clear();
+    Ok(())
+}
+
+/// Writes the lines that are kept, where they are many.
+pub fn write_full<O: Write>(text: &mut String, out: &mut O) -> io::Result<()>
+    ensures { OnOk result (PrintsLines (O.contents out.old) (string_bytes text.old) (O.contents out.new)
+        (string_bytes text.new) []) }
+{
+    if text.len() < MOST_KEPT {
+        return Ok(());
+    }
+    write_kept(text, out)
+}
