@@ -15,19 +15,17 @@ use Rattle.ua_texts.specs.Shown.{unwritable}
 use Rattle.ua_texts.specs.Values.{items_text, scalar_text, type_name, typed_text, variant_text}
 use Rattle.ua_variant.proofs.VariantsRead.{exact_scalars, variant_level}
 use Rattle.ua_variant.proofs.Viewed.{variant_forth}
-use Rattle.ua_variant.specs.Data.{DataValueData, VariantData, null, one, absent, many, ScalarData, ScalarsData}
-use Rattle.ua_variant.specs.Decoding.{data_value_at, dims_behind, elements_at, no_dims_behind}
+use Rattle.ua_variant.specs.Data.{VariantData, null, one, absent, many, ScalarData, ScalarsData}
+use Rattle.ua_variant.specs.Decoding.{dims_behind, elements_at, no_dims_behind}
 use Rattle.ua_variant.specs.Decoding.{scalars_at, variant_after, variant_array_at, variant_at, variant_step}
 use Rattle.ua_variant.specs.Encodable.{is_read_kind, variant_encodable}
-use Rattle.ua_variant.specs.Formats.{data_value_format, variant_format}
-use Rattle.ua_variant.specs.Values.{data_value_value, variant_value}
+use Rattle.ua_variant.specs.Formats.{variant_format}
+use Rattle.ua_variant.specs.Values.{variant_value}
 use Rattle.ua_variant.specs.View.{row_list, variant_of}
 use Rattle.ua_variant.specs.declared.values.Variant.{Variant}
 use Rattle.ua_wire.specs.declared.fault.ReadFault.{ReadFault}
 use Rattle.ua_wire.specs.declared.fault.ReadFault.TheVariants as fault
-use Rattle.ua_canonical.specs.Recoded.{Recodes}
-use Rattle.ua_canonical.specs.declared.fault.RecodeFault.{RecodeFault}
-use Rattle.ua_canonical.specs.declared.fault.RecodeFault.TheVariants.{NoValue, NotWritable, OutOfMemory}
+use Rattle.ua_canonical.specs.Recoded.{Refused}
 use Rattle.ua_fields.specs.declared.printing.TellFault.{TellFault}
 use Rattle.ua_fields.specs.Printing.{Judges, PrintsLines, PrintsValue, element_levels, value_levels}
 use Rattle.ua_fields.proofs.Printings.{image_there, lines_then, only_kept}
@@ -52,22 +50,6 @@ variant_found levels old new value e =
     let there = image_there variant_value (variant_at levels old) value new e in
     there.1 ∙ ap (λ (v : VariantData). Some (v, new)) (sym (variant_forth there.0) ∙ ap variant_of there.2)
 
-pub variant_passed : (levels : ℕ) (old new : List ℕ) → skipped (variant_format.decode levels) old ≡ Some (tt, new)
-    → (v : VariantData) × (variant_at levels old ≡ Some (v, new))
-unfolding variant_format
-variant_passed levels old new e =
-    let found = skipped_some (image_read variant_value (variant_at levels)) old new e in
-    let there = image_there variant_value (variant_at levels old) found.0 new found.1 in
-    (there.0, there.1)
-
-pub data_value_passed : (levels : ℕ) (old new : List ℕ) → skipped (data_value_format.decode levels) old ≡ Some (tt, new)
-    → (v : DataValueData) × (data_value_at levels old ≡ Some (v, new))
-unfolding data_value_format
-data_value_passed levels old new e =
-    let found = skipped_some (image_read data_value_value (data_value_at levels)) old new e in
-    let there = image_there data_value_value (data_value_at levels old) found.0 new found.1 in
-    (there.0, there.1)
-
 -- reading fails where the same bytes begin
 pub gives_at : {A : Type 0} (read : List ℕ → Option (A × List ℕ)) (start old : List ℕ) (e : ReadFault) → start ≡ old → Gives read start [] (Err e)
     → Gives read old [] (Err e)
@@ -81,36 +63,9 @@ pub judges_at : {A : Type 0} (encodable : A → Bool) (canonical : A → List �
 judges_at encodable canonical read start old fault.NoValue same h = ap read (sym same) ∙ h
 judges_at encodable canonical read start old fault.OutOfMemory same h = tt
 
-pub judges_unread : {A : Type 0} (encodable : A → Bool) (canonical : A → List ℕ) (read : List ℕ → Option (A × List ℕ)) (old new octets : List ℕ) (e : ReadFault)
-    → Gives read old [] (Err e) → Judges encodable canonical read old new octets (Err e)
-judges_unread encodable canonical read old new octets fault.NoValue h = h
-judges_unread encodable canonical read old new octets fault.OutOfMemory h = tt
-
-pub judges_unpassed_variant : (levels : ℕ) (encodable : VariantData → Bool) (canonical : VariantData → List ℕ) (old new octets : List ℕ) (e : ReadFault)
-    → Gives (skipped (variant_format.decode levels)) old [] (Err e) → Judges encodable canonical (variant_at levels) old new octets (Err e)
-judges_unpassed_variant levels encodable canonical old new octets e h =
-    judges_unread encodable canonical (variant_at levels) old new octets e
-    (variant_gives levels old e (skipped_gives (variant_format.decode levels) old e h))
-
-pub judges_unpassed_data_value : (levels : ℕ) (encodable : DataValueData → Bool) (canonical : DataValueData → List ℕ) (old new octets : List ℕ) (e : ReadFault)
-    → Gives (skipped (data_value_format.decode levels)) old [] (Err e) → Judges encodable canonical (data_value_at levels) old new octets (Err e)
-unfolding data_value_format
-judges_unpassed_data_value levels encodable canonical old new octets fault.NoValue h =
-    image_gives data_value_value (data_value_at levels old) (skipped_gives (image_read data_value_value (data_value_at levels)) old fault.NoValue h)
-judges_unpassed_data_value levels encodable canonical old new octets fault.OutOfMemory h = tt
-
-pub judges_written : {A : Type 0} (encodable : A → Bool) (canonical : A → List ℕ) (read : List ℕ → Option (A × List ℕ)) (old new before octets : List ℕ)
-    → before ≡ [] → Recodes encodable canonical (read old) new before octets (Ok tt) → Judges encodable canonical read old new octets (Ok true)
-judges_written encodable canonical read old new before octets none h =
-    (h.value, h.found, h.fits, λ e. h.appended ∙ ap (λ (t : List ℕ). t ++ canonical h.value) none)
-
-pub judges_not : {A : Type 0} (encodable : A → Bool) (canonical : A → List ℕ) (read : List ℕ → Option (A × List ℕ)) (start old new octets : List ℕ)
-    (e : RecodeFault) → start ≡ old → e ≡ NotWritable → ((v : A) × (read old ≡ Some (v, new)))
-    → Recodes encodable canonical (read start) [] [] [] (Err e) → Judges encodable canonical read old new octets (Ok false)
-judges_not encodable canonical read start old new octets NotWritable same is found h =
-    (found.0, found.1, h found.0 new (ap read same ∙ found.1), λ e. absurd cc)
-judges_not encodable canonical read start old new octets NoValue same is found h = absurd cc
-judges_not encodable canonical read start old new octets OutOfMemory same is found h = absurd cc
+pub judges_refused : {A : Type 0} (encodable : A → Bool) (canonical : A → List ℕ) (read : List ℕ → Option (A × List ℕ)) (old new octets : List ℕ)
+    → Refused encodable (read old) new → Judges encodable canonical read old new octets (Ok false)
+judges_refused encodable canonical read old new octets r = (r.value, r.found, r.unfit, λ e. absurd cc)
 
 -- a value that cannot be encoded, and one that can
 pub text_unwritable : (v : VariantData) → variant_encodable v ≡ false → variant_text v ≡ unwritable

@@ -8,9 +8,8 @@ ghost use Rattle.ua_variant.specs.Encodable.{data_value_encodable, variant_encod
 ghost use Rattle.ua_fields.specs.Printing.{Judges};
 
 use std::alloc::Global;
-use ua_builtin::{ReadFault, Skip, Source, Wire};
+use ua_builtin::{ReadFault, Source, Wire};
 use ua_canonical::{RecodeFault, recode_data_value, recode_variant};
-use ua_variant::{DataValue, Variant};
 
 /// Reads the value at the start of the source, and tells whether it can be encoded. Where it can,
 /// `octets` then has its canonical encoding alone.
@@ -35,6 +34,7 @@ pub(crate) fn encode_value<T: Wire + Drop, S: Source>(
 
 /// Reads the Variant at the start of the source, and tells whether it can be encoded. Where it can,
 /// `octets` then has its canonical encoding alone. It is not built.
+#[tactic(auto, using(crate::proofs::ValueArrays::judges_refused))]
 pub(crate) fn encode_variant<S: Source>(
     alloc: Global,
     src: &mut S,
@@ -46,16 +46,9 @@ pub(crate) fn encode_variant<S: Source>(
         octets.new.items result }
 {
     octets.clear();
-    let mut ahead = src.fork();
-    match recode_variant(alloc, &mut ahead, depth, octets) {
-        Ok(()) => {
-            *src = ahead;
-            Ok(true)
-        }
-        Err(RecodeFault::NotWritable) => {
-            Variant::skip_value(alloc, src, depth)?;
-            Ok(false)
-        }
+    match recode_variant(alloc, src, depth, octets) {
+        Ok(()) => Ok(true),
+        Err(RecodeFault::NotWritable) => Ok(false),
         Err(RecodeFault::NoValue) => Err(ReadFault::NoValue),
         Err(RecodeFault::OutOfMemory) => Err(ReadFault::OutOfMemory),
     }
@@ -63,6 +56,7 @@ pub(crate) fn encode_variant<S: Source>(
 
 /// Reads the DataValue at the start of the source, and tells whether it can be encoded. Where it
 /// can, `octets` then has its canonical encoding alone. It is not built.
+#[tactic(auto, using(crate::proofs::ValueArrays::judges_refused))]
 pub(crate) fn encode_data_value<S: Source>(
     alloc: Global,
     src: &mut S,
@@ -74,16 +68,9 @@ pub(crate) fn encode_data_value<S: Source>(
         (S.octets src.new) octets.new.items result }
 {
     octets.clear();
-    let mut ahead = src.fork();
-    match recode_data_value(alloc, &mut ahead, depth, octets) {
-        Ok(()) => {
-            *src = ahead;
-            Ok(true)
-        }
-        Err(RecodeFault::NotWritable) => {
-            DataValue::skip_value(alloc, src, depth)?;
-            Ok(false)
-        }
+    match recode_data_value(alloc, src, depth, octets) {
+        Ok(()) => Ok(true),
+        Err(RecodeFault::NotWritable) => Ok(false),
         Err(RecodeFault::NoValue) => Err(ReadFault::NoValue),
         Err(RecodeFault::OutOfMemory) => Err(ReadFault::OutOfMemory),
     }
