@@ -2,8 +2,8 @@
 """Prints how many checks `rt ci` may run side by side here, as its RT_JOBS: one a processor, as far as memory is free.
 
 Left alone, `rt ci` counts on more memory than a check takes (7.5 GB for ua_cli, which took 3.6), so that the largest
-crates wait for each other beside idle processors. In a whole run of an older tree none took more than 5.4 GB
-(docs/ARCHITECTURE.md), and each is given 5.5. Nothing is printed where that makes fewer than two.
+crates wait for each other beside idle processors. One took 5.8 GB (docs/ARCHITECTURE.md), the others
+less, and each is given 5.5. Nothing is printed where that makes fewer than two.
 """
 from __future__ import annotations
 
