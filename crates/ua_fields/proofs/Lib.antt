@@ -11,6 +11,11 @@ mod ValueTexts
 mod ValueElements
 mod ValueArrays
 mod ValueLines
+mod PlainSteps
+mod PlainHas
+mod PlainValues
+mod PlainRows
+mod PlainVariants
 pub mod PrintedBodies
 pub mod PrintedHeaders
 mod OpenedBodies

@@ -206,7 +206,7 @@ kind_unread view kind k make read old new fault.OutOfMemory is at h = tt
 
 -- ---- elements, one after the other
 
-item_is : (index : ℕ) (shown : List ℕ) → item_text index shown ≡ comma_at index ++ shown
+pub item_is : (index : ℕ) (shown : List ℕ) → item_text index shown ≡ comma_at index ++ shown
 item_is zero shown = refl
 item_is (suc index) shown = refl
 
@@ -226,7 +226,7 @@ pub record ItemsSoFar (p : Decoder ScalarData) (all index : ℕ) (first now : Li
   pub so_far : with_front items (row_at (all - index) p now) ≡ row_at all p first
   pub prints : PrintsLines before kept after left (items_text items)
 
-no_front : (o : Option (ScalarsData × List ℕ)) → with_front [] o ≡ o
+pub no_front : (o : Option (ScalarsData × List ℕ)) → with_front [] o ≡ o
 no_front None = refl
 no_front (Some x) = refl
 
@@ -257,13 +257,13 @@ front_push : (ss : List ScalarData) (s : ScalarData) (r : Option (ScalarsData ×
 front_push ss s None = refl
 front_push ss s (Some x) = ap (λ y. Some (y, x.1)) (before_push ss s x.0)
 
-row_more : (p : Decoder ScalarData) (ss : List ScalarData) (s : ScalarData) (m n : ℕ) (old new : List ℕ) → m ≡ suc n → p old ≡ Some (s, new)
+pub row_more : (p : Decoder ScalarData) (ss : List ScalarData) (s : ScalarData) (m n : ℕ) (old new : List ℕ) → m ≡ suc n → p old ≡ Some (s, new)
     → with_front ss (row_at m p old) ≡ with_front (ss ++ s ∷ []) (row_at n p new)
 row_more p ss s m n old new e h =
     ap (λ k. with_front ss (row_at k p old)) e ∙ ap (λ r. with_front ss (r >>= λ s. row_at n p s.1 >>= λ ss. Some (scalar s.0 ss.0, ss.1))) h
     ∙ front_push ss s (row_at n p new)
 
-one_more : (index all : ℕ) → index < all → all - index ≡ suc (all - (index + 1))
+pub one_more : (index all : ℕ) → index < all → all - index ≡ suc (all - (index + 1))
 one_more index all less = omega (arith, less)
 
 pub items_on : (p : Decoder ScalarData) (all index : ℕ) (first now next : List ℕ) (a b c : Option (List ℕ)) (ka kb kc : List ℕ) → index < all
@@ -295,7 +295,7 @@ items_last p all index first now a b ka kb more s =
 
 -- ---- where an element breaks off
 
-front_of : (ss : List ScalarData) (o : Option (ScalarsData × List ℕ)) (value : ScalarsData) (rest : List ℕ) → with_front ss o ≡ Some (value, rest)
+pub front_of : (ss : List ScalarData) (o : Option (ScalarsData × List ℕ)) (value : ScalarsData) (rest : List ℕ) → with_front ss o ≡ Some (value, rest)
     → (ys : ScalarsData) × (o ≡ Some (ys, rest)) × (before ss ys ≡ value)
 front_of ss None value rest e = absurd cc
 front_of ss (Some y) value rest e =
@@ -313,7 +313,7 @@ head_from : (o : Option (ScalarData × List ℕ)) (rest_of : Decoder ScalarsData
 head_from None rest_of ys rest e = absurd cc
 head_from (Some s) rest_of ys rest e = let t = tail_of s.0 (rest_of s.1) ys rest e in (s.0, s.1, t.0, refl, t.1)
 
-head_of : (p : Decoder ScalarData) (m n : ℕ) (octets : List ℕ) (ys : ScalarsData) (rest : List ℕ) → m ≡ suc n → row_at m p octets ≡ Some (ys, rest)
+pub head_of : (p : Decoder ScalarData) (m n : ℕ) (octets : List ℕ) (ys : ScalarsData) (rest : List ℕ) → m ≡ suc n → row_at m p octets ≡ Some (ys, rest)
     → (x : ScalarData) × (mid : List ℕ) × (zs : ScalarsData) × (p octets ≡ Some (x, mid)) × (scalar x zs ≡ ys)
 head_of p m n octets ys rest is e = head_from (p octets) (row_at n p) ys rest (sym (ap (λ (k : ℕ). row_at k p octets) is) ∙ e)
 

@@ -1,11 +1,11 @@
 -- DataValues that are printed as they are read.
 use Rattle.std.proofs.Common.{◌≡◌, ℕ, ◌<◌, ◌≤◌, Bool, true, false, leb, codes, List, []}
-use Rattle.std.proofs.Common.{◌++◌, Option, Some, None, Err, refl, sym, ap, subst, ◌∙◌}
-use Rattle.std.proofs.Common.{append-nil, append_assoc, arith}
+use Rattle.std.proofs.Common.{◌++◌, Option, Some, None, Result, Ok, Err, refl, sym, ap, subst, ◌∙◌}
+use Rattle.std.proofs.Common.{append_assoc, arith}
 use Rattle.std.proofs.lemmas.Grind.{common_steps}
 use Rattle.ua_builtin.specs.Exact.{◌>>=◌, image_read}
 use Rattle.ua_builtin.specs.Flags.{has}
-use Rattle.ua_builtin.specs.Format.{Gives, GivesBy, most_levels}
+use Rattle.ua_builtin.specs.Format.{Gives, most_levels}
 use Rattle.ua_builtin.specs.Number.{number_at}
 use Rattle.ua_diagnostic.specs.Parts.{Decoder, optional_read}
 use Rattle.ua_texts.specs.PlainLeaf.{Either}
@@ -15,19 +15,97 @@ use Rattle.ua_variant.specs.Decoding.{data_value_at, data_value_step, variant_at
 use Rattle.ua_variant.specs.Fields.{data_fields}
 use Rattle.ua_variant.specs.Formats.{data_value_format}
 use Rattle.ua_variant.specs.Values.{data_value_value, made_data_value}
-use Rattle.ua_variant.specs.View.{data_fields_of, value_within}
+use Rattle.ua_variant.specs.View.{value_within}
 use Rattle.ua_variant.specs.declared.values.DataValue.{DataValue}
 use Rattle.ua_wire.specs.declared.fault.ReadFault.{ReadFault}
 use Rattle.ua_wire.specs.declared.fault.ReadFault.TheVariants as fault
 use Rattle.ua_fields.specs.declared.style.FieldStyle.{FieldStyle}
 use Rattle.ua_fields.specs.declared.printing.TellFault.{TellFault}
 use Rattle.ua_fields.specs.declared.printing.TellFault.TheVariants.{NoValue, OutOfMemory, Output}
-use Rattle.ua_fields.specs.DataValue.{data_value_entries, fields_after_value, value_text}
+use Rattle.ua_fields.specs.DataValue.{data_value_entries, fields_after_value}
 use Rattle.ua_fields.specs.Leaves.{leaf_or_null, optional_tree}
-use Rattle.ua_fields.specs.Printing.{BreaksOffLines, BreaksRead, PrintsFront, PrintsLines, PrintsRead, PrintsText, PrintsValue, tell_fault, value_levels}
-use Rattle.ua_fields.specs.Tree.{AreFieldsBehind, IsBehind, IsPlainText, exact_leaf_text, field_path, line, structure, value_of}
-use Rattle.ua_fields.proofs.Printings.{field_then, fields_has, image_there, lines_then, only_kept, prints_then, value_printed}
-use Rattle.ua_fields.proofs.ValueTexts.{other_is, part_first, part_then, part_whole}
+use Rattle.ua_fields.specs.Printing.{EachHasText, PrintsAny, PrintsLines, PrintsRead, PrintsValue, tell_fault, value_levels}
+use Rattle.ua_fields.specs.Styles.{plain_field_style}
+use Rattle.ua_fields.specs.Tree.{AreFieldsBehind, IsBehind, IsPlainText, IsText, exact_leaf_text, field_path, line, structure, value_of}
+use Rattle.ua_fields.proofs.Long.{same_text}
+use Rattle.ua_fields.proofs.PlainSteps.{HasTexts, Printed, any_kept, any_made}
+use Rattle.ua_fields.proofs.PlainVariants.{unannounced}
+use Rattle.ua_fields.proofs.Printings.{field_then, fields_has, tree_has, value_printed}
+use Rattle.ua_texts.specs.Plain.{IsPlainVariant}
+use Rattle.ua_texts.specs.Values.{variant_text}
+
+-- where the value is announced
+pub announced : {A : Type 0} (set : Bool) (read : List ℕ → Option (A × List ℕ)) (old : List ℕ) → set ≡ true
+    → optional_read set read old ≡ image_read Some read old
+announced true read old e = refl
+announced false read old e = absurd cc
+
+-- ---- texts in a style
+
+either_true : (b : Bool) (A B : Type 0) → b ≡ true → Either b A B → A
+either_true true A B e h = h
+either_true false A B e h = absurd cc
+
+-- each value has a text as people write it
+each_plain : (style : FieldStyle) → style.plain ≡ true → EachHasText style → EachHasText (plain_field_style style.names)
+each_plain style plain t leaf =
+    let shown = t leaf in
+    (shown.0, either_true style.plain (IsPlainText style.names leaf shown.0) (shown.0 ≡ exact_leaf_text style.names leaf) plain shown.1)
+
+-- what is printed as people write it is printed in this style
+restyled : {A : Type 0} (style : FieldStyle) (read : List ℕ → Option (A × List ℕ)) (Is : A → List ℕ → Type 0) (old new : List ℕ) (a b : Option (List ℕ))
+    (ka kb : List ℕ) (r : Result (Unit {0}) TellFault) → style.plain ≡ true
+    → PrintsAny (plain_field_style style.names) read Is old new a ka b kb r → PrintsAny style read Is old new a ka b kb r
+restyled style read Is old new a b ka kb (Ok u) plain h = h
+restyled style read Is old new a b ka kb (Err NoValue) plain h = h
+restyled style read Is old new a b ka kb (Err OutOfMemory) plain h = λ value rest e.
+    let k = h value rest e in record { lost = k.lost; lines = k.lines; printed = k.printed; front = λ t. k.front (each_plain style plain t) }
+restyled style read Is old new a b ka kb (Err (Output error)) plain h = tt
+
+-- a text that the value determines
+one_text : {A : Type 0} (style : FieldStyle) (read : List ℕ → Option (A × List ℕ)) (shown : A → List ℕ) (old new : List ℕ) (a b : Option (List ℕ))
+    (ka kb : List ℕ) (r : Result (Unit {0}) TellFault) → PrintsValue read shown old new a ka b kb r
+    → PrintsAny style read (λ v text. text ≡ shown v) old new a ka b kb r
+one_text style read shown old new a b ka kb (Ok u) h = (h.0, h.1, record { lines = shown h.0; printed = h.2; holds = refl })
+one_text style read shown old new a b ka kb (Err NoValue) h = h
+one_text style read shown old new a b ka kb (Err OutOfMemory) h = λ value rest e.
+    let k = h value rest e in record { lost = k.lost; lines = k.part; printed = k.printed; front = λ t. (k.rest, k.front) }
+one_text style read shown old new a b ka kb (Err (Output error)) h = tt
+
+-- the text of a value that is there, or `null`
+abbrev pub IsShown : FieldStyle → Option VariantData → List ℕ → Type 0
+IsShown style v text = IsText style (leaf_or_null value_of v) text
+
+pub shown_have : (style : FieldStyle) → HasTexts style (IsShown style)
+shown_have style t v = t (leaf_or_null value_of v)
+
+pub null_shown : (style : FieldStyle) (set : Bool) (old left kept : List ℕ) (known : Option (List ℕ)) → set ≡ false → left ≡ kept ++ codes "null"
+    → Printed (optional_read set (variant_at value_levels)) (IsShown style) old old known kept known left
+null_shown style set old left kept known unset e = (
+  None,
+  unannounced set (variant_at value_levels) old unset,
+  any_kept (IsShown style None) known kept left (codes "null", e, same_text style (codes "null")),
+)
+
+pub plain_shown : (style : FieldStyle) (set : Bool) (old new : List ℕ) (a b : Option (List ℕ)) (ka kb : List ℕ) (r : Result (Unit {0}) TellFault)
+    → set ≡ true → style.plain ≡ true
+    → PrintsAny (plain_field_style style.names) (variant_at value_levels) (IsPlainVariant style.names) old new a ka b kb r
+    → PrintsAny style (optional_read set (variant_at value_levels)) (IsShown style) old new a ka b kb r
+plain_shown style set old new a b ka kb r there plain h =
+    any_made style (variant_at value_levels) (IsPlainVariant style.names) (optional_read set (variant_at value_levels)) Some (IsShown style) old old new a b
+    ka kb r (announced set (variant_at value_levels) old there)
+    (λ x rest e text p. subst (λ (b : Bool). Either b (IsPlainVariant style.names x text) (text ≡ exact_leaf_text style.names (value_of x))) (sym plain) p)
+    (restyled style (variant_at value_levels) (IsPlainVariant style.names) old new a b ka kb r plain h)
+
+pub exact_shown : (style : FieldStyle) (set : Bool) (old new : List ℕ) (a b : Option (List ℕ)) (ka kb : List ℕ) (r : Result (Unit {0}) TellFault)
+    → set ≡ true → style.plain ≡ false → PrintsValue (variant_at value_levels) variant_text old new a ka b kb r
+    → PrintsAny style (optional_read set (variant_at value_levels)) (IsShown style) old new a ka b kb r
+exact_shown style set old new a b ka kb r there exact h =
+    any_made style (variant_at value_levels) (λ v text. text ≡ variant_text v) (optional_read set (variant_at value_levels)) Some (IsShown style) old old new a
+    b
+    ka kb r (announced set (variant_at value_levels) old there)
+    (λ x rest e text p. subst (λ (b : Bool). Either b (IsPlainText style.names (value_of x) text) (text ≡ variant_text x)) (sym exact) p)
+    (one_text style (variant_at value_levels) variant_text old new a b ka kb r h)
 
 -- ---- the line of the value
 
@@ -39,54 +117,27 @@ line_parts margin path shown =
     ∙ append_assoc margin (path ++ codes " ") (shown ++ codes "\n")
     ∙ ap (λ (t : List ℕ). margin ++ t) (append_assoc path (codes " ") (shown ++ codes "\n"))
 
-line_front : (a b : Option (List ℕ)) (ka mid margin path shown : List ℕ) → mid ≡ ka ++ (margin ++ (path ++ codes " ")) → PrintsFront a mid b shown
-    → PrintsFront a ka b (line margin path shown)
-line_front a b ka mid margin path shown e h =
-    let start = margin ++ (path ++ codes " ") in
-    subst (λ (t : List ℕ). PrintsFront a ka b t) (line_parts margin path shown)
-    (part_first a b ka (start ++ shown) (codes "\n") (part_then a a b ka mid start shown (only_kept a ka mid start e) h))
+abbrev pub line_start : List ℕ → List ℕ → List ℕ
+line_start margin path = margin ++ (path ++ codes " ")
 
--- the text of the value is not printed whole
-pub line_breaks : {A : Type 0} (read : List ℕ → Option (A × List ℕ)) (shown : A → List ℕ) (margin path old next new : List ℕ) (a b : Option (List ℕ))
-    (ka mid kb left : List ℕ) (e : TellFault) → mid ≡ ka ++ (margin ++ (path ++ codes " ")) → PrintsValue read shown old next a mid b kb (Err e)
-    → PrintsValue read (λ v. line margin path (shown v)) old new a ka b left (Err e)
-line_breaks read shown margin path old next new a b ka mid kb left NoValue e h = h
-line_breaks read shown margin path old next new a b ka mid kb left OutOfMemory e h =
-    λ value rest f. line_front a b ka mid margin path (shown value) e (h value rest f)
-line_breaks read shown margin path old next new a b ka mid kb left (Output error) e h = tt
+-- a line without its end
+abbrev pub IsUnended : FieldStyle → List ℕ → List ℕ → Option VariantData → List ℕ → Type 0
+IsUnended style margin path v text = (shown : List ℕ) × (text ≡ line_start margin path ++ shown) × IsShown style v shown
 
--- it is, and the newline is not kept
-pub line_unended : {A : Type 0} (read : List ℕ → Option (A × List ℕ)) (shown : A → List ℕ) (margin path old new : List ℕ) (a b : Option (List ℕ))
-    (ka mid kb : List ℕ) → mid ≡ ka ++ (margin ++ (path ++ codes " "))
-    → ((value : A) × (read old ≡ Some (value, new)) × PrintsLines a mid b kb (shown value))
-    → (value : A) (rest : List ℕ) → read old ≡ Some (value, rest) → PrintsFront a ka b (line margin path (shown value))
-line_unended read shown margin path old new a b ka mid kb e h value rest f =
-    let start = margin ++ (path ++ codes " ") in
-    let same = other_is (read old) h.0 value new rest h.1 f in
-    subst (λ v. PrintsFront a ka b (line margin path (shown v))) same
-    (subst (λ (t : List ℕ). PrintsFront a ka b t) (line_parts margin path (shown h.0))
-    (part_whole a b ka kb (start ++ shown h.0) (codes "\n")
-    (lines_then a a b ka mid kb start (shown h.0) (only_kept a ka mid start e) h.2)))
+-- the line
+abbrev pub IsLine : FieldStyle → List ℕ → List ℕ → Option VariantData → List ℕ → Type 0
+IsLine style margin path v text = IsBehind style margin path [] (optional_tree value_of v) text
 
--- the line is printed
-pub line_told : {A : Type 0} (read : List ℕ → Option (A × List ℕ)) (shown : A → List ℕ) (margin path old new : List ℕ) (a b : Option (List ℕ))
-    (ka mid kb kc : List ℕ) → mid ≡ ka ++ (margin ++ (path ++ codes " "))
-    → ((value : A) × (read old ≡ Some (value, new)) × PrintsLines a mid b kb (shown value)) → kc ≡ kb ++ codes "\n"
-    → (value : A) × (read old ≡ Some (value, new)) × PrintsLines a ka b kc (line margin path (shown value))
-line_told read shown margin path old new a b ka mid kb kc e h f =
-    let start = margin ++ (path ++ codes " ") in (
-      h.0,
-      h.1,
-      subst (λ (t : List ℕ). PrintsLines a ka b kc t) (line_parts margin path (shown h.0))
-          (lines_then a b b ka kb kc (start ++ shown h.0) (codes "\n")
-          (lines_then a a b ka mid kb start (shown h.0) (only_kept a ka mid start e) h.2) (only_kept b kb kc (codes "\n") f)),
-    )
+pub line_begun : (style : FieldStyle) (margin path : List ℕ) (x : Option VariantData) (text : List ℕ) → IsShown style x text
+    → IsUnended style margin path x (line_start margin path ++ text)
+line_begun style margin path x text p = (text, refl, p)
 
--- where the value is announced
-pub announced : {A : Type 0} (set : Bool) (read : List ℕ → Option (A × List ℕ)) (old : List ℕ) → set ≡ true
-    → optional_read set read old ≡ image_read Some read old
-announced true read old e = refl
-announced false read old e = absurd cc
+pub line_ended : (style : FieldStyle) (margin path : List ℕ) (x : Option VariantData) (text : List ℕ) → IsUnended style margin path x text
+    → IsLine style margin path x (text ++ codes "\n")
+line_ended style margin path x text p = (p.0, ap (λ (t : List ℕ). t ++ codes "\n") p.1 ∙ line_parts margin path p.0, p.2)
+
+pub lines_have : (style : FieldStyle) (margin path : List ℕ) → HasTexts style (IsLine style margin path)
+lines_have style margin path t v = tree_has style t margin path [] (optional_tree value_of v)
 
 -- ---- the bytes of a DataValue
 
@@ -146,119 +197,27 @@ no_mask octets new Printed known fault.OutOfMemory h = refl
 
 -- ---- the lines of a DataValue
 
-names_same : (names : Bool) (v : Option VariantData) → value_text v ≡ exact_leaf_text names (leaf_or_null value_of v)
-names_same names None = refl
-names_same names (Some v) = refl
+-- those of the fields after its value
+abbrev pub AreFields : FieldStyle → List ℕ → List ℕ → DataFields → List ℕ → Type 0
+AreFields style margin path f text = AreFieldsBehind style margin path [] (fields_after_value f) text
 
--- the line of its value
-is_line : (style : FieldStyle) (margin path : List ℕ) (v : Option VariantData) → style.plain ≡ false
-    → IsBehind style margin path [] (optional_tree value_of v) (line margin path (value_text v))
-is_line style margin path v exact =
-    let leaf = leaf_or_null value_of v in (
-      value_text v,
-      refl,
-      subst (λ (b : Bool). Either b (IsPlainText style.names leaf (value_text v)) (value_text v ≡ exact_leaf_text style.names leaf)) (sym exact)
-          (names_same style.names v),
-    )
-
--- the lines of all
-abbrev AreLines : FieldStyle → List ℕ → List ℕ → DataValue → List ℕ → Type 0
+-- all
+abbrev pub AreLines : FieldStyle → List ℕ → List ℕ → DataValue → List ℕ → Type 0
 AreLines style margin path d text = IsBehind style margin path [] (structure (data_value_entries d)) text
 
-abbrev value_line : List ℕ → List ℕ → Option VariantData → List ℕ
-value_line margin path v = line margin (field_path path (codes "value")) (value_text v)
-
-both_lines : (style : FieldStyle) (margin path : List ℕ) (v : Option VariantData) (f : DataFields) (others : List ℕ) → style.plain ≡ false
-    → AreFieldsBehind style margin path [] (fields_after_value f) others
-    → AreLines style margin path (made_data_value v f) (value_line margin path v ++ others)
+pub both_lines : (style : FieldStyle) (margin path : List ℕ) (v : Option VariantData) (f : DataFields) (first others : List ℕ)
+    → IsLine style margin (field_path path (codes "value")) v first → AreFields style margin path f others
+    → AreLines style margin path (made_data_value v f) (first ++ others)
 unfolding data_value_entries
-both_lines style margin path v f others exact h =
-    field_then style margin path (codes "value") (optional_tree value_of v) (fields_after_value f) (value_line margin path v) others
-    (is_line style margin (field_path path (codes "value")) v exact) h
+both_lines style margin path v f first others h k =
+    field_then style margin path (codes "value") (optional_tree value_of v) (fields_after_value f) first others h k
 
--- the first part of the line of the value is that of all lines
-front_breaks : (style : FieldStyle) (margin path : List ℕ) (v : Option VariantData) (f : DataFields) (a b : Option (List ℕ)) (ka : List ℕ)
-    → style.plain ≡ false
-    → PrintsFront a ka b (value_line margin path v) → BreaksOffLines style a ka b (AreLines style margin path (made_data_value v f))
-front_breaks style margin path v f a b ka exact h = record {
-  lost = h.lost;
-  lines = h.part;
-  printed = h.printed;
-  front = λ t.
-      let others = fields_has style t margin path [] (fields_after_value f) in (
-        h.rest ++ others.0,
-        subst (AreLines style margin path (made_data_value v f))
-            (ap (λ (t : List ℕ). t ++ others.0) (sym h.front) ∙ append_assoc h.part h.rest others.0)
-            (both_lines style margin path v f others.0 exact others.1),
-      );
-}
+pub fields_have : (style : FieldStyle) (margin path : List ℕ) → HasTexts style (AreFields style margin path)
+fields_have style margin path t f = fields_has style t margin path [] (fields_after_value f)
 
--- where the DataValue is there, so are its value and its fields
-both_there : (m : ℕ) (o : Option (Option VariantData × List ℕ)) (value : DataValue) (rest : List ℕ)
-    → ◌>>=◌ {B = DataValue × List ℕ} o (λ v. value_then m v.0 v.1) ≡ Some (value, rest)
-    → (v : Option VariantData) × (mid : List ℕ) × (f : DataFields) × (o ≡ Some (v, mid)) × (made_data_value v f ≡ value)
-both_there m None value rest e = absurd cc
-both_there m (Some v) value rest e =
-    let there = image_there (λ (f : DataFields). made_data_value v.0 f) ((data_fields m).decode v.1) value rest e in
-    (v.0, v.1, there.0, refl, there.2)
-
--- the value is not there, or its line breaks off
-pub line_fails : (style : FieldStyle) (margin path octets rest next new : List ℕ) (m : ℕ) (a b : Option (List ℕ)) (ka kb : List ℕ)
-    (Printed : DataValue → Type 0) (e : TellFault) → style.plain ≡ false → number_at 1 octets ≡ Some (m, rest) → leb m 63 ≡ true
-    → PrintsValue (optional_read (has m 1) (variant_at value_levels)) (value_line margin path) rest next a ka b kb (Err e)
-    → PrintsRead (data_value_format.decode most_levels) octets new Printed
-    (BreaksRead style (data_value_format.decode most_levels) octets a ka b (AreLines style margin path)) (Err e)
-line_fails style margin path octets rest next new m a b ka kb Printed NoValue exact is low h =
-    masked octets rest m is low ∙ ap (λ o. o >>= λ (v : Option VariantData × List ℕ). value_then m v.0 v.1) h
-line_fails style margin path octets rest next new m a b ka kb Printed OutOfMemory exact is low h = λ value back e.
-    let there = both_there m (optional_read (has m 1) (variant_at value_levels) rest) value back (sym (masked octets rest m is low) ∙ e) in
-    subst (λ d. BreaksOffLines style a ka b (AreLines style margin path d)) there.4
-    (front_breaks style margin path there.0 there.2 a b ka exact (h there.0 there.1 there.3))
-line_fails style margin path octets rest next new m a b ka kb Printed (Output error) exact is low h = tt
-
--- the line of the value was printed
-abbrev LineTold : ℕ → List ℕ → List ℕ → List ℕ → List ℕ → Option (List ℕ) → List ℕ → Option (List ℕ) → List ℕ → Type 0
-LineTold m margin path rest mid a ka b kb = (v : Option VariantData) × (optional_read (has m 1) (variant_at value_levels) rest ≡ Some (v, mid))
-    × PrintsLines a ka b kb (value_line margin path v)
-
--- and no more
-pub fields_break : (style : FieldStyle) (margin path octets rest mid : List ℕ) (m : ℕ) (a b : Option (List ℕ)) (ka kb : List ℕ)
-    → style.plain ≡ false → number_at 1 octets ≡ Some (m, rest) → leb m 63 ≡ true → LineTold m margin path rest mid a ka b kb
-    → BreaksRead style (data_value_format.decode most_levels) octets a ka b (AreLines style margin path)
-fields_break style margin path octets rest mid m a b ka kb exact is low h = λ value back e.
-    let there = both_there m (optional_read (has m 1) (variant_at value_levels) rest) value back (sym (masked octets rest m is low) ∙ e) in
-    let same = other_is (optional_read (has m 1) (variant_at value_levels) rest) h.0 there.0 mid there.1 h.1 there.3 in
-    let printed : PrintsLines a ka b kb (value_line margin path there.0) = subst (λ v. PrintsLines a ka b kb (value_line margin path v)) same h.2 in
-    let front : PrintsFront a ka b (value_line margin path there.0) = subst (λ (t : List ℕ). PrintsFront a ka b t) (append-nil (value_line margin path there.0))
-    (part_whole a b ka kb (value_line margin path there.0) [] printed) in
-    subst (λ d. BreaksOffLines style a ka b (AreLines style margin path d)) there.4 (front_breaks style margin path there.0 there.2 a b ka exact front)
-
--- the other fields are not there
-pub fields_fail : (style : FieldStyle) (margin path octets rest mid new : List ℕ) (m : ℕ) (a b : Option (List ℕ)) (ka kb : List ℕ)
-    (Printed : DataValue → Type 0) (e : ReadFault) → style.plain ≡ false → number_at 1 octets ≡ Some (m, rest) → leb m 63 ≡ true
-    → LineTold m margin path rest mid a ka b kb → GivesBy data_fields_of (data_fields m).decode mid [] (Err e)
-    → PrintsRead (data_value_format.decode most_levels) octets new Printed
-    (BreaksRead style (data_value_format.decode most_levels) octets a ka b (AreLines style margin path)) (Err (tell_fault e))
-fields_fail style margin path octets rest mid new m a b ka kb Printed fault.NoValue exact is low h k =
-    masked octets rest m is low ∙ ap (λ o. o >>= λ (v : Option VariantData × List ℕ). value_then m v.0 v.1) h.1
-    ∙ ap (λ o. o >>= λ (f : DataFields × List ℕ). Some (made_data_value h.0 f.0, f.1)) k
-fields_fail style margin path octets rest mid new m a b ka kb Printed fault.OutOfMemory exact is low h k =
-    fields_break style margin path octets rest mid m a b ka kb exact is low h
-
--- all lines were printed
-pub data_value_told : (style : FieldStyle) (margin path octets rest mid new : List ℕ) (m : ℕ) (a b c : Option (List ℕ)) (ka kb full kc : List ℕ)
-    (f : DataFields)
-    → style.plain ≡ false → number_at 1 octets ≡ Some (m, rest) → leb m 63 ≡ true → LineTold m margin path rest mid a ka b kb
-    → (data_fields m).decode mid ≡ Some (f, new) → AreFieldsBehind style margin path kb (fields_after_value f) full → PrintsLines b full c kc []
-    → (value : DataValue) × (data_value_format.decode most_levels octets ≡ Some (value, new)) × PrintsText a ka c kc (AreLines style margin path value)
-data_value_told style margin path octets rest mid new m a b c ka kb full kc f exact is low h e k w = (
-  made_data_value h.0 f,
-  masked octets rest m is low ∙ ap (λ o. o >>= λ (v : Option VariantData × List ℕ). value_then m v.0 v.1) h.1
-      ∙ ap (λ o. o >>= λ (f : DataFields × List ℕ). Some (made_data_value h.0 f.0, f.1)) e,
-  prints_then a b c ka kb kc (λ one. one ≡ value_line margin path h.0) (λ two. AreFieldsBehind style margin path [] (fields_after_value f) two)
-      (AreLines style margin path (made_data_value h.0 f))
-      (λ one two p q. subst (λ (t : List ℕ). AreLines style margin path (made_data_value h.0 f) (t ++ two)) (sym p)
-      (both_lines style margin path h.0 f two exact q))
-      (record { lines = value_line margin path h.0; printed = h.2; holds = refl })
-      (value_printed style margin path (structure (fields_after_value f)) b c kb full kc k w),
-)
+-- the fields were read, and their lines were printed
+pub fields_told : (style : FieldStyle) (margin path : List ℕ) (read : List ℕ → Option (DataFields × List ℕ)) (mid new : List ℕ) (b c : Option (List ℕ))
+    (kb full kc : List ℕ) (f : DataFields) → read mid ≡ Some (f, new) → AreFieldsBehind style margin path kb (fields_after_value f) full
+    → PrintsLines b full c kc [] → Printed read (AreFields style margin path) mid new b kb c kc
+fields_told style margin path read mid new b c kb full kc f e k w =
+    (f, e, value_printed style margin path (structure (fields_after_value f)) b c kb full kc k w)

@@ -1,9 +1,9 @@
 -- The fields of a DataValue.
-use Rattle.std.specs.Prelude.{false, List, ℕ, [], ◌∷◌, Option, codes}
-use Rattle.ua_variant.specs.Data.{DataFields, VariantData}
+use Rattle.std.specs.Prelude.{[], ◌∷◌, codes}
+use Rattle.ua_variant.specs.Data.{DataFields}
 use Rattle.ua_variant.specs.declared.values.DataValue.{DataValue}
-use Rattle.ua_fields.specs.Tree.{Fields, exact_leaf_text, named, moment_of, value_of}
-use Rattle.ua_fields.specs.Leaves.{optional_tree, code_leaf, leaf_or_null, number_leaf}
+use Rattle.ua_fields.specs.Tree.{Fields, named, moment_of, value_of}
+use Rattle.ua_fields.specs.Leaves.{optional_tree, code_leaf, number_leaf}
 
 -- DataValue (OPC 10000-6, 5.2.2.17)
 unfoldable pub data_value_entries : DataValue → Fields
@@ -25,7 +25,3 @@ fields_after_value f = named (
     ∷ (codes "server_timestamp", optional_tree moment_of f.server_timestamp)
     ∷ (codes "server_picoseconds", optional_tree number_leaf f.server_picoseconds)
     ∷ [])
-
--- the text of its value, or `null`
-abbrev pub value_text : Option VariantData → List ℕ
-value_text v = exact_leaf_text false (leaf_or_null value_of v)

@@ -92,6 +92,13 @@ PrintsRead read old new Printed Broken (Err NoValue) = read old ≡ None
 PrintsRead read old new Printed Broken (Err OutOfMemory) = Broken
 PrintsRead read old new Printed Broken (Err (Output error)) = Unit {0}
 
+-- the value at the start of bytes was read, and a text of which this holds was printed; or there is
+-- none; or an allocation failed, and of such a text the first part was printed
+abbrev pub PrintsAny : {A : Type 0} → FieldStyle → (List ℕ → Option (A × List ℕ)) → (A → List ℕ → Type 0) → List ℕ → List ℕ → Option (List ℕ) → List ℕ
+    → Option (List ℕ) → List ℕ → Result (Unit {0}) TellFault → Type 0
+PrintsAny style read Is old new before kept after left result =
+    PrintsRead read old new (λ value. PrintsText before kept after left (Is value)) (BreaksRead style read old before kept after Is) result
+
 -- ---- the text of a value that is printed as it is read
 
 -- the nesting depth that the value of a DataValue may have, and a scalar in that value

@@ -69,7 +69,7 @@ fn print_item<S: Source, O: Write>(
 }
 
 /// Appends what comes before the element at an index: a comma, unless it is the first.
-fn push_comma(index: u32, text: &mut String) -> Result<(), AllocError>
+pub(crate) fn push_comma(index: u32, text: &mut String) -> Result<(), AllocError>
     ensures { OnOk result (string_bytes text.new ≡ string_bytes text.old ++ comma_at index) }
 {
     if index == 0 {
@@ -125,7 +125,11 @@ fn print_packed<S: Source>(
 }
 
 /// Reads a scalar of a type whose values all take the same bytes.
-fn read_packed<S: Source>(alloc: Global, src: &mut S, kind: u8) -> Result<Scalar, ReadFault>
+pub(crate) fn read_packed<S: Source>(
+    alloc: Global,
+    src: &mut S,
+    kind: u8,
+) -> Result<Scalar, ReadFault>
     requires { is_packed_kind kind ≡ true }
     ensures { GivesBy scalar_of (scalars_at element_levels kind) (S.octets src.old) (S.octets src.new) result }
 {

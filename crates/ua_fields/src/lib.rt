@@ -32,6 +32,8 @@ mod opened;
 mod path;
 mod pending;
 mod pieces;
+mod plain;
+mod plain_parts;
 mod printed;
 mod printing;
 mod recoded;

@@ -1,6 +1,6 @@
 //! DataValues, printed as they are read: neither the value nor its text is held.
 
-ghost use Rattle.std.specs.Prelude.{◌≡◌, ◌<◌, ◌++◌, false, [], OnOk, codes, string_bytes};
+ghost use Rattle.std.specs.Prelude.{◌≡◌, ◌<◌, ◌++◌, [], OnOk, codes, string_bytes};
 ghost use Rattle.ua_builtin.specs.Counted.{first_negative};
 ghost use Rattle.ua_builtin.specs.Format.{GivesBy, most_levels};
 ghost use Rattle.ua_diagnostic.specs.Parts.{optional_read};
@@ -10,17 +10,20 @@ ghost use Rattle.ua_variant.specs.Encodable.{is_read_kind as read_kind};
 ghost use Rattle.ua_variant.specs.Fields.{data_fields};
 ghost use Rattle.ua_variant.specs.Formats.{data_value_format};
 ghost use Rattle.ua_variant.specs.View.{data_fields_of};
-ghost use Rattle.ua_fields.specs.DataValue.{data_value_entries, fields_after_value, value_text};
-ghost use Rattle.ua_fields.specs.Printing.{BreaksRead, PrintsRead, PrintsText};
+ghost use Rattle.ua_fields.specs.DataValue.{data_value_entries, fields_after_value};
+ghost use Rattle.ua_fields.specs.Leaves.{leaf_or_null, optional_tree};
+ghost use Rattle.ua_fields.specs.Printing.{BreaksRead, PrintsAny, PrintsRead, PrintsText};
 ghost use Rattle.ua_fields.specs.Printing.{PrintsValue, element_levels, value_levels};
-ghost use Rattle.ua_fields.specs.Tree.{AreFieldsBehind, IsBehind, field_path, line, structure};
+ghost use Rattle.ua_fields.specs.Tree.{AreFieldsBehind, IsBehind, IsText, field_path, structure, value_of};
 
 use crate::elements::{print_row, print_scalar};
 use crate::lines::{Lines, Place, push_fields, push_start};
 use crate::path::path_of_field;
+use crate::plain::print_plain_variant;
 use crate::printed::Printed;
 use crate::printing::{TellFault, write_full};
 use crate::recoded::encode_variant;
+use crate::style::FieldStyle;
 use std::alloc::{AllocError, Global};
 use std::io::Write;
 use ua_builtin::{FIRST_NEGATIVE, MOST_LEVELS, ReadFault, Source, Wire};
@@ -30,14 +33,14 @@ use ua_texts::{push_variant, type_name};
 use ua_variant::{DataValue, Variant};
 
 /// The most bytes of a value that is decoded whole before its text is made.
-const SHORT: usize = 4096;
+pub(crate) const SHORT: usize = 4096;
 
 /// The nesting depth that a value of a DataValue may have.
-const VALUE_LEVELS: u32 = MOST_LEVELS - 1;
+pub(crate) const VALUE_LEVELS: u32 = MOST_LEVELS - 1;
 
 // The bits of the encoding masks (OPC 10000-6, 5.2.2.16 and 5.2.2.17).
 
-const VALUE: u8 = 0x01;
+pub(crate) const VALUE: u8 = 0x01;
 
 const STATUS: u8 = 0x02;
 
@@ -49,15 +52,15 @@ const SOURCE_PICOSECONDS: u8 = 0x10;
 
 const SERVER_PICOSECONDS: u8 = 0x20;
 
-const KNOWN_FLAGS: u8 = 0x3F;
+pub(crate) const KNOWN_FLAGS: u8 = 0x3F;
 
-const TYPE_ID: u8 = 0x3F;
+pub(crate) const TYPE_ID: u8 = 0x3F;
 
-const DIMENSIONS: u8 = 0x40;
+pub(crate) const DIMENSIONS: u8 = 0x40;
 
-const ARRAY: u8 = 0x80;
+pub(crate) const ARRAY: u8 = 0x80;
 
-/// Its value is printed as it is read, where its text is exact.
+/// Its value is printed as it is read.
 impl Printed for DataValue {
     fn is_structure() -> bool {
         true
@@ -70,46 +73,18 @@ impl Printed for DataValue {
         text: &mut String,
         out: &mut O,
     ) -> Result<(), TellFault> {
-        if place.style.plain {
-            return print_plain(alloc, src, place, text, out);
-        }
-        print_exact(alloc, src, place, text, out)
+        print_data_value(alloc, src, place, text, out)
     }
 }
 
-/// Reads the DataValue at the start of the source whole, and prints its lines.
-fn print_plain<S: Source, O: Write>(
+/// Reads the DataValue at the start of the source, and prints its lines.
+fn print_data_value<S: Source, O: Write>(
     alloc: Global,
     src: &mut S,
     place: Place<'_>,
     text: &mut String,
     out: &mut O,
 ) -> Result<(), TellFault>
-    ensures { PrintsRead (data_value_format.decode most_levels) (S.octets src.old) (S.octets src.new)
-        (λ value. PrintsText (O.contents out.old) (string_bytes text.old) (O.contents out.new) (string_bytes text.new)
-        (IsBehind place.entry.style place.entry.margin.now place.entry.path.now []
-        (structure (data_value_entries value))))
-        (BreaksRead place.entry.style (data_value_format.decode most_levels) (S.octets src.old)
-        (O.contents out.old) (string_bytes text.old) (O.contents out.new)
-        (λ value. IsBehind place.entry.style place.entry.margin.now place.entry.path.now []
-        (structure (data_value_entries value)))) result }
-{
-    let value = DataValue::read_value(alloc, src, MOST_LEVELS)?;
-    value.push_lines(alloc, text, place)?;
-    drop(value);
-    write_full(text, out)?;
-    Ok(())
-}
-
-/// Reads the DataValue at the start of the source, and prints its lines with exact texts.
-fn print_exact<S: Source, O: Write>(
-    alloc: Global,
-    src: &mut S,
-    place: Place<'_>,
-    text: &mut String,
-    out: &mut O,
-) -> Result<(), TellFault>
-    requires { place.style.plain ≡ false }
     ensures { PrintsRead (data_value_format.decode most_levels) (S.octets src.old) (S.octets src.new)
         (λ value. PrintsText (O.contents out.old) (string_bytes text.old) (O.contents out.new) (string_bytes text.new)
         (IsBehind place.entry.style place.entry.margin.now place.entry.path.now []
@@ -132,7 +107,11 @@ fn print_exact<S: Source, O: Write>(
 
 /// Reads the fields after the value of a DataValue that its mask announces.
 #[tactic(auto, unfolding(ua_variant::specs::Fields::data_fields))]
-fn read_fields<S: Source>(alloc: Global, src: &mut S, mask: u8) -> Result<DataValue, ReadFault>
+pub(crate) fn read_fields<S: Source>(
+    alloc: Global,
+    src: &mut S,
+    mask: u8,
+) -> Result<DataValue, ReadFault>
     ensures { GivesBy data_fields_of (data_fields mask).decode (S.octets src.old) (S.octets src.new) result }
 {
     let status = read_field(alloc, src, 0, mask & STATUS != 0)?;
@@ -159,8 +138,8 @@ fn print_value_line<S: Source, O: Write>(
     text: &mut String,
     out: &mut O,
 ) -> Result<(), TellFault>
-    ensures { PrintsValue (optional_read set (variant_at value_levels)) (λ v. line place.entry.margin.now
-        (field_path place.entry.path.now (codes "value")) (value_text v))
+    ensures { PrintsAny place.entry.style (optional_read set (variant_at value_levels)) (λ v. IsBehind place.entry.style
+        place.entry.margin.now (field_path place.entry.path.now (codes "value")) [] (optional_tree value_of v))
         (S.octets src.old) (S.octets src.new)
         (O.contents out.old) (string_bytes text.old) (O.contents out.new) (string_bytes text.new) result }
 {
@@ -171,7 +150,7 @@ fn print_value_line<S: Source, O: Write>(
         path: path.as_str(),
     };
     push_start(text, inner)?;
-    print_announced(alloc, src, set, text, out)?;
+    print_announced(alloc, src, place.style, set, text, out)?;
     text.push_str("\n")?;
     Ok(())
 }
@@ -180,11 +159,13 @@ fn print_value_line<S: Source, O: Write>(
 fn print_announced<S: Source, O: Write>(
     alloc: Global,
     src: &mut S,
+    style: FieldStyle,
     set: bool,
     text: &mut String,
     out: &mut O,
 ) -> Result<(), TellFault>
-    ensures { PrintsValue (optional_read set (variant_at value_levels)) value_text
+    ensures { PrintsAny style (optional_read set (variant_at value_levels))
+        (λ v. IsText style (leaf_or_null value_of v))
         (S.octets src.old) (S.octets src.new)
         (O.contents out.old) (string_bytes text.old) (O.contents out.new) (string_bytes text.new) result }
 {
@@ -192,11 +173,14 @@ fn print_announced<S: Source, O: Write>(
         text.push_str("null")?;
         return Ok(());
     }
+    if style.plain {
+        return print_plain_variant(alloc, src, style.names, text, out);
+    }
     print_variant(alloc, src, text, out)
 }
 
 /// Whether a scalar, or no value, is at the start of the source, which holds no further value.
-fn starts_plain<S: Source>(src: &S) -> bool {
+pub(crate) fn starts_plain<S: Source>(src: &S) -> bool {
     let mut tag = [0; 1];
     let mut ahead = src.fork();
     ahead.take_into(&mut tag) && tag[0] < ARRAY && tag[0] != 23 && tag[0] != 25
@@ -295,7 +279,7 @@ fn print_tagged<S: Source, O: Write>(
 }
 
 /// Whether a type id is that of a type (OPC 10000-6, 5.1.2), or a reserved one.
-fn is_read_kind(kind: u8) -> bool
+pub(crate) fn is_read_kind(kind: u8) -> bool
     ensures { result ≡ read_kind kind }
 {
     1 <= kind && kind <= 31

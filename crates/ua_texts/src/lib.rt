@@ -24,7 +24,7 @@ mod text;
 mod value;
 
 pub use names::{code_name, push_code_as};
-pub use plain::{push_plain_scalar, push_plain_variant};
+pub use plain::{push_array_type, push_plain_fields, push_plain_scalar, push_plain_variant};
 pub use plain_diagnostic::push_diagnostic;
 pub use plain_leaf::{push_double, push_float, push_moment, push_plain_localized, push_plain_name};
 pub use text::{
