@@ -123,41 +123,14 @@ def is_part(k: Schema, kind: str) -> bool:
     return k.word("tree", kind).startswith("structure ")
 
 
-def lines_of(s: Structure, k: Schema) -> str:
+def lines_of(s: Structure) -> str:
     """Its fields as lines."""
-    calls = [f"push_{'part' if is_part(k, kind) else 'field'} {name}" for name, kind in s.fields]
     return f"""impl Lines for {s.name} {{
     ghost use Rattle.ua_fields.specs.Tree.{{structure}};
     ghost use Rattle.ua_fields.specs.{s.spec}.{{{s.word}_entries}};
 
     ghost tree = {{ λ m. structure ({s.word}_entries m) }};
-
-    #[tactic(auto, unfolding(crate::specs::{s.spec}::{s.word}_entries))]
-    fn push_lines(&self, alloc: Global, out: &mut String, place: Place) -> Result<(), AllocError> {{
-        {filled("push_fields!(self, alloc, out, place => ", calls, ")")}
-    }}
 }}
-"""
-
-
-def answer_of(s: Structure, k: Schema) -> str:
-    """That the lines of its fields stand one behind the other."""
-    count: dict[str, int] = {}
-    calls = []
-    for _, kind in s.fields:
-        call = "push_part" if is_part(k, kind) else "push_field"
-        count[call] = count.get(call, 0) + 1
-        calls.append(f"c.in_ok-{call}{'' if count[call] == 1 else f'-{count[call]}'}.ensures")
-    proof = "refl"
-    for call in reversed(calls):
-        proof = f"(_, {call}, {proof})"
-    return f"""use Rattle.std.proofs.Common.{{refl}}
-use Rattle.ua_fields.specs.{s.spec}.{{{s.word}_entries}}
-use Rattle.ua_fields.proofs.{s.module}.{s.name}Lines.push_lines.Goals as goal
-
-pub returns : goal.returns
-unfolding {s.word}_entries
-returns c = {proof}
 """
 
 
@@ -169,7 +142,7 @@ def printed_of(s: Structure, k: Schema) -> str:
         true
     }}
 
-    fn print<S: Source, O: Write>(
+    fn print<S: Source, O: Sink>(
         alloc: Global,
         src: &mut S,
         place: Place,

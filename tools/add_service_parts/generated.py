@@ -8,7 +8,7 @@ import subprocess
 import tempfile
 from typing import Iterable
 
-from add_service_parts.forms import (answer_of, entries_of, format_of, lemma_of, lines_of, printed_answer_of, printed_of, shown_of, skip_of,
+from add_service_parts.forms import (entries_of, format_of, lemma_of, lines_of, printed_answer_of, printed_of, shown_of, skip_of,
                                      wire_of)
 from add_service_parts.schema import File, Schema, Structure, title_case
 from add_service_parts.texts import FIELDS, OPENING, ROWS, STRUCTURES, text_of
@@ -116,14 +116,14 @@ def sound_file(file: File, k: Schema) -> str:
 def lines_file(file: File, k: Schema) -> str:
     """The structures of a module as lines."""
     found = [s for s in file.structures if s.has_lines()]
-    names = [(it, "crate::lines") for it in ("Lines", "Place", "push_fields")] + [("AllocError", "std::alloc"), ("Global", "std::alloc")]
+    names = [("Lines", "crate::lines"), ("Place", "crate::lines"), ("Global", "std::alloc")]
     names += [(s.name, "ua_services") for s in found]
     if found:
-        names += [(it, "crate::printed") for it in ("Last", "Printed", "PrintedFields")] + [("TellFault", "crate::printing"), ("Write", "std::io")]
+        names += [(it, "crate::printed") for it in ("Last", "Printed", "PrintedFields")] + [("TellFault", "crate::printing"), ("Sink", "crate::sink")]
         names += [("Source", "ua_builtin")] + [("UaArray", "ua_services")] * has_arrays(found)
     for kind in elements(found):
         names += [(k.of(kind).rust, "ua_services" if kind in k.structures else k.of(kind).library)] if k.of(kind).library else []
-    texts = [it for s in found for it in (lines_of(s, k), printed_of(s, k))]
+    texts = [it for s in found for it in (lines_of(s), printed_of(s, k))]
     return head(file, "//!", f"The structures of {file.title}, as lines.") + "\n" + uses(names) + "\n" + "\n".join(texts)
 
 
@@ -155,8 +155,6 @@ def generated(k: Schema) -> dict[str, str]:
                   f"{file.crate}/proofs/{spec}Sound.antt": sound_file(file, k), f"{FIELDS}/src/{file.module}.rt": lines_file(file, k),
                   f"{FIELDS}/specs/{spec}.antt": tree_file(file, k)}
         for s in file.structures:
-            path = f"{FIELDS}/proofs/{file.module}/{s.name}Lines/push_lines/Answers.antt"
-            found[path] = head(file, "--", "The lines of its fields stand one behind the other.") + answer_of(s, k) if s.has_lines() else ""
             if s.has_lines():
                 path = f"{FIELDS}/proofs/{file.module}/{s.name}Printed/print/Answers.antt"
                 found[path] = head(file, "--", "What is printed are the lines of its fields.") + printed_answer_of(s, k)

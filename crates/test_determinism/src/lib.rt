@@ -45,11 +45,7 @@ pub use dissecting::{
     dissect_twice, dissector_finish_twice, dissector_held_twice, dissector_take_twice,
 };
 pub use exchanging::exchange_twice;
-pub use fields::{
-    push_body_fields_twice, push_close_request_fields_twice, push_open_answer_fields_twice,
-    push_open_request_fields_twice, push_open_response_fields_twice, push_request_fields_twice,
-    push_response_fields_twice,
-};
+pub use fields::push_body_fields_twice;
 pub use frames::take_frame_twice;
 pub use nodes::{append_items_twice, insert_twice, load_twice, read_item_twice, write_items_twice};
 pub use printed::{

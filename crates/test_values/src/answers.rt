@@ -3,7 +3,7 @@
 use crate::fault::Fault;
 use crate::items::{memory, read, values, write, write_within};
 use crate::lines::{bad_results, endpoint, named_code, read_line, response_lines, write_line};
-use crate::message_fields::{body_fields, fields};
+use crate::message_fields::fields;
 use crate::node_table::{State, insert, load, moment, node, nodes};
 use crate::scripts::script;
 use crate::session_requests::{ask, url};
@@ -83,7 +83,6 @@ fn use_answer(alloc: Global, kind: &str, words: &str) -> Result<String, Fault> {
         "taken-request" => request(alloc, words),
         "bad" => bad(alloc, words),
         "fields" => fields(alloc, words),
-        "body-fields" => body_fields(alloc, words),
         _ => value_or_message(alloc, kind, words),
     }
 }

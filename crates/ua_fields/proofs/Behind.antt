@@ -3,7 +3,7 @@
 use Rattle.std.proofs.Common.{◌≡◌, ℕ, ◌+◌, Bool, true, false, List, [], ◌++◌, Result, Ok, Err, OnOk, is_ok}
 use Rattle.std.proofs.Common.{if◌then◌else◌, codes, refl, sym, ap, subst, ◌∙◌, append-nil, append_assoc}
 use Rattle.std.specs.Fmt.{decimal}
-use Rattle.ua_texts.specs.PlainLeaf.{Adds, Either}
+use Rattle.ua_texts.specs.PlainLeaf.{Either}
 use Rattle.ua_fields.specs.declared.style.FieldStyle.{FieldStyle}
 use Rattle.ua_fields.specs.Styles.{exact_field_style}
 use Rattle.ua_fields.specs.Messages.{AreMessageLines, message_lines}
@@ -59,13 +59,6 @@ mutual
       let one = shifted style (field_margin margin tree) (field_path path name) front old tree h.0 h.1 in
       let rest = fields_shifted style margin path front one.0 others new (subst (λ (x : List ℕ). AreFieldsBehind style margin path x others new) one.1 h.2) in
       (rest.0, rest.1, (one.0, one.2, rest.2))
-
--- a message's lines were added
-pub lines_added : {E : Type 0} (r : Result (Unit {0}) E) (style : FieldStyle) (tree : Tree) (old new : List ℕ)
-    → OnOk r (IsBehind style (codes "  ") [] old tree new) → Adds r old new (AreMessageLines style tree)
-lines_added (Ok u) style tree old new h =
-    shifted style (codes "  ") [] old [] tree new (subst (λ (x : List ℕ). IsBehind style (codes "  ") [] x tree new) (sym (append-nil old)) h)
-lines_added (Err x) style tree old new h = tt
 
 -- a line with a text of this leaf was added
 pub text_line : {E : Type 0} (r : Result (Unit {0}) E) (style : FieldStyle) (margin path old start mid new : List ℕ) (leaf : Leaf)
@@ -168,9 +161,3 @@ message_exact names tree = behind_exact names (codes "  ") [] [] tree (message_l
 -- a message's lines, where they are exact, are those of its tree
 pub exact_message : (names : Bool) (tree : Tree) (told : List ℕ) → AreMessageLines (exact_field_style names) tree told → told ≡ message_lines names tree
 exact_message names tree told h = exact_behind names (codes "  ") [] [] tree told h
-
-pub exact_lines : {E : Type 0} (r : Result (Unit {0}) E) (names : Bool) (tree : Tree) (old new : List ℕ)
-    → Adds r old new (AreMessageLines (exact_field_style names) tree)
-    → OnOk r (new ≡ old ++ message_lines names tree)
-exact_lines (Ok u) names tree old new h = h.1 ∙ ap (λ (t : List ℕ). old ++ t) (exact_message names tree h.0 h.2)
-exact_lines (Err x) names tree old new h = tt

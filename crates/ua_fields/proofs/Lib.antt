@@ -14,6 +14,7 @@ mod ValueLines
 mod PlainSteps
 mod PlainHas
 mod PlainValues
+mod PlainLeaves
 mod PlainRows
 mod PlainVariants
 pub mod PrintedBodies

@@ -45,6 +45,22 @@ alone_text {A = A} number f octets text Is m e t =
     let both = some_is (t.0, t.1) (m, []) (sym t.2 ∙ alone_behind number f octets m e) in
     subst (λ (v : A). Is v text) (ap (λ p. p.0) both) t.3
 
+-- what is printed of the structure after the NodeId is so of that message
+pub alone_printed : {A : Type 0} (style : FieldStyle) (number : ℕ) (f : Format A) (octets : List ℕ) (Is : A → List ℕ → Type 0)
+    (r : Result (Unit {0}) PrintFault)
+    (a b : Option (List ℕ)) (ka kb : List ℕ) → true ≡ is_some (body_of (message number f) octets)
+    → PrintsOrBreaks style a ka b kb (IsTextBehind f Is octets) r → PrintsOrBreaks style a ka b kb (IsFound Is (body_of (message number f) octets)) r
+alone_printed style number f octets Is r a b ka kb there h =
+    let found = some_there (body_of (message number f) octets) there in
+    printed_as style r a b ka kb (IsTextBehind f Is octets) (IsFound Is (body_of (message number f) octets))
+    (λ text t. subst (λ o. IsFound Is o text) (sym found.1) (alone_text number f octets text Is found.0 found.1 t)) h
+
+-- nothing is printed where there is no such message
+pub alone_absent : {A : Type 0} (number : ℕ) (f : Format A) (octets : List ℕ) (Is : A → List ℕ → Type 0) (known : Option (List ℕ)) (kept : List ℕ)
+    → false ≡ is_some (body_of (message number f) octets) → PrintsText known kept known kept (IsFound Is (body_of (message number f) octets))
+alone_absent number f octets Is known kept none =
+    subst (λ o. PrintsText known kept known kept (IsFound Is o)) (sym (none_is (body_of (message number f) octets) none)) (nothing_printed known kept)
+
 -- ---- requests
 
 pub request_found : (octets : List ℕ) (r : Result OpenRequest ReadFault) (m : OpenRequest)

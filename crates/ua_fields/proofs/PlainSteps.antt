@@ -9,7 +9,7 @@ use Rattle.ua_wire.specs.declared.fault.ReadFault.TheVariants as fault
 use Rattle.ua_fields.specs.declared.style.FieldStyle.{FieldStyle}
 use Rattle.ua_fields.specs.declared.printing.TellFault.{TellFault}
 use Rattle.ua_fields.specs.declared.printing.TellFault.TheVariants.{NoValue, OutOfMemory, Output}
-use Rattle.ua_fields.specs.Printing.{BreaksOffLines, BreaksRead, EachHasText, PrintsAny, PrintsLines, PrintsText, tell_fault}
+use Rattle.ua_fields.specs.Printing.{BreaksOffLines, BreaksRead, EachHasText, PrintsAny, PrintsLines, PrintsText, PrintsValue, tell_fault}
 use Rattle.ua_fields.proofs.Printings.{breaks_as, first_breaks, image_there, nothing_breaks, only_kept, prints_then, second_breaks}
 use Rattle.ua_fields.proofs.ValueTexts.{other_is, then_written}
 
@@ -114,6 +114,16 @@ any_written read Is old new a b c ka kb kc h w = (
 )
 
 -- ---- in other words
+
+-- a text that the value determines
+pub one_text : {A : Type 0} (style : FieldStyle) (read : List ℕ → Option (A × List ℕ)) (shown : A → List ℕ) (old new : List ℕ) (a b : Option (List ℕ))
+    (ka kb : List ℕ) (r : Result (Unit {0}) TellFault) → PrintsValue read shown old new a ka b kb r
+    → PrintsAny style read (λ v text. text ≡ shown v) old new a ka b kb r
+one_text style read shown old new a b ka kb (Ok u) h = (h.0, h.1, record { lines = shown h.0; printed = h.2; holds = refl })
+one_text style read shown old new a b ka kb (Err NoValue) h = h
+one_text style read shown old new a b ka kb (Err OutOfMemory) h = λ value rest e.
+    let k = h value rest e in record { lost = k.lost; lines = k.part; printed = k.printed; front = λ t. (k.rest, k.front) }
+one_text style read shown old new a b ka kb (Err (Output error)) h = tt
 
 prints_as : (a b : Option (List ℕ)) (ka kb : List ℕ) (Is Told : List ℕ → Type 0) → ((text : List ℕ) → Is text → Told text) → PrintsText a ka b kb Is
     → PrintsText a ka b kb Told

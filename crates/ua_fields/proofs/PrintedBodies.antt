@@ -313,3 +313,7 @@ only_added known old new Holds h = record { lines = h.0; printed = only_kept kno
 
 pub nothing_printed : (known : Option (List ℕ)) (kept : List ℕ) → PrintsText known kept known kept (λ text. text ≡ [])
 nothing_printed known kept = record { lines = []; printed = only_kept known kept kept [] (sym (append-nil kept)); holds = refl }
+
+-- what is printed where nothing is written is kept
+pub all_kept : (old new : List ℕ) (Holds : List ℕ → Type 0) → PrintsText (Some []) old (Some []) new Holds → (text : List ℕ) × (new ≡ old ++ text) × Holds text
+all_kept old new Holds h = (h.lines, sym (h.printed.are ∙ ap (λ (w : List ℕ). w ++ new) (sym h.printed.added)), h.holds)

@@ -170,6 +170,20 @@ pub pieces_stopped : (a b : Option (List ℕ)) (ka kb one two text : List ℕ) (
     → PrintsPieces a ka b kb one (Err fault) → PrintsPieces a ka b kb text (Err fault)
 pieces_stopped a b ka kb one two text fault e h = line_stopped a a b ka ka kb one two text fault (pieces_from a ka (one ++ two) text e) h
 
+-- a text was kept, and the last one behind it was printed, or not
+pub kept_both : (a b : Option (List ℕ)) (ka mid kb one two text : List ℕ) (r : Result (Unit {0}) PrintFault) → one ++ two ≡ text → mid ≡ ka ++ one
+    → PrintsPieces a mid b kb two r → PrintsPieces a ka b kb text r
+kept_both a b ka mid kb one two text r e grown h = pieces_both a a b ka mid kb one two text r e (only_kept a ka mid one grown) h
+
+-- a text was printed, and the last one behind it was not kept
+pub end_lost : (a b : Option (List ℕ)) (ka kb one two text : List ℕ) → one ++ two ≡ text → PrintsLines a ka b kb one → PrintsFront a ka b text
+end_lost a b ka kb one two text e h = record { lost = kb; part = one; rest = two; printed = h; front = e }
+
+-- it was kept
+pub end_kept : (a b : Option (List ℕ)) (ka kb new one two text : List ℕ) → one ++ two ≡ text → PrintsLines a ka b kb one → new ≡ kb ++ two
+    → PrintsLines a ka b new text
+end_kept a b ka kb new one two text e h grown = pieces_both a b b ka kb new one two text (Ok tt) e h (only_kept b kb new two grown)
+
 -- the newline was not kept
 pub line_broken : (a b c : Option (List ℕ)) (ka kb kc one two text : List ℕ) → PiecesSoFar a ka b kb (one ++ two) text → PrintsLines b kb c kc one
     → PrintsFront a ka c text

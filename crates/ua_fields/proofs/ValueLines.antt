@@ -28,7 +28,7 @@ use Rattle.ua_fields.specs.Printing.{EachHasText, PrintsAny, PrintsLines, Prints
 use Rattle.ua_fields.specs.Styles.{plain_field_style}
 use Rattle.ua_fields.specs.Tree.{AreFieldsBehind, IsBehind, IsPlainText, IsText, exact_leaf_text, field_path, line, structure, value_of}
 use Rattle.ua_fields.proofs.Long.{same_text}
-use Rattle.ua_fields.proofs.PlainSteps.{HasTexts, Printed, any_kept, any_made}
+use Rattle.ua_fields.proofs.PlainSteps.{HasTexts, Printed, any_kept, any_made, one_text}
 use Rattle.ua_fields.proofs.PlainVariants.{unannounced}
 use Rattle.ua_fields.proofs.Printings.{field_then, fields_has, tree_has, value_printed}
 use Rattle.ua_texts.specs.Plain.{IsPlainVariant}
@@ -61,16 +61,6 @@ restyled style read Is old new a b ka kb (Err NoValue) plain h = h
 restyled style read Is old new a b ka kb (Err OutOfMemory) plain h = λ value rest e.
     let k = h value rest e in record { lost = k.lost; lines = k.lines; printed = k.printed; front = λ t. k.front (each_plain style plain t) }
 restyled style read Is old new a b ka kb (Err (Output error)) plain h = tt
-
--- a text that the value determines
-one_text : {A : Type 0} (style : FieldStyle) (read : List ℕ → Option (A × List ℕ)) (shown : A → List ℕ) (old new : List ℕ) (a b : Option (List ℕ))
-    (ka kb : List ℕ) (r : Result (Unit {0}) TellFault) → PrintsValue read shown old new a ka b kb r
-    → PrintsAny style read (λ v text. text ≡ shown v) old new a ka b kb r
-one_text style read shown old new a b ka kb (Ok u) h = (h.0, h.1, record { lines = shown h.0; printed = h.2; holds = refl })
-one_text style read shown old new a b ka kb (Err NoValue) h = h
-one_text style read shown old new a b ka kb (Err OutOfMemory) h = λ value rest e.
-    let k = h value rest e in record { lost = k.lost; lines = k.part; printed = k.printed; front = λ t. (k.rest, k.front) }
-one_text style read shown old new a b ka kb (Err (Output error)) h = tt
 
 -- the text of a value that is there, or `null`
 abbrev pub IsShown : FieldStyle → Option VariantData → List ℕ → Type 0

@@ -1,11 +1,11 @@
 //! Written by `tools/add_service.py --write` from `schema/attribute.txt`.
 //! The structures of the services Read and Write, as lines.
 
-use crate::lines::{Lines, Place, push_fields};
+use crate::lines::{Lines, Place};
 use crate::printed::{Last, Printed, PrintedFields};
 use crate::printing::TellFault;
-use std::alloc::{AllocError, Global};
-use std::io::Write;
+use crate::sink::Sink;
+use std::alloc::Global;
 use ua_builtin::{DoubleBits, NodeId, QualifiedName, Source, StatusCode, UaString};
 use ua_services::{
     ReadRequest, ReadResponse, ReadValueId, RequestHeader, ResponseHeader, UaArray, WriteRequest,
@@ -18,14 +18,6 @@ impl Lines for ReadValueId {
     ghost use Rattle.ua_fields.specs.Attribute.{read_value_id_entries};
 
     ghost tree = { λ m. structure (read_value_id_entries m) };
-
-    #[tactic(auto, unfolding(crate::specs::Attribute::read_value_id_entries))]
-    fn push_lines(&self, alloc: Global, out: &mut String, place: Place) -> Result<(), AllocError> {
-        push_fields!(self, alloc, out, place =>
-            push_field node_id, push_field attribute_id, push_field index_range,
-            push_field data_encoding
-        )
-    }
 }
 
 impl Printed for ReadValueId {
@@ -33,7 +25,7 @@ impl Printed for ReadValueId {
         true
     }
 
-    fn print<S: Source, O: Write>(
+    fn print<S: Source, O: Sink>(
         alloc: Global,
         src: &mut S,
         place: Place,
@@ -55,14 +47,6 @@ impl Lines for ReadRequest {
     ghost use Rattle.ua_fields.specs.Attribute.{read_request_entries};
 
     ghost tree = { λ m. structure (read_request_entries m) };
-
-    #[tactic(auto, unfolding(crate::specs::Attribute::read_request_entries))]
-    fn push_lines(&self, alloc: Global, out: &mut String, place: Place) -> Result<(), AllocError> {
-        push_fields!(self, alloc, out, place =>
-            push_part request_header, push_field max_age, push_field timestamps_to_return,
-            push_field nodes_to_read
-        )
-    }
 }
 
 impl Printed for ReadRequest {
@@ -70,7 +54,7 @@ impl Printed for ReadRequest {
         true
     }
 
-    fn print<S: Source, O: Write>(
+    fn print<S: Source, O: Sink>(
         alloc: Global,
         src: &mut S,
         place: Place,
@@ -93,13 +77,6 @@ impl Lines for ReadResponse {
     ghost use Rattle.ua_fields.specs.Attribute.{read_response_entries};
 
     ghost tree = { λ m. structure (read_response_entries m) };
-
-    #[tactic(auto, unfolding(crate::specs::Attribute::read_response_entries))]
-    fn push_lines(&self, alloc: Global, out: &mut String, place: Place) -> Result<(), AllocError> {
-        push_fields!(self, alloc, out, place =>
-            push_part response_header, push_field results, push_field diagnostic_infos
-        )
-    }
 }
 
 impl Printed for ReadResponse {
@@ -107,7 +84,7 @@ impl Printed for ReadResponse {
         true
     }
 
-    fn print<S: Source, O: Write>(
+    fn print<S: Source, O: Sink>(
         alloc: Global,
         src: &mut S,
         place: Place,
@@ -127,13 +104,6 @@ impl Lines for WriteValue {
     ghost use Rattle.ua_fields.specs.Attribute.{write_value_entries};
 
     ghost tree = { λ m. structure (write_value_entries m) };
-
-    #[tactic(auto, unfolding(crate::specs::Attribute::write_value_entries))]
-    fn push_lines(&self, alloc: Global, out: &mut String, place: Place) -> Result<(), AllocError> {
-        push_fields!(self, alloc, out, place =>
-            push_field node_id, push_field attribute_id, push_field index_range, push_part value
-        )
-    }
 }
 
 impl Printed for WriteValue {
@@ -141,7 +111,7 @@ impl Printed for WriteValue {
         true
     }
 
-    fn print<S: Source, O: Write>(
+    fn print<S: Source, O: Sink>(
         alloc: Global,
         src: &mut S,
         place: Place,
@@ -160,11 +130,6 @@ impl Lines for WriteRequest {
     ghost use Rattle.ua_fields.specs.Attribute.{write_request_entries};
 
     ghost tree = { λ m. structure (write_request_entries m) };
-
-    #[tactic(auto, unfolding(crate::specs::Attribute::write_request_entries))]
-    fn push_lines(&self, alloc: Global, out: &mut String, place: Place) -> Result<(), AllocError> {
-        push_fields!(self, alloc, out, place => push_part request_header, push_field nodes_to_write)
-    }
 }
 
 impl Printed for WriteRequest {
@@ -172,7 +137,7 @@ impl Printed for WriteRequest {
         true
     }
 
-    fn print<S: Source, O: Write>(
+    fn print<S: Source, O: Sink>(
         alloc: Global,
         src: &mut S,
         place: Place,
@@ -191,13 +156,6 @@ impl Lines for WriteResponse {
     ghost use Rattle.ua_fields.specs.Attribute.{write_response_entries};
 
     ghost tree = { λ m. structure (write_response_entries m) };
-
-    #[tactic(auto, unfolding(crate::specs::Attribute::write_response_entries))]
-    fn push_lines(&self, alloc: Global, out: &mut String, place: Place) -> Result<(), AllocError> {
-        push_fields!(self, alloc, out, place =>
-            push_part response_header, push_field results, push_field diagnostic_infos
-        )
-    }
 }
 
 impl Printed for WriteResponse {
@@ -205,7 +163,7 @@ impl Printed for WriteResponse {
         true
     }
 
-    fn print<S: Source, O: Write>(
+    fn print<S: Source, O: Sink>(
         alloc: Global,
         src: &mut S,
         place: Place,

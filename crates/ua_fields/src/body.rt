@@ -1,25 +1,22 @@
 //! Message bodies as lines.
 
-ghost use Rattle.std.specs.Prelude.{◌≡◌, ◌++◌, string_bytes, IfOk, OnOk};
-ghost use Rattle.ua_opening.specs.SecureChannel.{close_request, open_request};
-ghost use Rattle.ua_opening.specs.Message.{body_of, message, standard_number as number_of_id};
-ghost use Rattle.ua_opening.specs.Open.{answer_read};
-ghost use Rattle.ua_services.specs.Request.{request};
-ghost use Rattle.ua_services.specs.Response.{response};
-ghost use Rattle.ua_fields.specs.Bodies.{AreBodyFields, IsBodyText, IsFound, IsHeaderText, behind_id, body_fields};
+ghost use Rattle.std.specs.Prelude.{◌≡◌, ◌++◌, IfOk, OnOk, is_some, string_bytes};
+ghost use Rattle.ua_opening.specs.SecureChannel.{close_request};
+ghost use Rattle.ua_opening.specs.Message.{body_of, message};
+ghost use Rattle.ua_fields.specs.Bodies.{AreBodyFields, IsBodyText, behind_id, body_fields};
+ghost use Rattle.ua_fields.specs.Printing.{PrintsOrBreaks};
+ghost use Rattle.ua_fields.specs.declared.body.BodyKind.TheVariants as body;
 ghost use Rattle.ua_texts.specs.PlainLeaf.{Adds};
-ghost use Rattle.ua_fields.specs.Messages.{AreMessageLines};
 
-use crate::lines::Lines;
-use crate::message::push_message;
-use crate::side::Side;
+use crate::message::{print_known, print_request, print_response};
+use crate::opened::{print_open_answer, print_open_request};
+use crate::printing::PrintFault;
+use crate::sink::{Kept, Sink};
 use crate::style::FieldStyle;
 use std::alloc::{AllocError, Global};
-use ua_builtin::{Identifier, MOST_LEVELS, NodeId, ReadFault, Source, Wire};
-use ua_services::{
-    CloseRequest, OpenAnswer, OpenRequest, Request, RequestFault, Response, ResponseFault,
-    ServiceFault, read_open_request, read_open_response, read_request, read_response,
-};
+use ua_builtin::{MOST_LEVELS, NodeId, ReadFault, Source, Wire};
+use ua_opening::standard_number;
+use ua_services::CloseRequest;
 
 /// How a body is decoded, given its sender and its message type (OPC 10000-6, 6.7.2).
 #[derive(Clone, Copy, PartialEq, Eq, Debug)]
@@ -38,70 +35,6 @@ pub enum BodyKind {
 
 /// The number of the encoding of a CloseSecureChannel request (OPC 10000-6, A.3).
 const CLOSE_REQUEST: u32 = 452;
-
-/// The request that a body is, if it is one.
-#[tactic(auto, unfolding(ua_services::specs::Request::request_read), using(ua_opening::proofs::BodyRead::found_ok, ua_opening::proofs::BodyRead::found_err))]
-fn found_request<S: Source>(alloc: Global, src: &mut S) -> Result<Option<Request>, AllocError>
-    ensures { IfOk result (λ found. found ≡ body_of request (S.octets src.old)) }
-{
-    match read_request(alloc, src) {
-        Ok(message) => Ok(Some(message)),
-        Err(RequestFault::OutOfMemory) => Err(AllocError),
-        Err(_) => Ok(None),
-    }
-}
-
-/// The response that a body is, if it is one.
-#[tactic(auto, unfolding(ua_services::specs::Response::response_read), using(ua_opening::proofs::BodyRead::found_ok, ua_opening::proofs::BodyRead::found_err))]
-fn found_response<S: Source>(alloc: Global, src: &mut S) -> Result<Option<Response>, AllocError>
-    ensures { IfOk result (λ found. found ≡ body_of response (S.octets src.old)) }
-{
-    match read_response(alloc, src) {
-        Ok(message) => Ok(Some(message)),
-        Err(ResponseFault::OutOfMemory) => Err(AllocError),
-        Err(_) => Ok(None),
-    }
-}
-
-/// The OpenSecureChannel request that a body is, if it is one.
-#[tactic(auto, using(ua_opening::proofs::BodyRead::found_ok, ua_opening::proofs::BodyRead::found_err))]
-fn found_open_request<S: Source>(
-    alloc: Global,
-    src: &mut S,
-) -> Result<Option<OpenRequest>, AllocError>
-    ensures { IfOk result (λ found. found ≡ body_of (message 446 open_request) (S.octets src.old)) }
-{
-    match read_open_request(alloc, src) {
-        Ok(message) => Ok(Some(message)),
-        Err(ReadFault::OutOfMemory) => Err(AllocError),
-        Err(ReadFault::NoValue) => Ok(None),
-    }
-}
-
-/// The response to an OpenSecureChannel request that a body is, if it is one.
-#[tactic(auto, using(ua_opening::proofs::BodyRead::found_ok, ua_opening::proofs::BodyRead::found_err))]
-fn found_open_answer<S: Source>(
-    alloc: Global,
-    src: &mut S,
-) -> Result<Option<OpenAnswer>, AllocError>
-    ensures { IfOk result (λ found. found ≡ answer_read (S.octets src.old)) }
-{
-    match read_open_response(alloc, src) {
-        Ok(message) => Ok(Some(message)),
-        Err(ReadFault::OutOfMemory) => Err(AllocError),
-        Err(ReadFault::NoValue) => Ok(None),
-    }
-}
-
-/// The number of a NodeId of the standard's namespace.
-fn standard_number(id: &NodeId) -> Option<u32>
-    ensures { result ≡ number_of_id id.now }
-{
-    match &id.identifier {
-        Identifier::Numeric(number) if id.namespace == 0 => Some(*number),
-        _ => None,
-    }
-}
 
 /// The CloseSecureChannel request that bytes are, after the NodeId of its encoding.
 fn found_last<S: Source>(alloc: Global, src: &mut S) -> Result<Option<CloseRequest>, AllocError>
@@ -136,26 +69,57 @@ fn found_close_request<S: Source>(
     found_last(alloc, src)
 }
 
-/// Appends the lines of the message that was found, and drops it.
-fn push_found<T: Lines + Drop>(
-    alloc: Global,
-    found: Option<T>,
-    style: FieldStyle,
-    out: &mut String,
-) -> Result<(), AllocError>
-    ensures { Adds result (string_bytes out.old) (string_bytes out.new)
-        (IsFound (λ m. AreMessageLines style (T.tree m)) found) }
+/// Whether the source is a CloseSecureChannel request.
+fn is_close_request<S: Source>(alloc: Global, src: &mut S) -> Result<bool, AllocError>
+    ensures { IfOk result (λ there. there ≡ is_some (body_of (message 452 close_request) (S.octets src.old))) }
 {
-    match found {
-        Some(message) => push_message(alloc, &message, style, out),
-        None => Ok(()),
+    let found: Option<CloseRequest> = found_close_request(alloc, src)?;
+    Ok(found.is_some())
+}
+
+/// Prints the lines of the CloseSecureChannel request that bytes are, or none.
+fn print_close_request<S: Source, O: Sink>(
+    alloc: Global,
+    style: FieldStyle,
+    src: &mut S,
+    text: &mut String,
+    out: &mut O,
+) -> Result<(), PrintFault>
+    ensures { PrintsOrBreaks style (O.contents out.old) (string_bytes text.old) (O.contents out.new)
+        (string_bytes text.new) (IsBodyText style body.CloseRequest (S.octets src.old)) result }
+{
+    let there = is_close_request(alloc, &mut src.fork())?;
+    if !there {
+        return Ok(());
+    }
+    print_known::<CloseRequest, S, O>(alloc, style, src, text, out)
+}
+
+/// Prints the lines of a body in this style, as it is read: those of the message in it, or none if
+/// the body cannot be decoded or is of an unknown service. Discard the source afterwards.
+pub fn print_body<S: Source, O: Sink>(
+    alloc: Global,
+    kind: BodyKind,
+    style: FieldStyle,
+    src: &mut S,
+    text: &mut String,
+    out: &mut O,
+) -> Result<(), PrintFault>
+    ensures { PrintsOrBreaks style (O.contents out.old) (string_bytes text.old) (O.contents out.new)
+        (string_bytes text.new) (IsBodyText style kind (S.octets src.old)) result }
+{
+    match kind {
+        BodyKind::Request => print_request(alloc, style, src, text, out),
+        BodyKind::Response => print_response(alloc, style, src, text, out),
+        BodyKind::OpenRequest => print_open_request(alloc, style, src, text, out),
+        BodyKind::OpenResponse => print_open_answer(alloc, style, src, text, out),
+        BodyKind::CloseRequest => print_close_request(alloc, style, src, text, out),
     }
 }
 
-/// Appends the lines of a body in this style: those of the message in it, or none if the body
-/// cannot be decoded or is of an unknown service. Discard the source afterwards. If an allocation
+/// Appends the lines of a body in this style, as [`print_body`] prints them. If an allocation
 /// fails, some lines may have been appended.
-pub fn push_body_text<S: Source>(
+fn push_body_text<S: Source>(
     alloc: Global,
     kind: BodyKind,
     style: FieldStyle,
@@ -164,12 +128,10 @@ pub fn push_body_text<S: Source>(
 ) -> Result<(), AllocError>
     ensures { Adds result (string_bytes out.old) (string_bytes out.new) (IsBodyText style kind (S.octets src.old)) }
 {
-    match kind {
-        BodyKind::Request => push_found(alloc, found_request(alloc, src)?, style, out),
-        BodyKind::Response => push_found(alloc, found_response(alloc, src)?, style, out),
-        BodyKind::OpenRequest => push_found(alloc, found_open_request(alloc, src)?, style, out),
-        BodyKind::OpenResponse => push_found(alloc, found_open_answer(alloc, src)?, style, out),
-        BodyKind::CloseRequest => push_found(alloc, found_close_request(alloc, src)?, style, out),
+    match print_body(alloc, kind, style, src, out, &mut Kept) {
+        Ok(()) => Ok(()),
+        // There is no writer that could fail.
+        Err(PrintFault::OutOfMemory | PrintFault::Output(_)) => Err(AllocError),
     }
 }
 
@@ -207,28 +169,5 @@ pub(crate) fn found_behind<T: Wire, S: Source>(
         Ok(value) => Ok(Some(value)),
         Err(ReadFault::NoValue) => Ok(None),
         Err(ReadFault::OutOfMemory) => Err(AllocError),
-    }
-}
-
-/// Appends the lines of the header of a message that this side sent, if it is decoded completely.
-/// Discard the source afterwards. If an allocation fails, some lines may have been appended.
-pub fn push_header_fields<S: Source>(
-    alloc: Global,
-    side: Side,
-    style: FieldStyle,
-    src: &mut S,
-    out: &mut String,
-) -> Result<(), AllocError>
-    ensures { Adds result (string_bytes out.old) (string_bytes out.new) (IsHeaderText style side (S.octets src.old)) }
-{
-    match side {
-        Side::Client => {
-            let found: Option<CloseRequest> = found_behind(alloc, src)?;
-            push_found(alloc, found, style, out)
-        }
-        Side::Server => {
-            let found: Option<ServiceFault> = found_behind(alloc, src)?;
-            push_found(alloc, found, style, out)
-        }
     }
 }

@@ -13,10 +13,10 @@ ghost use Rattle.ua_variant.specs.View.{row_list, scalar_of};
 ghost use Rattle.ua_fields.specs.Printing.{PrintsPieces, PrintsValue, element_levels};
 
 use crate::pieces::{print_base64, print_octets, print_shown};
-use crate::printing::{PrintFault, TellFault, write_full};
+use crate::printing::{PrintFault, TellFault};
 use crate::recoded::{encode_data_value, encode_value, encode_variant};
+use crate::sink::Sink;
 use std::alloc::{AllocError, Global};
-use std::io::Write;
 use ua_builtin::{
     DateTime, DoubleBits, ExpandedNodeId, ExtensionObject, FloatBits, Guid, LocalizedText,
     MOST_LEVELS, NodeId, QualifiedName, ReadFault, Source, StatusCode, UaBytes, UaString, Wire,
@@ -29,7 +29,7 @@ use ua_variant::{DiagnosticInfo, Scalar};
 const ELEMENT_LEVELS: u32 = MOST_LEVELS - 2;
 
 /// Reads that many elements of the type id, and prints their texts, separated by commas.
-pub(crate) fn print_row<S: Source, O: Write>(
+pub(crate) fn print_row<S: Source, O: Sink>(
     alloc: Global,
     src: &mut S,
     kind: u8,
@@ -49,7 +49,7 @@ pub(crate) fn print_row<S: Source, O: Write>(
 }
 
 /// Reads the element at an index, and prints its text, after a comma unless it is the first.
-fn print_item<S: Source, O: Write>(
+fn print_item<S: Source, O: Sink>(
     alloc: Global,
     src: &mut S,
     kind: u8,
@@ -64,7 +64,7 @@ fn print_item<S: Source, O: Write>(
 {
     push_comma(index, text)?;
     print_scalar(alloc, src, kind, octets, text, out)?;
-    write_full(text, out)?;
+    out.write_full(text)?;
     Ok(())
 }
 
@@ -79,7 +79,7 @@ pub(crate) fn push_comma(index: u32, text: &mut String) -> Result<(), AllocError
 }
 
 /// Reads a scalar of the type id, and prints its text; `octets` has room for an encoding.
-pub(crate) fn print_scalar<S: Source, O: Write>(
+pub(crate) fn print_scalar<S: Source, O: Sink>(
     alloc: Global,
     src: &mut S,
     kind: u8,
@@ -153,7 +153,7 @@ pub(crate) fn read_packed<S: Source>(
 }
 
 /// Reads a String, and prints its text.
-fn print_string<S: Source, O: Write>(
+fn print_string<S: Source, O: Sink>(
     alloc: Global,
     src: &mut S,
     text: &mut String,
@@ -172,7 +172,7 @@ fn print_string<S: Source, O: Write>(
 }
 
 /// Reads a ByteString, and prints it in base64.
-fn print_bytes<S: Source, O: Write>(
+fn print_bytes<S: Source, O: Sink>(
     alloc: Global,
     src: &mut S,
     text: &mut String,
@@ -191,7 +191,7 @@ fn print_bytes<S: Source, O: Write>(
 }
 
 /// Reads a value of a type, and prints the bytes of its canonical encoding.
-fn print_encoded<T: Wire + Drop, S: Source, O: Write>(
+fn print_encoded<T: Wire + Drop, S: Source, O: Sink>(
     alloc: Global,
     src: &mut S,
     octets: &mut Vec<u8>,
@@ -209,7 +209,7 @@ fn print_encoded<T: Wire + Drop, S: Source, O: Write>(
 }
 
 /// Reads a Variant among others, and prints the bytes of its canonical encoding.
-fn print_variant_octets<S: Source, O: Write>(
+fn print_variant_octets<S: Source, O: Sink>(
     alloc: Global,
     src: &mut S,
     octets: &mut Vec<u8>,
@@ -227,7 +227,7 @@ fn print_variant_octets<S: Source, O: Write>(
 }
 
 /// Reads a DataValue among others, and prints the bytes of its canonical encoding.
-fn print_data_value_octets<S: Source, O: Write>(
+fn print_data_value_octets<S: Source, O: Sink>(
     alloc: Global,
     src: &mut S,
     octets: &mut Vec<u8>,
@@ -245,7 +245,7 @@ fn print_data_value_octets<S: Source, O: Write>(
 }
 
 /// Prints the bytes of an encoding, or that there is none.
-fn print_written<O: Write>(
+fn print_written<O: Sink>(
     alloc: Global,
     is_writable: bool,
     octets: &[u8],

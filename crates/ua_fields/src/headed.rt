@@ -1,6 +1,5 @@
 //! The header of a message of no known kind, as lines that are printed as it is read.
 
-ghost use Rattle.std.specs.List.{concat};
 ghost use Rattle.std.specs.Prelude.{◌≡◌, IfOk, is_some, string_bytes};
 ghost use Rattle.ua_opening.specs.Header.{service_fault};
 ghost use Rattle.ua_opening.specs.SecureChannel.{close_request};
@@ -10,15 +9,14 @@ ghost use Rattle.ua_fields.specs.Printing.{PrintsOrBreaks};
 ghost use Rattle.ua_fields.specs.declared.side.Side.TheVariants.{Client, Server};
 
 use crate::body::found_behind;
-use crate::pending::print_message_of;
+use crate::message::print_known;
 use crate::printed::Printed;
 use crate::printing::PrintFault;
 use crate::side::Side;
+use crate::sink::Sink;
 use crate::style::FieldStyle;
 use std::alloc::{AllocError, Global};
-use std::io::Write;
 use ua_builtin::{MOST_LEVELS, NodeId, ReadFault, Skip, Source, Wire};
-use ua_chunk::Message;
 use ua_services::{CloseRequest, ResponseHeader, ServiceFault};
 
 /// Whether a RequestHeader is after the NodeId at the start of the source: it is all that a
@@ -49,70 +47,69 @@ fn has_response_header<S: Source>(alloc: Global, src: &mut S) -> Result<bool, Al
 }
 
 /// Prints the lines of the structure after the NodeId of a message, if it is there.
-#[tactic(auto, using(crate::proofs::PrintedHeaders::there_behind, crate::proofs::PrintedHeaders::absent_behind))]
-fn print_if_there<T: Printed, O: Write>(
+fn print_if_there<T: Printed, S: Source, O: Sink>(
     alloc: Global,
     there: bool,
     style: FieldStyle,
-    message: &Message,
+    src: &mut S,
     text: &mut String,
     out: &mut O,
 ) -> Result<(), PrintFault>
-    requires { there ≡ is_some (behind_id T.format (concat message.now)) }
+    requires { there ≡ is_some (behind_id T.format (S.octets src.old)) }
     ensures { PrintsOrBreaks style (O.contents out.old) (string_bytes text.old) (O.contents out.new)
         (string_bytes text.new) (IsFound (λ value. AreMessageLines style (T.tree value))
-        (behind_id T.format (concat message.now))) result }
+        (behind_id T.format (S.octets src.old))) result }
 {
     if !there {
         return Ok(());
     }
-    print_message_of::<T, O>(alloc, style, message, text, out)
+    print_known::<T, S, O>(alloc, style, src, text, out)
 }
 
 /// Prints the lines of the RequestHeader of a message, if it is decoded completely.
-fn print_request_header<O: Write>(
+fn print_request_header<S: Source, O: Sink>(
     alloc: Global,
     style: FieldStyle,
-    message: &Message,
+    src: &mut S,
     text: &mut String,
     out: &mut O,
 ) -> Result<(), PrintFault>
     ensures { PrintsOrBreaks style (O.contents out.old) (string_bytes text.old) (O.contents out.new)
-        (string_bytes text.new) (IsHeaderText style Client (concat message.now)) result }
+        (string_bytes text.new) (IsHeaderText style Client (S.octets src.old)) result }
 {
-    let there = has_request_header(alloc, &mut message.source())?;
-    print_if_there::<CloseRequest, O>(alloc, there, style, message, text, out)
+    let there = has_request_header(alloc, &mut src.fork())?;
+    print_if_there::<CloseRequest, S, O>(alloc, there, style, src, text, out)
 }
 
 /// Prints the lines of the ResponseHeader of a message, if it is decoded completely.
-fn print_response_header<O: Write>(
+fn print_response_header<S: Source, O: Sink>(
     alloc: Global,
     style: FieldStyle,
-    message: &Message,
+    src: &mut S,
     text: &mut String,
     out: &mut O,
 ) -> Result<(), PrintFault>
     ensures { PrintsOrBreaks style (O.contents out.old) (string_bytes text.old) (O.contents out.new)
-        (string_bytes text.new) (IsHeaderText style Server (concat message.now)) result }
+        (string_bytes text.new) (IsHeaderText style Server (S.octets src.old)) result }
 {
-    let there = has_response_header(alloc, &mut message.source())?;
-    print_if_there::<ServiceFault, O>(alloc, there, style, message, text, out)
+    let there = has_response_header(alloc, &mut src.fork())?;
+    print_if_there::<ServiceFault, S, O>(alloc, there, style, src, text, out)
 }
 
 /// Prints the lines of the header of a message that this side sent, if it is decoded completely.
-pub fn print_header<O: Write>(
+pub fn print_header<S: Source, O: Sink>(
     alloc: Global,
     side: Side,
     style: FieldStyle,
-    message: &Message,
+    src: &mut S,
     text: &mut String,
     out: &mut O,
 ) -> Result<(), PrintFault>
     ensures { PrintsOrBreaks style (O.contents out.old) (string_bytes text.old) (O.contents out.new)
-        (string_bytes text.new) (IsHeaderText style side (concat message.now)) result }
+        (string_bytes text.new) (IsHeaderText style side (S.octets src.old)) result }
 {
     match side {
-        Side::Client => print_request_header(alloc, style, message, text, out),
-        Side::Server => print_response_header(alloc, style, message, text, out),
+        Side::Client => print_request_header(alloc, style, src, text, out),
+        Side::Server => print_response_header(alloc, style, src, text, out),
     }
 }

@@ -1,11 +1,11 @@
 //! Written by `tools/add_service.py --write` from `schema/header.txt`.
 //! The structures of the headers and the ServiceFault, as lines.
 
-use crate::lines::{Lines, Place, push_fields};
+use crate::lines::{Lines, Place};
 use crate::printed::{Last, Printed, PrintedFields};
 use crate::printing::TellFault;
-use std::alloc::{AllocError, Global};
-use std::io::Write;
+use crate::sink::Sink;
+use std::alloc::Global;
 use ua_builtin::{DateTime, ExtensionObject, NodeId, Source, StatusCode, UaString};
 use ua_services::{RequestHeader, ResponseHeader, ServiceFault, UaArray};
 use ua_variant::DiagnosticInfo;
@@ -15,15 +15,6 @@ impl Lines for RequestHeader {
     ghost use Rattle.ua_fields.specs.Header.{request_header_entries};
 
     ghost tree = { λ m. structure (request_header_entries m) };
-
-    #[tactic(auto, unfolding(crate::specs::Header::request_header_entries))]
-    fn push_lines(&self, alloc: Global, out: &mut String, place: Place) -> Result<(), AllocError> {
-        push_fields!(self, alloc, out, place =>
-            push_field authentication_token, push_field timestamp, push_field request_handle,
-            push_field return_diagnostics, push_field audit_entry_id, push_field timeout_hint,
-            push_field additional_header
-        )
-    }
 }
 
 impl Printed for RequestHeader {
@@ -31,7 +22,7 @@ impl Printed for RequestHeader {
         true
     }
 
-    fn print<S: Source, O: Write>(
+    fn print<S: Source, O: Sink>(
         alloc: Global,
         src: &mut S,
         place: Place,
@@ -66,14 +57,6 @@ impl Lines for ResponseHeader {
     ghost use Rattle.ua_fields.specs.Header.{response_header_entries};
 
     ghost tree = { λ m. structure (response_header_entries m) };
-
-    #[tactic(auto, unfolding(crate::specs::Header::response_header_entries))]
-    fn push_lines(&self, alloc: Global, out: &mut String, place: Place) -> Result<(), AllocError> {
-        push_fields!(self, alloc, out, place =>
-            push_field timestamp, push_field request_handle, push_field service_result,
-            push_field service_diagnostics, push_field string_table, push_field additional_header
-        )
-    }
 }
 
 impl Printed for ResponseHeader {
@@ -81,7 +64,7 @@ impl Printed for ResponseHeader {
         true
     }
 
-    fn print<S: Source, O: Write>(
+    fn print<S: Source, O: Sink>(
         alloc: Global,
         src: &mut S,
         place: Place,
@@ -116,11 +99,6 @@ impl Lines for ServiceFault {
     ghost use Rattle.ua_fields.specs.Header.{service_fault_entries};
 
     ghost tree = { λ m. structure (service_fault_entries m) };
-
-    #[tactic(auto, unfolding(crate::specs::Header::service_fault_entries))]
-    fn push_lines(&self, alloc: Global, out: &mut String, place: Place) -> Result<(), AllocError> {
-        push_fields!(self, alloc, out, place => push_part response_header)
-    }
 }
 
 impl Printed for ServiceFault {
@@ -128,7 +106,7 @@ impl Printed for ServiceFault {
         true
     }
 
-    fn print<S: Source, O: Write>(
+    fn print<S: Source, O: Sink>(
         alloc: Global,
         src: &mut S,
         place: Place,

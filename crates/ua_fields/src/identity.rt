@@ -8,7 +8,7 @@ ghost use Rattle.ua_fields.specs.Leaves.{user_name_token_of};
 ghost use Rattle.ua_fields.specs.Tree.{IsBehind};
 
 use crate::leaves::push_object_octets;
-use crate::lines::{Lines, Place, deeper_margin, push_fields, push_line};
+use crate::lines::{Appended, Lines, Place, deeper_margin, push_fields, push_line};
 use std::alloc::{AllocError, Global};
 use ua_builtin::{
     ExtensionBody, ExtensionObject, MOST_LEVELS, Octets, ReadFault, Source, UaBytes, UaString, Wire,
@@ -55,7 +55,9 @@ impl Lines for AnonymousIdentityToken {
     ghost use Rattle.ua_fields.specs.Leaves.{anonymous_token_entries};
 
     ghost tree = { λ m. structure (anonymous_token_entries m) };
+}
 
+impl Appended for AnonymousIdentityToken {
     #[tactic(auto, unfolding(crate::specs::Leaves::anonymous_token_entries))]
     fn push_lines(&self, alloc: Global, out: &mut String, place: Place) -> Result<(), AllocError> {
         push_fields!(self, alloc, out, place => push_field policy_id)
@@ -67,7 +69,9 @@ impl Lines for UserNameIdentityToken {
     ghost use Rattle.ua_fields.specs.Leaves.{user_name_token_entries};
 
     ghost tree = { λ m. structure (user_name_token_entries m) };
+}
 
+impl Appended for UserNameIdentityToken {
     #[tactic(auto, unfolding(crate::specs::Leaves::user_name_token_entries))]
     fn push_lines(&self, alloc: Global, out: &mut String, place: Place) -> Result<(), AllocError> {
         push_fields!(self, alloc, out, place =>
@@ -82,7 +86,9 @@ impl Lines for X509IdentityToken {
     ghost use Rattle.ua_fields.specs.Leaves.{certificate_token_entries};
 
     ghost tree = { λ m. structure (certificate_token_entries m) };
+}
 
+impl Appended for X509IdentityToken {
     #[tactic(auto, unfolding(crate::specs::Leaves::certificate_token_entries))]
     fn push_lines(&self, alloc: Global, out: &mut String, place: Place) -> Result<(), AllocError> {
         push_fields!(self, alloc, out, place => push_field policy_id, push_field certificate_data)
@@ -94,7 +100,9 @@ impl Lines for IssuedIdentityToken {
     ghost use Rattle.ua_fields.specs.Leaves.{issued_token_entries};
 
     ghost tree = { λ m. structure (issued_token_entries m) };
+}
 
+impl Appended for IssuedIdentityToken {
     #[tactic(auto, unfolding(crate::specs::Leaves::issued_token_entries))]
     fn push_lines(&self, alloc: Global, out: &mut String, place: Place) -> Result<(), AllocError> {
         push_fields!(self, alloc, out, place =>
@@ -165,7 +173,7 @@ fn found_issued(alloc: Global, octets: &[u8]) -> Result<Option<IssuedIdentityTok
 
 /// Appends an identity token: a line with the name of its type, and its fields one level deeper; if
 /// none was found, the bytes of the ExtensionObject.
-fn push_token<T: Lines + Drop>(
+fn push_token<T: Appended + Drop>(
     alloc: Global,
     out: &mut String,
     place: Place<'_>,

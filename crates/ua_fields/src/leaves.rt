@@ -6,7 +6,7 @@ ghost use Rattle.ua_fields.specs.Leaves.{object_leaf, object_or_token};
 ghost use Rattle.ua_fields.specs.Tree.{IsBehind, IsText, Leaf, text};
 
 use crate::identity::push_object;
-use crate::lines::{Lines, Place, push_line, push_start};
+use crate::lines::{Appended, Lines, Place, push_line, push_start};
 use crate::null::{is_empty, is_null_name, is_null_object, is_null_text};
 use crate::style::FieldStyle;
 use crate::text::{push_encoded_or_null, push_node};
@@ -18,12 +18,12 @@ use ua_builtin::{
 };
 use ua_texts::{
     push_base64, push_code_as, push_diagnostic, push_double, push_escaped_string, push_moment,
-    push_plain_localized, push_plain_name, push_plain_variant, push_variant, push_wide_pattern,
+    push_plain_localized, push_plain_name, push_wide_pattern,
 };
-use ua_variant::{DiagnosticInfo, HeldVariant};
+use ua_variant::DiagnosticInfo;
 
 /// A value whose text is shown on a line.
-trait Text {
+pub(crate) trait Text {
     /// What the line says.
     ghost leaf: { Self → Leaf };
 
@@ -52,11 +52,25 @@ fn push_text_line<T: Text>(
     out.push_str("\n")
 }
 
+impl<T: Text> Lines for T {
+    ghost use Rattle.ua_fields.specs.Tree.{text};
+
+    ghost tree = { λ value. text (T.leaf value) };
+}
+
+impl<T: Text> Appended for T {
+    fn push_lines(&self, alloc: Global, out: &mut String, place: Place) -> Result<(), AllocError> {
+        push_text_line(alloc, out, place, self)
+    }
+}
+
 impl<T: Text> Lines for Option<T> {
     ghost use Rattle.ua_fields.specs.Leaves.{optional_tree};
 
     ghost tree = { optional_tree T.leaf };
+}
 
+impl<T: Text> Appended for Option<T> {
     fn push_lines(&self, alloc: Global, out: &mut String, place: Place) -> Result<(), AllocError> {
         match self {
             Some(value) => push_text_line(alloc, out, place, value),
@@ -80,25 +94,6 @@ impl Text for u16 {
     }
 }
 
-impl Text for HeldVariant {
-    ghost use Rattle.ua_fields.specs.Tree.{value_of};
-
-    ghost leaf = { value_of };
-
-    fn push_text(
-        &self,
-        alloc: Global,
-        out: &mut String,
-        style: FieldStyle,
-    ) -> Result<(), AllocError> {
-        if style.plain {
-            push_plain_variant(alloc, out, self.get(), style.names)
-        } else {
-            push_variant(alloc, out, self.get())
-        }
-    }
-}
-
 impl Text for bool {
     ghost use Rattle.ua_fields.specs.Leaves.{boolean_leaf};
 
@@ -111,16 +106,6 @@ impl Text for bool {
         _style: FieldStyle,
     ) -> Result<(), AllocError> {
         out.push_str(if *self { "true" } else { "false" })
-    }
-}
-
-impl Lines for bool {
-    ghost use Rattle.ua_fields.specs.Leaves.{boolean_tree};
-
-    ghost tree = { boolean_tree };
-
-    fn push_lines(&self, alloc: Global, out: &mut String, place: Place) -> Result<(), AllocError> {
-        push_text_line(alloc, out, place, self)
     }
 }
 
@@ -139,16 +124,6 @@ impl Text for u8 {
     }
 }
 
-impl Lines for u8 {
-    ghost use Rattle.ua_fields.specs.Leaves.{number_tree};
-
-    ghost tree = { number_tree };
-
-    fn push_lines(&self, alloc: Global, out: &mut String, place: Place) -> Result<(), AllocError> {
-        push_text_line(alloc, out, place, self)
-    }
-}
-
 impl Text for u32 {
     ghost use Rattle.ua_fields.specs.Leaves.{number_leaf};
 
@@ -164,16 +139,6 @@ impl Text for u32 {
     }
 }
 
-impl Lines for u32 {
-    ghost use Rattle.ua_fields.specs.Leaves.{number_tree};
-
-    ghost tree = { number_tree };
-
-    fn push_lines(&self, alloc: Global, out: &mut String, place: Place) -> Result<(), AllocError> {
-        push_text_line(alloc, out, place, self)
-    }
-}
-
 impl Text for i32 {
     ghost use Rattle.ua_fields.specs.Leaves.{signed_leaf};
 
@@ -186,16 +151,6 @@ impl Text for i32 {
         _style: FieldStyle,
     ) -> Result<(), AllocError> {
         write!(out, "{self}")
-    }
-}
-
-impl Lines for i32 {
-    ghost use Rattle.ua_fields.specs.Leaves.{signed_tree};
-
-    ghost tree = { signed_tree };
-
-    fn push_lines(&self, alloc: Global, out: &mut String, place: Place) -> Result<(), AllocError> {
-        push_text_line(alloc, out, place, self)
     }
 }
 
@@ -218,16 +173,6 @@ impl Text for DoubleBits {
     }
 }
 
-impl Lines for DoubleBits {
-    ghost use Rattle.ua_fields.specs.Leaves.{double};
-
-    ghost tree = { double };
-
-    fn push_lines(&self, alloc: Global, out: &mut String, place: Place) -> Result<(), AllocError> {
-        push_text_line(alloc, out, place, self)
-    }
-}
-
 impl Text for DateTime {
     ghost use Rattle.ua_fields.specs.Tree.{moment_of};
 
@@ -247,16 +192,6 @@ impl Text for DateTime {
     }
 }
 
-impl Lines for DateTime {
-    ghost use Rattle.ua_fields.specs.Leaves.{date_time_tree};
-
-    ghost tree = { date_time_tree };
-
-    fn push_lines(&self, alloc: Global, out: &mut String, place: Place) -> Result<(), AllocError> {
-        push_text_line(alloc, out, place, self)
-    }
-}
-
 impl Text for StatusCode {
     ghost use Rattle.ua_fields.specs.Leaves.{code_leaf};
 
@@ -269,16 +204,6 @@ impl Text for StatusCode {
         style: FieldStyle,
     ) -> Result<(), AllocError> {
         push_code_as(out, *self, style.names)
-    }
-}
-
-impl Lines for StatusCode {
-    ghost use Rattle.ua_fields.specs.Leaves.{status_code_tree};
-
-    ghost tree = { status_code_tree };
-
-    fn push_lines(&self, alloc: Global, out: &mut String, place: Place) -> Result<(), AllocError> {
-        push_text_line(alloc, out, place, self)
     }
 }
 
@@ -297,16 +222,6 @@ impl Text for UaString {
     }
 }
 
-impl Lines for UaString {
-    ghost use Rattle.ua_fields.specs.Leaves.{string_tree};
-
-    ghost tree = { string_tree };
-
-    fn push_lines(&self, alloc: Global, out: &mut String, place: Place) -> Result<(), AllocError> {
-        push_text_line(alloc, out, place, self)
-    }
-}
-
 impl Text for UaBytes {
     ghost use Rattle.ua_fields.specs.Leaves.{bytes_leaf};
 
@@ -322,16 +237,6 @@ impl Text for UaBytes {
     }
 }
 
-impl Lines for UaBytes {
-    ghost use Rattle.ua_fields.specs.Leaves.{byte_string_tree};
-
-    ghost tree = { byte_string_tree };
-
-    fn push_lines(&self, alloc: Global, out: &mut String, place: Place) -> Result<(), AllocError> {
-        push_text_line(alloc, out, place, self)
-    }
-}
-
 impl Text for NodeId {
     ghost use Rattle.ua_fields.specs.Leaves.{node_leaf};
 
@@ -344,16 +249,6 @@ impl Text for NodeId {
         _style: FieldStyle,
     ) -> Result<(), AllocError> {
         push_node(alloc, out, self)
-    }
-}
-
-impl Lines for NodeId {
-    ghost use Rattle.ua_fields.specs.Leaves.{node_id_tree};
-
-    ghost tree = { node_id_tree };
-
-    fn push_lines(&self, alloc: Global, out: &mut String, place: Place) -> Result<(), AllocError> {
-        push_text_line(alloc, out, place, self)
     }
 }
 
@@ -378,16 +273,6 @@ impl Text for QualifiedName {
     }
 }
 
-impl Lines for QualifiedName {
-    ghost use Rattle.ua_fields.specs.Leaves.{qualified_name_tree};
-
-    ghost tree = { qualified_name_tree };
-
-    fn push_lines(&self, alloc: Global, out: &mut String, place: Place) -> Result<(), AllocError> {
-        push_text_line(alloc, out, place, self)
-    }
-}
-
 impl Text for LocalizedText {
     ghost use Rattle.ua_fields.specs.Leaves.{localized_leaf};
 
@@ -406,16 +291,6 @@ impl Text for LocalizedText {
         } else {
             push_encoded_or_null(alloc, out, is_null, self)
         }
-    }
-}
-
-impl Lines for LocalizedText {
-    ghost use Rattle.ua_fields.specs.Leaves.{localized_text_tree};
-
-    ghost tree = { localized_text_tree };
-
-    fn push_lines(&self, alloc: Global, out: &mut String, place: Place) -> Result<(), AllocError> {
-        push_text_line(alloc, out, place, self)
     }
 }
 
@@ -440,34 +315,20 @@ impl Text for DiagnosticInfo {
     }
 }
 
-impl Lines for DiagnosticInfo {
-    ghost use Rattle.ua_fields.specs.Leaves.{diagnostic_info};
-
-    ghost tree = { diagnostic_info };
-
-    fn push_lines(&self, alloc: Global, out: &mut String, place: Place) -> Result<(), AllocError> {
-        push_text_line(alloc, out, place, self)
-    }
-}
-
-impl Text for ExtensionObject {
-    ghost use Rattle.ua_fields.specs.Leaves.{object_leaf, object_or_token};
-
-    ghost leaf = { object_leaf };
-
-    #[tactic(auto, unfolding(crate::specs::Leaves::encoded_text))]
-    fn push_text(
-        &self,
-        alloc: Global,
-        out: &mut String,
-        _style: FieldStyle,
-    ) -> Result<(), AllocError> {
-        push_encoded_or_null(alloc, out, is_null_object(self), self)
-    }
+/// Appends the text of an ExtensionObject by its bytes.
+#[tactic(auto, unfolding(crate::specs::Leaves::encoded_text))]
+fn push_object_text(
+    alloc: Global,
+    out: &mut String,
+    style: FieldStyle,
+    object: &ExtensionObject,
+) -> Result<(), AllocError>
+    ensures { Adds result (string_bytes out.old) (string_bytes out.new) (IsText style (object_leaf object.now)) }
+{
+    push_encoded_or_null(alloc, out, is_null_object(object), object)
 }
 
 /// Appends the line of an ExtensionObject by its bytes.
-#[tactic(auto, using(crate::proofs::Identities::no_token))]
 pub(crate) fn push_object_octets(
     alloc: Global,
     out: &mut String,
@@ -477,14 +338,18 @@ pub(crate) fn push_object_octets(
     ensures { OnOk result (IsBehind place.entry.style place.entry.margin.now place.entry.path.now (string_bytes out.old)
         (object_or_token object.now None) (string_bytes out.new)) }
 {
-    push_text_line(alloc, out, place, object)
+    push_start(out, place)?;
+    push_object_text(alloc, out, place.style, object)?;
+    out.push_str("\n")
 }
 
 impl Lines for ExtensionObject {
     ghost use Rattle.ua_fields.specs.Leaves.{extension_object_tree};
 
     ghost tree = { extension_object_tree };
+}
 
+impl Appended for ExtensionObject {
     fn push_lines(&self, alloc: Global, out: &mut String, place: Place) -> Result<(), AllocError> {
         push_object(alloc, out, place, self)
     }

@@ -6,18 +6,16 @@
 //!
 //! ```
 //! let mut out = String::new(alloc);
-//! push_request_fields(alloc, &request, false, &mut out)?; // one line each
-//! push_body_fields(alloc, BodyKind::Response, true, &mut src, &mut out)?; // a response
+//! push_body_fields(alloc, BodyKind::Response, true, &mut src, &mut out)?; // one line each
 //! ```
 //!
-//! [`print_message`], [`print_opening`] and [`print_header`] write the lines of a message as it is
-//! read, into a text that they hand to a writer whenever it is long.
+//! [`print_body`] and [`print_header`] print the lines of a message as it is read, into a text that
+//! they hand to a [`Sink`] whenever it is long: a writer is one.
 #![tactic(auto)]
 
 mod array;
 mod attribute;
 mod body;
-mod data_value;
 mod discovery;
 mod elements;
 mod headed;
@@ -30,9 +28,9 @@ mod node;
 mod null;
 mod opened;
 mod path;
-mod pending;
 mod pieces;
 mod plain;
+mod plain_leaf;
 mod plain_parts;
 mod printed;
 mod printing;
@@ -41,20 +39,17 @@ mod secure_channel;
 mod security_token;
 mod session;
 mod side;
+mod sink;
 mod style;
 mod text;
 mod value;
 mod whole;
 
-pub use body::{BodyKind, push_body_fields, push_body_text, push_header_fields};
+pub use body::{BodyKind, print_body, push_body_fields};
 pub use headed::print_header;
-pub use message::{
-    push_close_request_fields, push_open_answer_fields, push_open_request_fields,
-    push_open_response_fields, push_request_fields, push_response_fields,
-};
-pub use opened::{print_opening, skip_open_response};
-pub use pending::print_message;
-pub use printing::{PrintFault, write_full, write_kept};
+pub use opened::skip_open_response;
+pub use printing::{PrintFault, write_kept};
 pub use side::Side;
+pub use sink::{Kept, Sink};
 pub use style::FieldStyle;
 pub use text::push_node;

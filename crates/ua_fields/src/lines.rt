@@ -1,9 +1,9 @@
 //! Values as lines, and their places.
 
 ghost use Rattle.std.specs.Prelude.{◌≡◌, ◌++◌, codes, string_bytes, OnOk, IfOk};
-ghost use Rattle.ua_fields.specs.Tree.{Tree, IsBehind, deeper, element_path, field_path, line};
+ghost use Rattle.ua_fields.specs.Tree.{Tree, deeper, line};
 
-use crate::path::{path_of_element, path_of_field};
+use crate::path::path_of_field;
 use crate::style::FieldStyle;
 use std::alloc::{AllocError, Global};
 
@@ -18,15 +18,21 @@ pub(crate) struct Place<'a> {
     pub(crate) path: &'a str,
 }
 
-/// A value that is printed as lines, one for each of its fields.
+/// A value that has lines, one for each of its fields.
 pub(crate) trait Lines {
     /// The value as a tree of its fields.
     ghost tree: { Self → Tree };
+}
+
+/// A value whose lines are appended at once.
+pub(crate) trait Appended: Lines {
+    ghost use Rattle.std.specs.Prelude.{string_bytes, OnOk};
+    ghost use Rattle.ua_fields.specs.Tree.{IsBehind};
 
     /// Appends the lines of the value.
     fn push_lines(&self, alloc: Global, out: &mut String, place: Place) -> Result<(), AllocError>
         ensures { OnOk result (IsBehind place.entry.style place.entry.margin.now place.entry.path.now
-            (string_bytes out.old) (tree self.now) (string_bytes out.new)) };
+            (string_bytes out.old) (Self.tree self.now) (string_bytes out.new)) };
 }
 
 /// Appends what comes before the text of a line.
@@ -63,10 +69,10 @@ pub(crate) fn deeper_margin(alloc: Global, margin: &str) -> Result<String, Alloc
 
 impl<'a> Place<'a> {
     ghost use Rattle.std.specs.Prelude.{string_bytes, OnOk};
-    ghost use Rattle.ua_fields.specs.Tree.{IsBehind, deeper, element_path, field_path};
+    ghost use Rattle.ua_fields.specs.Tree.{IsBehind, deeper, field_path};
 
     /// Appends the lines of a field that is no structure.
-    pub(crate) fn push_field<T: Lines>(
+    pub(crate) fn push_field<T: Appended>(
         self,
         alloc: Global,
         out: &mut String,
@@ -86,7 +92,7 @@ impl<'a> Place<'a> {
     }
 
     /// Appends the lines of a field that is a structure.
-    pub(crate) fn push_part<T: Lines>(
+    pub(crate) fn push_part<T: Appended>(
         self,
         alloc: Global,
         out: &mut String,
@@ -104,26 +110,6 @@ impl<'a> Place<'a> {
             path: self.path,
         };
         inner.push_field(alloc, out, name, value)
-    }
-
-    /// Appends the lines of an element.
-    pub(crate) fn push_element<T: Lines>(
-        self,
-        alloc: Global,
-        out: &mut String,
-        index: usize,
-        value: &T,
-    ) -> Result<(), AllocError>
-        ensures { OnOk result (IsBehind self.entry.style self.entry.margin.now (element_path self.entry.path.now index)
-            (string_bytes out.old) (T.tree value.now) (string_bytes out.new)) }
-    {
-        let path = path_of_element(alloc, self.path, index)?;
-        let inner = Place {
-            style: self.style,
-            margin: self.margin,
-            path: path.as_str(),
-        };
-        value.push_lines(alloc, out, inner)
     }
 }
 

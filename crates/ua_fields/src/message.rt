@@ -1,156 +1,153 @@
-//! Messages as lines.
+//! The fields of a whole message, as lines that are printed as it is read.
 
-ghost use Rattle.std.specs.Prelude.{◌≡◌, ◌++◌, string_bytes, OnOk};
-ghost use Rattle.ua_texts.specs.PlainLeaf.{Adds};
-ghost use Rattle.ua_fields.specs.Messages.{AreMessageLines, close_request_fields, message_lines, open_answer_fields};
-ghost use Rattle.ua_fields.specs.Messages.{open_request_fields, open_response_fields, request_fields, response_fields};
+ghost use Rattle.std.specs.Prelude.{◌≡◌, List, ℕ, [], Result, Ok, string_bytes};
+ghost use Rattle.ua_fields.specs.Bodies.{IsBodyText};
+ghost use Rattle.ua_fields.specs.Messages.{AreMessageLines};
+ghost use Rattle.ua_fields.specs.Printing.{BreaksRead, IsTextBehind, IsThereBehind};
+ghost use Rattle.ua_fields.specs.Printing.{PrintsText, PrintsOrBreaks, PrintsRead};
+ghost use Rattle.ua_fields.specs.Printing.{behind_id_read};
+ghost use Rattle.ua_fields.specs.declared.body.BodyKind.TheVariants as body;
+ghost use Rattle.ua_services.specs.Request.{kind_alone, request_read};
+ghost use Rattle.ua_services.specs.Response.{response_kind_alone, response_read};
+ghost use Rattle.ua_services.specs.declared.fault.RequestFault.{RequestFault};
+ghost use Rattle.ua_services.specs.declared.fault.ResponseFault.{ResponseFault};
 
-use crate::lines::{Lines, Place};
+use crate::lines::Place;
+use crate::printed::Printed;
+use crate::printing::{PrintFault, TellFault};
+use crate::sink::Sink;
 use crate::style::FieldStyle;
-use std::alloc::{AllocError, Global};
+use std::alloc::Global;
+use ua_builtin::{MOST_LEVELS, NodeId, Source, Wire};
 use ua_services::{
-    CloseRequest, OpenAnswer, OpenRequest, OpenResponse, Request, Response, by_kind, requests,
-    responses,
+    RequestFault, RequestKind, ResponseFault, ResponseKind, requests, responses, skip_request,
+    skip_response,
 };
 
-impl Lines for Request {
-    ghost use Rattle.ua_fields.specs.Messages.{request_tree};
-
-    ghost tree = { request_tree };
-
-    fn push_lines(&self, alloc: Global, out: &mut String, place: Place) -> Result<(), AllocError> {
-        requests!(by_kind, self, message, _number => message.push_lines(alloc, out, place))
-    }
-}
-
-impl Lines for Response {
-    ghost use Rattle.ua_fields.specs.Messages.{response_tree};
-
-    ghost tree = { response_tree };
-
-    fn push_lines(&self, alloc: Global, out: &mut String, place: Place) -> Result<(), AllocError> {
-        responses!(by_kind, self, message, _number => message.push_lines(alloc, out, place))
-    }
-}
-
-impl Lines for OpenAnswer {
-    ghost use Rattle.ua_fields.specs.Messages.{open_answer_tree};
-
-    ghost tree = { open_answer_tree };
-
-    fn push_lines(&self, alloc: Global, out: &mut String, place: Place) -> Result<(), AllocError> {
-        match self {
-            OpenAnswer::Open(message) => message.push_lines(alloc, out, place),
-            OpenAnswer::Fault(message) => message.push_lines(alloc, out, place),
-        }
-    }
-}
-
-/// Appends the lines of a message in this style.
-#[tactic(auto, using(crate::proofs::Behind::lines_added))]
-pub(crate) fn push_message<T: Lines>(
+/// Reads the NodeId at the start of the source, and the structure after it, and prints the lines of
+/// the structure.
+fn print_behind<T: Printed, S: Source, O: Sink>(
     alloc: Global,
-    message: &T,
     style: FieldStyle,
-    out: &mut String,
-) -> Result<(), AllocError>
-    ensures { Adds result (string_bytes out.old) (string_bytes out.new) (AreMessageLines style (T.tree message.now)) }
+    src: &mut S,
+    text: &mut String,
+    out: &mut O,
+) -> Result<(), TellFault>
+    ensures { PrintsRead (behind_id_read T.format) (S.octets src.old) (S.octets src.new)
+        (λ value. PrintsText (O.contents out.old) (string_bytes text.old) (O.contents out.new) (string_bytes text.new)
+        (AreMessageLines style (T.tree value)))
+        (BreaksRead style (behind_id_read T.format) (S.octets src.old)
+        (O.contents out.old) (string_bytes text.old) (O.contents out.new)
+        (λ value. AreMessageLines style (T.tree value))) result }
 {
+    let id = NodeId::read_value(alloc, src, MOST_LEVELS)?;
+    drop(id);
     let place = Place {
         style,
         margin: "  ",
         path: "",
     };
-    message.push_lines(alloc, out, place)
+    T::print(alloc, src, place, text, out)
 }
 
-/// Appends the exact lines of a message.
-#[tactic(auto, using(crate::proofs::Behind::exact_lines))]
-fn push_exact<T: Lines>(
+/// Prints the lines of the structure that is there after the NodeId at the start of the source.
+/// Discard the source afterwards.
+pub(crate) fn print_known<T: Printed, S: Source, O: Sink>(
     alloc: Global,
-    message: &T,
-    names: bool,
-    out: &mut String,
-) -> Result<(), AllocError>
-    ensures { OnOk result (string_bytes out.new ≡ string_bytes out.old ++ message_lines names (T.tree message.now)) }
+    style: FieldStyle,
+    src: &mut S,
+    text: &mut String,
+    out: &mut O,
+) -> Result<(), PrintFault>
+    requires { IsThereBehind T.format (S.octets src.old) }
+    ensures { PrintsOrBreaks style (O.contents out.old) (string_bytes text.old) (O.contents out.new)
+        (string_bytes text.new) (IsTextBehind T.format (λ value. AreMessageLines style (T.tree value))
+        (S.octets src.old)) result }
 {
-    push_message(alloc, message, FieldStyle::exact(names), out)
+    match print_behind::<T, S, O>(alloc, style, src, text, out) {
+        Ok(()) | Err(TellFault::NoValue) => Ok(()),
+        Err(TellFault::OutOfMemory) => Err(PrintFault::OutOfMemory),
+        Err(TellFault::Output(error)) => Err(PrintFault::Output(error)),
+    }
 }
 
-/// Appends the lines of a request, one for each of its fields, indented by two spaces and two more
-/// for each level, with or without the standard names of StatusCodes. If an allocation fails, some
-/// of them may have been appended.
-pub fn push_request_fields(
-    alloc: Global,
-    request: &Request,
-    names: bool,
-    out: &mut String,
-) -> Result<(), AllocError>
-    ensures fields { OnOk result (string_bytes out.new ≡ string_bytes out.old ++ request_fields names request.now) }
-{
-    push_exact(alloc, request, names, out)
+/// Prints the lines of a message of a kind, as the structure that it holds is read.
+macro_rules! print_of_kind {
+    ($all:ident $kinds:ident [$($kind:ident($held:ident) = $of:literal,)+] $of_kind:expr, $src:ident, $out:ident,
+        $given:tt) => {
+        match $of_kind {
+            $($kinds::$kind => print_known::<ua_services::$held, $src, $out> $given,)+
+        }
+    };
 }
 
-/// Appends the lines of a response, as [`push_request_fields`] does for a request.
-pub fn push_response_fields(
+/// Prints the lines of a request of a kind.
+fn print_request_of<S: Source, O: Sink>(
     alloc: Global,
-    response: &Response,
-    names: bool,
-    out: &mut String,
-) -> Result<(), AllocError>
-    ensures fields { OnOk result (string_bytes out.new ≡ string_bytes out.old ++ response_fields names response.now) }
+    kind: RequestKind,
+    style: FieldStyle,
+    src: &mut S,
+    text: &mut String,
+    out: &mut O,
+) -> Result<(), PrintFault>
+    requires { ◌≡◌ {A = Result RequestKind RequestFault} (Ok kind) (kind_alone (request_read (S.octets src.old))) }
+    ensures { PrintsOrBreaks style (O.contents out.old) (string_bytes text.old) (O.contents out.new)
+        (string_bytes text.new) (IsBodyText style body.Request (S.octets src.old)) result }
 {
-    push_exact(alloc, response, names, out)
+    requests!(print_of_kind, kind, S, O, (alloc, style, src, text, out))
 }
 
-/// Appends the lines of an OpenSecureChannel request, as [`push_request_fields`] does.
-pub fn push_open_request_fields(
+/// Prints the lines of the request that a message is, or none.
+pub(crate) fn print_request<S: Source, O: Sink>(
     alloc: Global,
-    request: &OpenRequest,
-    names: bool,
-    out: &mut String,
-) -> Result<(), AllocError>
-    ensures fields { OnOk result
-        (string_bytes out.new ≡ string_bytes out.old ++ open_request_fields names request.now) }
+    style: FieldStyle,
+    src: &mut S,
+    text: &mut String,
+    out: &mut O,
+) -> Result<(), PrintFault>
+    ensures { PrintsOrBreaks style (O.contents out.old) (string_bytes text.old) (O.contents out.new)
+        (string_bytes text.new) (IsBodyText style body.Request (S.octets src.old)) result }
 {
-    push_exact(alloc, request, names, out)
+    match skip_request(alloc, &mut src.fork()) {
+        Ok(kind) => print_request_of(alloc, kind, style, src, text, out),
+        Err(RequestFault::Unsupported(_)) => Ok(()),
+        Err(RequestFault::Unreadable(_)) => Ok(()),
+        Err(RequestFault::OutOfMemory) => Err(PrintFault::OutOfMemory),
+    }
 }
 
-/// Appends the lines of an OpenSecureChannel response, as [`push_request_fields`] does.
-pub fn push_open_response_fields(
+/// Prints the lines of a response of a kind.
+fn print_response_of<S: Source, O: Sink>(
     alloc: Global,
-    response: &OpenResponse,
-    names: bool,
-    out: &mut String,
-) -> Result<(), AllocError>
-    ensures fields { OnOk result
-        (string_bytes out.new ≡ string_bytes out.old ++ open_response_fields names response.now) }
+    kind: ResponseKind,
+    style: FieldStyle,
+    src: &mut S,
+    text: &mut String,
+    out: &mut O,
+) -> Result<(), PrintFault>
+    requires { ◌≡◌ {A = Result ResponseKind ResponseFault} (Ok kind)
+        (response_kind_alone (response_read (S.octets src.old))) }
+    ensures { PrintsOrBreaks style (O.contents out.old) (string_bytes text.old) (O.contents out.new)
+        (string_bytes text.new) (IsBodyText style body.Response (S.octets src.old)) result }
 {
-    push_exact(alloc, response, names, out)
+    responses!(print_of_kind, kind, S, O, (alloc, style, src, text, out))
 }
 
-/// Appends the lines of the response to an OpenSecureChannel request: an OpenSecureChannel response
-/// or a ServiceFault.
-pub fn push_open_answer_fields(
+/// Prints the lines of the response that a message is, or none.
+pub(crate) fn print_response<S: Source, O: Sink>(
     alloc: Global,
-    answer: &OpenAnswer,
-    names: bool,
-    out: &mut String,
-) -> Result<(), AllocError>
-    ensures fields { OnOk result (string_bytes out.new ≡ string_bytes out.old ++ open_answer_fields names answer.now) }
+    style: FieldStyle,
+    src: &mut S,
+    text: &mut String,
+    out: &mut O,
+) -> Result<(), PrintFault>
+    ensures { PrintsOrBreaks style (O.contents out.old) (string_bytes text.old) (O.contents out.new)
+        (string_bytes text.new) (IsBodyText style body.Response (S.octets src.old)) result }
 {
-    push_exact(alloc, answer, names, out)
-}
-
-/// Appends the lines of a CloseSecureChannel request, as [`push_request_fields`] does.
-pub fn push_close_request_fields(
-    alloc: Global,
-    request: &CloseRequest,
-    names: bool,
-    out: &mut String,
-) -> Result<(), AllocError>
-    ensures fields { OnOk result
-        (string_bytes out.new ≡ string_bytes out.old ++ close_request_fields names request.now) }
-{
-    push_exact(alloc, request, names, out)
+    match skip_response(alloc, &mut src.fork()) {
+        Ok(kind) => print_response_of(alloc, kind, style, src, text, out),
+        Err(ResponseFault::Unknown) => Ok(()),
+        Err(ResponseFault::Unreadable) => Ok(()),
+        Err(ResponseFault::OutOfMemory) => Err(PrintFault::OutOfMemory),
+    }
 }

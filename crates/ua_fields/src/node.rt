@@ -11,9 +11,9 @@ ghost use Rattle.ua_texts.specs.Shown.{escaped};
 
 use crate::lines::{Place, push_start};
 use crate::pieces::{print_base64, print_escaped};
-use crate::printing::{PrintFault, write_full};
+use crate::printing::PrintFault;
+use crate::sink::Sink;
 use std::alloc::Global;
-use std::io::Write;
 use ua_builtin::{Identifier, NodeId, UaBytes, UaString};
 
 /// The identifier, with null in place of a text or of bytes.
@@ -29,7 +29,7 @@ fn nulled(identifier: &Identifier) -> Identifier
 }
 
 /// Prints bytes in base64, in pieces. None of its characters is escaped.
-fn print_escaped_base64<O: Write>(
+fn print_escaped_base64<O: Sink>(
     octets: &[u8],
     text: &mut String,
     out: &mut O,
@@ -41,7 +41,7 @@ fn print_escaped_base64<O: Write>(
 }
 
 /// Prints what `nulled` leaves out of the text of a NodeId, escaped, in pieces.
-fn print_left_out<O: Write>(
+fn print_left_out<O: Sink>(
     identifier: &Identifier,
     text: &mut String,
     out: &mut O,
@@ -60,7 +60,7 @@ fn print_left_out<O: Write>(
 }
 
 /// Prints the text of a NodeId, escaped, in pieces.
-fn print_node<O: Write>(
+fn print_node<O: Sink>(
     alloc: Global,
     id: &NodeId,
     text: &mut String,
@@ -75,7 +75,7 @@ fn print_node<O: Write>(
 }
 
 /// Prints the line of a NodeId, its text in pieces.
-pub(crate) fn print_node_line<O: Write>(
+pub(crate) fn print_node_line<O: Sink>(
     alloc: Global,
     place: Place<'_>,
     id: &NodeId,
@@ -88,6 +88,6 @@ pub(crate) fn print_node_line<O: Write>(
     push_start(text, place)?;
     print_node(alloc, id, text, out)?;
     text.push_str("\n")?;
-    write_full(text, out)?;
+    out.write_full(text)?;
     Ok(())
 }

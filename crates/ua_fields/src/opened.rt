@@ -6,17 +6,16 @@ ghost use Rattle.ua_builtin.specs.Format.{Gives, most_levels};
 ghost use Rattle.ua_opening.specs.Header.{service_fault};
 ghost use Rattle.ua_opening.specs.Message.{body_of, message};
 ghost use Rattle.ua_opening.specs.SecureChannel.{open_response};
-ghost use Rattle.ua_fields.specs.Bodies.{IsBodyText, opening_kind};
+ghost use Rattle.ua_fields.specs.Bodies.{IsBodyText};
 ghost use Rattle.ua_fields.specs.Printing.{PrintsOrBreaks};
 ghost use Rattle.ua_fields.specs.declared.body.BodyKind.TheVariants as body;
 
-use crate::pending::print_known;
+use crate::message::print_known;
 use crate::printing::PrintFault;
-use crate::side::Side;
+use crate::sink::Sink;
 use crate::style::FieldStyle;
 use std::alloc::{AllocError, Global};
-use std::io::Write;
-use ua_builtin::{DateTime, MOST_LEVELS, NodeId, Octets, ReadFault, Skip, Source, UaBytes, Wire};
+use ua_builtin::{DateTime, MOST_LEVELS, NodeId, ReadFault, Skip, Source, UaBytes, Wire};
 use ua_opening::standard_number;
 use ua_services::{OpenRequest, OpenResponse, ResponseHeader, ServiceFault, read_open_request};
 
@@ -94,62 +93,42 @@ fn is_service_fault<S: Source>(alloc: Global, src: &mut S) -> Result<bool, Alloc
 }
 
 /// Prints the lines of the OpenSecureChannel request that bytes are, or none.
-fn print_open_request<O: Write>(
+pub(crate) fn print_open_request<S: Source, O: Sink>(
     alloc: Global,
     style: FieldStyle,
-    octets: &[u8],
+    src: &mut S,
     text: &mut String,
     out: &mut O,
 ) -> Result<(), PrintFault>
     ensures { PrintsOrBreaks style (O.contents out.old) (string_bytes text.old) (O.contents out.new)
-        (string_bytes text.new) (IsBodyText style body.OpenRequest octets.now) result }
+        (string_bytes text.new) (IsBodyText style body.OpenRequest (S.octets src.old)) result }
 {
-    match read_open_request(alloc, &mut Octets::new(octets)) {
+    match read_open_request(alloc, &mut src.fork()) {
         Ok(request) => drop(request),
         Err(ReadFault::NoValue) => return Ok(()),
         Err(ReadFault::OutOfMemory) => return Err(PrintFault::OutOfMemory),
     }
-    print_known::<OpenRequest, Octets<'_>, O>(alloc, style, &mut Octets::new(octets), text, out)
+    print_known::<OpenRequest, S, O>(alloc, style, src, text, out)
 }
 
 /// Prints the lines of the response to an OpenSecureChannel request that bytes are, or none.
-fn print_open_answer<O: Write>(
+pub(crate) fn print_open_answer<S: Source, O: Sink>(
     alloc: Global,
     style: FieldStyle,
-    octets: &[u8],
+    src: &mut S,
     text: &mut String,
     out: &mut O,
 ) -> Result<(), PrintFault>
     ensures { PrintsOrBreaks style (O.contents out.old) (string_bytes text.old) (O.contents out.new)
-        (string_bytes text.new) (IsBodyText style body.OpenResponse octets.now) result }
+        (string_bytes text.new) (IsBodyText style body.OpenResponse (S.octets src.old)) result }
 {
-    let is_open = is_open_response(alloc, &mut Octets::new(octets))?;
+    let is_open = is_open_response(alloc, &mut src.fork())?;
     if is_open {
-        let mut src = Octets::new(octets);
-        return print_known::<OpenResponse, Octets<'_>, O>(alloc, style, &mut src, text, out);
+        return print_known::<OpenResponse, S, O>(alloc, style, src, text, out);
     }
-    let is_fault = is_service_fault(alloc, &mut Octets::new(octets))?;
+    let is_fault = is_service_fault(alloc, &mut src.fork())?;
     if is_fault {
-        let mut src = Octets::new(octets);
-        return print_known::<ServiceFault, Octets<'_>, O>(alloc, style, &mut src, text, out);
+        return print_known::<ServiceFault, S, O>(alloc, style, src, text, out);
     }
     Ok(())
-}
-
-/// Prints the lines of the body of an OPN that this side sent, or none.
-pub fn print_opening<O: Write>(
-    alloc: Global,
-    side: Side,
-    style: FieldStyle,
-    octets: &[u8],
-    text: &mut String,
-    out: &mut O,
-) -> Result<(), PrintFault>
-    ensures { PrintsOrBreaks style (O.contents out.old) (string_bytes text.old) (O.contents out.new)
-        (string_bytes text.new) (IsBodyText style (opening_kind side) octets.now) result }
-{
-    match side {
-        Side::Client => print_open_request(alloc, style, octets, text, out),
-        Side::Server => print_open_answer(alloc, style, octets, text, out),
-    }
 }

@@ -6,22 +6,23 @@ ghost use Rattle.base64.specs.GeneralPurpose.{encode_of};
 ghost use Rattle.hex.specs.Hex.{encode_lower};
 ghost use Rattle.ua_fields.specs.Printing.{PrintsPieces};
 ghost use Rattle.ua_fields.specs.Tree.{line};
+ghost use Rattle.ua_texts.specs.Marks.{marked, marked_string};
 ghost use Rattle.ua_texts.specs.Shown.{escaped, octets_text, shown, written_text};
 
 use crate::lines::{Place, push_line, push_start};
-use crate::printing::{PrintFault, write_full};
+use crate::printing::PrintFault;
+use crate::sink::Sink;
 use base64::engine::general_purpose::STANDARD;
 use std::alloc::{AllocError, Global};
-use std::io::Write;
-use ua_builtin::{Wire, WriteFault};
-use ua_texts::{push_char, push_escaped_char};
+use ua_builtin::{UaString, Wire, WriteFault};
+use ua_texts::{Marks, push_char, push_escaped_char, push_marked_char};
 
 /// The bytes of a piece, which base64 has in groups of three. A value of no more bytes is printed
 /// whole.
 pub(crate) const PIECE: usize = 24576;
 
 /// Prints a text, escaped, in pieces.
-pub(crate) fn print_escaped<O: Write>(
+pub(crate) fn print_escaped<O: Sink>(
     value: &str,
     text: &mut String,
     out: &mut O,
@@ -31,13 +32,13 @@ pub(crate) fn print_escaped<O: Write>(
 {
     for c in value.chars() {
         push_escaped_char(text, c)?;
-        write_full(text, out)?;
+        out.write_full(text)?;
     }
     Ok(())
 }
 
 /// Prints a text as the Strings in a value are shown, in pieces.
-pub(crate) fn print_shown<O: Write>(
+pub(crate) fn print_shown<O: Sink>(
     value: &str,
     text: &mut String,
     out: &mut O,
@@ -47,13 +48,47 @@ pub(crate) fn print_shown<O: Write>(
 {
     for c in value.chars() {
         push_char(text, c)?;
-        write_full(text, out)?;
+        out.write_full(text)?;
+    }
+    Ok(())
+}
+
+/// Prints a text with each mark by its digits, and each other character as it is shown, in pieces.
+pub(crate) fn print_marked<O: Sink>(
+    value: &str,
+    marks: Marks,
+    text: &mut String,
+    out: &mut O,
+) -> Result<(), PrintFault>
+    ensures { PrintsPieces (O.contents out.old) (string_bytes text.old) (O.contents out.new) (string_bytes text.new)
+        (marked marks value.now) result }
+{
+    for c in value.chars() {
+        push_marked_char(text, c, marks)?;
+        out.write_full(text)?;
+    }
+    Ok(())
+}
+
+/// Prints a String with its marks escaped, in pieces, null as `null`.
+pub(crate) fn print_marked_string<O: Sink>(
+    value: &UaString,
+    marks: Marks,
+    text: &mut String,
+    out: &mut O,
+) -> Result<(), PrintFault>
+    ensures { PrintsPieces (O.contents out.old) (string_bytes text.old) (O.contents out.new) (string_bytes text.new)
+        (marked_string marks value.now) result }
+{
+    match value.as_str() {
+        Some(value) => print_marked(value, marks, text, out)?,
+        None => text.push_str("null")?,
     }
     Ok(())
 }
 
 /// Prints bytes in base64, in pieces.
-pub(crate) fn print_base64<O: Write>(
+pub(crate) fn print_base64<O: Sink>(
     octets: &[u8],
     text: &mut String,
     out: &mut O,
@@ -64,7 +99,7 @@ pub(crate) fn print_base64<O: Write>(
     let mut rest = octets;
     while let Some((piece, others)) = rest.split_at_checked(PIECE) {
         STANDARD.encode_string(piece, text)?;
-        write_full(text, out)?;
+        out.write_full(text)?;
         rest = others;
     }
     STANDARD.encode_string(rest, text)?;
@@ -80,7 +115,7 @@ fn push_digits(alloc: Global, octets: &[u8], text: &mut String) -> Result<(), Al
 }
 
 /// Prints bytes as `0x` and two hexadecimal digits for each, in pieces.
-pub(crate) fn print_octets<O: Write>(
+pub(crate) fn print_octets<O: Sink>(
     alloc: Global,
     octets: &[u8],
     text: &mut String,
@@ -93,7 +128,7 @@ pub(crate) fn print_octets<O: Write>(
     let mut rest = octets;
     while let Some((piece, others)) = rest.split_at_checked(PIECE) {
         push_digits(alloc, piece, text)?;
-        write_full(text, out)?;
+        out.write_full(text)?;
         rest = others;
     }
     push_digits(alloc, rest, text)?;
@@ -101,7 +136,7 @@ pub(crate) fn print_octets<O: Write>(
 }
 
 /// Prints the line of a text, escaped, in pieces.
-pub(crate) fn print_escaped_line<O: Write>(
+pub(crate) fn print_escaped_line<O: Sink>(
     place: Place<'_>,
     value: &str,
     text: &mut String,
@@ -113,12 +148,12 @@ pub(crate) fn print_escaped_line<O: Write>(
     push_start(text, place)?;
     print_escaped(value, text, out)?;
     text.push_str("\n")?;
-    write_full(text, out)?;
+    out.write_full(text)?;
     Ok(())
 }
 
 /// Prints the line of bytes in base64, in pieces.
-pub(crate) fn print_base64_line<O: Write>(
+pub(crate) fn print_base64_line<O: Sink>(
     place: Place<'_>,
     octets: &[u8],
     text: &mut String,
@@ -130,12 +165,12 @@ pub(crate) fn print_base64_line<O: Write>(
     push_start(text, place)?;
     print_base64(octets, text, out)?;
     text.push_str("\n")?;
-    write_full(text, out)?;
+    out.write_full(text)?;
     Ok(())
 }
 
 /// Prints the line of bytes as `0x` and their hexadecimal digits, in pieces.
-pub(crate) fn print_octets_line<O: Write>(
+pub(crate) fn print_octets_line<O: Sink>(
     alloc: Global,
     place: Place<'_>,
     octets: &[u8],
@@ -148,13 +183,13 @@ pub(crate) fn print_octets_line<O: Write>(
     push_start(text, place)?;
     print_octets(alloc, octets, text, out)?;
     text.push_str("\n")?;
-    write_full(text, out)?;
+    out.write_full(text)?;
     Ok(())
 }
 
 /// Prints the line of a value by the bytes of its canonical encoding, in pieces, or `unwritable` if
 /// it has none.
-pub(crate) fn print_encoded_line<T: Wire, O: Write>(
+pub(crate) fn print_encoded_line<T: Wire, O: Sink>(
     alloc: Global,
     place: Place<'_>,
     value: &T,

@@ -15,13 +15,13 @@ ghost use Rattle.ua_fields.specs.Styles.{plain_field_style};
 
 use crate::elements::push_comma;
 use crate::plain_parts::{ahead_dims, print_plain_diagnostic, print_plain_leaf, print_plain_rest};
-use crate::printing::{TellFault, write_full};
+use crate::printing::TellFault;
 use crate::recoded::encode_variant;
+use crate::sink::Sink;
 use crate::value::{
     ARRAY, DIMENSIONS, KNOWN_FLAGS, SHORT, TYPE_ID, VALUE, VALUE_LEVELS, is_read_kind, starts_plain,
 };
 use std::alloc::Global;
-use std::io::Write;
 use ua_builtin::{FIRST_NEGATIVE, Source, Wire};
 use ua_diagnostic::{read_no_dims, skip_dims};
 use ua_texts::{push_array_type, push_plain_variant, type_name};
@@ -29,7 +29,7 @@ use ua_variant::Variant;
 
 /// Reads the Variant at the start of the source, and prints its text as people write it. What is
 /// not long is decoded whole.
-pub(crate) fn print_plain_variant<S: Source, O: Write>(
+pub(crate) fn print_plain_variant<S: Source, O: Sink>(
     alloc: Global,
     src: &mut S,
     names: bool,
@@ -40,7 +40,7 @@ pub(crate) fn print_plain_variant<S: Source, O: Write>(
         (S.octets src.old) (S.octets src.new)
         (O.contents out.old) (string_bytes text.old) (O.contents out.new) (string_bytes text.new) result }
 {
-    if src.left() <= SHORT || starts_plain(src) {
+    if src.left() <= SHORT || (starts_plain(src) && !starts_long(alloc, src)) {
         let mut ahead = src.fork();
         let value = Variant::read_value(alloc, &mut ahead, VALUE_LEVELS)?;
         if src.left().saturating_sub(ahead.left()) <= SHORT {
@@ -52,9 +52,22 @@ pub(crate) fn print_plain_variant<S: Source, O: Write>(
     print_long(alloc, src, names, text, out)
 }
 
+/// Whether a String, a ByteString or an XmlElement of more bytes than are decoded whole is at the
+/// start of the source.
+fn starts_long<S: Source>(alloc: Global, src: &S) -> bool {
+    let mut ahead = src.fork();
+    let Ok(tag) = u8::read_value(alloc, &mut ahead, 0) else {
+        return false;
+    };
+    let Ok(count) = u32::read_value(alloc, &mut ahead, 0) else {
+        return false;
+    };
+    matches!(tag, 12 | 15 | 16) && count < FIRST_NEGATIVE && count as usize > SHORT
+}
+
 /// Reads the Variant at the start of the source, and prints its text, as it is read. It is read
 /// before, which tells whether it can be encoded.
-fn print_long<S: Source, O: Write>(
+fn print_long<S: Source, O: Sink>(
     alloc: Global,
     src: &mut S,
     names: bool,
@@ -80,7 +93,7 @@ fn print_long<S: Source, O: Write>(
 /// Reads a Variant of at most that nesting depth, and prints its type and its value, alone or
 /// within brackets.
 #[cycle(plain_values)]
-fn print_typed<S: Source, O: Write>(
+fn print_typed<S: Source, O: Sink>(
     alloc: Global,
     src: &mut S,
     depth: u32,
@@ -104,7 +117,7 @@ fn print_typed<S: Source, O: Write>(
 /// Reads a Variant after its first byte, whose inner values may have that nesting depth, and prints
 /// its type and its value.
 #[cycle(plain_values)]
-fn print_tagged<S: Source, O: Write>(
+fn print_tagged<S: Source, O: Sink>(
     alloc: Global,
     src: &mut S,
     depth: u32,
@@ -149,7 +162,7 @@ fn print_tagged<S: Source, O: Write>(
 
 /// Reads an array after its first byte, and prints its type and its elements.
 #[cycle(plain_values)]
-fn print_array<S: Source, O: Write>(
+fn print_array<S: Source, O: Sink>(
     alloc: Global,
     src: &mut S,
     depth: u32,
@@ -177,7 +190,7 @@ fn print_array<S: Source, O: Write>(
 
 /// Reads so many elements and the dimensions, and prints the type, the dimensions and the elements.
 #[cycle(plain_values)]
-fn print_many<S: Source, O: Write>(
+fn print_many<S: Source, O: Sink>(
     alloc: Global,
     src: &mut S,
     depth: u32,
@@ -205,7 +218,7 @@ fn print_many<S: Source, O: Write>(
 
 /// Reads that many elements of the type id, and prints their texts, separated by commas.
 #[cycle(plain_values)]
-fn print_row<S: Source, O: Write>(
+fn print_row<S: Source, O: Sink>(
     alloc: Global,
     src: &mut S,
     depth: u32,
@@ -228,7 +241,7 @@ fn print_row<S: Source, O: Write>(
 
 /// Reads the element at an index, and prints its text, after a comma unless it is the first.
 #[cycle(plain_values)]
-fn print_item<S: Source, O: Write>(
+fn print_item<S: Source, O: Sink>(
     alloc: Global,
     src: &mut S,
     depth: u32,
@@ -245,13 +258,13 @@ fn print_item<S: Source, O: Write>(
 {
     push_comma(index, text)?;
     print_scalar(alloc, src, depth, kind, names, true, text, out)?;
-    write_full(text, out)?;
+    out.write_full(text)?;
     Ok(())
 }
 
 /// Reads a scalar of the type id, and prints its text, alone or within an array or brackets.
 #[cycle(plain_values)]
-fn print_scalar<S: Source, O: Write>(
+fn print_scalar<S: Source, O: Sink>(
     alloc: Global,
     src: &mut S,
     depth: u32,
@@ -270,13 +283,13 @@ fn print_scalar<S: Source, O: Write>(
         23 => print_data_value(alloc, src, depth, names, text, out),
         24 => print_bracketed(alloc, src, depth, names, text, out),
         25 => print_plain_diagnostic(alloc, src, depth, names, text),
-        _ => print_plain_leaf(alloc, src, kind, names, within, text),
+        _ => print_plain_leaf(alloc, src, kind, names, within, text, out),
     }
 }
 
 /// Reads a Variant among others, and prints it with its type in round brackets.
 #[cycle(plain_values)]
-fn print_bracketed<S: Source, O: Write>(
+fn print_bracketed<S: Source, O: Sink>(
     alloc: Global,
     src: &mut S,
     depth: u32,
@@ -297,7 +310,7 @@ fn print_bracketed<S: Source, O: Write>(
 
 /// Reads a DataValue among Variants, and prints the fields that are there in curly brackets.
 #[cycle(plain_values)]
-fn print_data_value<S: Source, O: Write>(
+fn print_data_value<S: Source, O: Sink>(
     alloc: Global,
     src: &mut S,
     depth: u32,
@@ -323,7 +336,7 @@ fn print_data_value<S: Source, O: Write>(
 
 /// Reads a Variant within a DataValue, where it is announced, and prints the text up to it.
 #[cycle(plain_values)]
-fn print_held<S: Source, O: Write>(
+fn print_held<S: Source, O: Sink>(
     alloc: Global,
     src: &mut S,
     depth: u32,

@@ -15,8 +15,10 @@ ghost use Rattle.ua_fields.specs.PlainTexts.{IsRestText, TellsDims};
 ghost use Rattle.ua_fields.specs.Printing.{PrintsAny, element_levels};
 ghost use Rattle.ua_fields.specs.Styles.{plain_field_style};
 
-use crate::elements::read_packed;
+use crate::elements::{print_scalar, read_packed};
+use crate::plain_leaf::print_leaf;
 use crate::printing::TellFault;
+use crate::sink::Sink;
 use crate::value::read_fields;
 use std::alloc::Global;
 use ua_builtin::{
@@ -24,7 +26,7 @@ use ua_builtin::{
     UaBytes, UaString, Wire, XmlElement,
 };
 use ua_diagnostic::read_dims;
-use ua_texts::{push_diagnostic, push_plain_fields, push_plain_scalar};
+use ua_texts::{push_diagnostic, push_plain_fields};
 use ua_variant::{Boxed, DataValue, DiagnosticInfo, Dimensions, Scalar, Variant};
 use ua_wire::Skip;
 
@@ -60,25 +62,33 @@ fn read_boxed<T: Wire + Drop, S: Source>(alloc: Global, src: &mut S) -> Result<B
     Ok(Boxed::new(alloc, value)?)
 }
 
-/// Reads a scalar that holds no further value, and appends its text as people write it. Not inlined,
+/// Reads a scalar that holds no further value, and prints its text as people write it. Not inlined,
 /// as what follows, so that the room for a scalar is not taken on the stack at each level.
 #[inline(never)]
-pub(crate) fn print_plain_leaf<S: Source>(
+pub(crate) fn print_plain_leaf<S: Source, O: Sink>(
     alloc: Global,
     src: &mut S,
     kind: u8,
     names: bool,
     within: bool,
     text: &mut String,
+    out: &mut O,
 ) -> Result<(), TellFault>
     requires { holds_values kind ≡ false }
-    ensures { (depth : ℕ) (known : Option (List ℕ)) → PrintsAny (plain_field_style names) (scalars_at depth kind)
-        (IsPlainScalar names within) (S.octets src.old) (S.octets src.new) known (string_bytes text.old) known
-        (string_bytes text.new) result }
+    ensures { (depth : ℕ) → PrintsAny (plain_field_style names) (scalars_at depth kind) (IsPlainScalar names within)
+        (S.octets src.old) (S.octets src.new)
+        (O.contents out.old) (string_bytes text.old) (O.contents out.new) (string_bytes text.new) result }
 {
-    let scalar = read_leaf(alloc, src, kind)?;
-    push_plain_scalar(alloc, text, &scalar, names, within)?;
-    Ok(())
+    match kind {
+        15 | 16 | 22 | 26..=31 => {
+            print_scalar(alloc, src, kind, &mut Vec::new(alloc), text, out)
+        }
+        _ => {
+            let scalar = read_leaf(alloc, src, kind)?;
+            print_leaf(alloc, &scalar, names, within, text, out)?;
+            Ok(())
+        }
+    }
 }
 
 /// Reads a DiagnosticInfo, and appends its text as people write it.

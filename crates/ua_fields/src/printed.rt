@@ -3,44 +3,25 @@
 ghost use Rattle.std.specs.Prelude.{◌≡◌, ℕ, List, [], length, map, string_bytes};
 ghost use Rattle.ua_builtin.specs.Format.{most_levels};
 ghost use Rattle.ua_opening.specs.Array.{array as array_format, items_at};
-ghost use Rattle.ua_fields.specs.Printing.{BreaksRead, PrintsOrBreaks, PrintsText, PrintsRead};
+ghost use Rattle.ua_fields.specs.Printing.{BreaksRead, PrintsText, PrintsRead};
 ghost use Rattle.ua_fields.specs.Tree.{AreElementsBehind, AreFieldsBehind, IsBehind, array_of, element_path};
 ghost use Rattle.ua_fields.specs.Tree.{field_margin, field_path, tree_elements};
 
 use crate::array::push_count;
 use crate::lines::{Lines, Place, deeper_margin, push_line};
 use crate::path::{path_of_element, path_of_field};
-use crate::pieces::PIECE;
-use crate::printing::{PrintFault, TellFault, write_full};
+use crate::printing::TellFault;
+use crate::sink::Sink;
 use std::alloc::Global;
-use std::io::Write;
 use ua_builtin::{FIRST_NEGATIVE, MOST_LEVELS, Source, Wire};
 use ua_services::UaArray;
 
-/// Prints the lines of a value.
-pub(crate) fn print_lines<T: Lines, O: Write>(
-    alloc: Global,
-    value: &T,
-    place: Place,
-    text: &mut String,
-    out: &mut O,
-) -> Result<(), PrintFault>
-    ensures { PrintsOrBreaks place.entry.style (O.contents out.old) (string_bytes text.old) (O.contents out.new)
-        (string_bytes text.new)
-        (IsBehind place.entry.style place.entry.margin.now place.entry.path.now [] (T.tree value.now)) result }
-{
-    value.push_lines(alloc, text, place)?;
-    write_full(text, out)?;
-    Ok(())
-}
-
-/// A value that is printed as it is read. One that has no fields of its own is read whole, and
-/// dropped before the next one is read; its text, where it is long, is printed in pieces. A structure
-/// or an array has a `print` of its own, which reads a field or an element at a time.
+/// A value that is printed as it is read. A structure or an array reads a field or an element at a
+/// time.
 pub(crate) trait Printed: Lines + Wire + Drop {
     ghost use Rattle.std.specs.Prelude.{◌≡◌, ℕ, List, [], cond, string_bytes};
     ghost use Rattle.ua_builtin.specs.Format.{most_levels};
-    ghost use Rattle.ua_fields.specs.Printing.{BreaksRead, PrintsOrBreaks, PrintsText, PrintsRead};
+    ghost use Rattle.ua_fields.specs.Printing.{BreaksRead, PrintsText, PrintsRead};
     ghost use Rattle.ua_fields.specs.Tree.{IsBehind, deeper, field_margin};
 
     /// Whether it is a structure, which has no line of its own: its fields are one level deeper.
@@ -48,24 +29,9 @@ pub(crate) trait Printed: Lines + Wire + Drop {
         ensures { (margin : List ℕ) (value : Self)
             → field_margin margin (Self.tree value) ≡ cond result (deeper margin) margin };
 
-    /// Prints the lines of a value whose encoding is long, its text in pieces.
-    fn print_long<O: Write>(
-        &self,
-        alloc: Global,
-        place: Place,
-        text: &mut String,
-        out: &mut O,
-    ) -> Result<(), PrintFault>
-        ensures { PrintsOrBreaks place.entry.style (O.contents out.old) (string_bytes text.old) (O.contents out.new)
-            (string_bytes text.new)
-            (IsBehind place.entry.style place.entry.margin.now place.entry.path.now [] (Self.tree self.now)) result }
-    {
-        print_lines(alloc, self, place, text, out)
-    }
-
     /// Reads the value at the start of the source, and prints its lines. After an error, discard
     /// the source.
-    fn print<S: Source, O: Write>(
+    fn print<S: Source, O: Sink>(
         alloc: Global,
         src: &mut S,
         place: Place,
@@ -79,23 +45,11 @@ pub(crate) trait Printed: Lines + Wire + Drop {
             (BreaksRead place.entry.style (Self.format.decode most_levels) (S.octets src.old)
             (O.contents out.old) (string_bytes text.old) (O.contents out.new)
             (λ value. IsBehind place.entry.style place.entry.margin.now place.entry.path.now [] (Self.tree value)))
-            result }
-    {
-        let left = src.left();
-        let value = Self::read_value(alloc, src, MOST_LEVELS)?;
-        if left.saturating_sub(src.left()) > PIECE {
-            value.print_long(alloc, place, text, out)?;
-            return Ok(());
-        }
-        value.push_lines(alloc, text, place)?;
-        drop(value);
-        write_full(text, out)?;
-        Ok(())
-    }
+            result };
 }
 
 /// Reads the field at the start of the source, and prints its lines.
-pub(crate) fn print_field<T: Printed, S: Source, O: Write>(
+pub(crate) fn print_field<T: Printed, S: Source, O: Sink>(
     alloc: Global,
     src: &mut S,
     place: Place<'_>,
@@ -131,7 +85,7 @@ pub(crate) fn print_field<T: Printed, S: Source, O: Write>(
 }
 
 /// Reads the element at the start of the source, and prints its lines.
-fn print_element<T: Printed, S: Source, O: Write>(
+fn print_element<T: Printed, S: Source, O: Sink>(
     alloc: Global,
     src: &mut S,
     place: Place<'_>,
@@ -157,7 +111,7 @@ fn print_element<T: Printed, S: Source, O: Write>(
 }
 
 /// Reads that many elements, one after the other, and prints the lines of each.
-fn print_elements<T: Printed, S: Source, O: Write>(
+fn print_elements<T: Printed, S: Source, O: Sink>(
     alloc: Global,
     src: &mut S,
     place: Place<'_>,
@@ -182,7 +136,7 @@ fn print_elements<T: Printed, S: Source, O: Write>(
 }
 
 /// Reads the array at the start of the source, element by element, and prints its lines.
-fn print_array<T: Printed, S: Source, O: Write>(
+fn print_array<T: Printed, S: Source, O: Sink>(
     alloc: Global,
     src: &mut S,
     place: Place<'_>,
@@ -222,7 +176,7 @@ impl<T: Printed> Printed for UaArray<T> {
         false
     }
 
-    fn print<S: Source, O: Write>(
+    fn print<S: Source, O: Sink>(
         alloc: Global,
         src: &mut S,
         place: Place,
@@ -251,7 +205,7 @@ pub(crate) trait PrintedFields {
     ghost fields: { Self.Names → Self.Values → Fields };
 
     /// Reads the fields at the start of the source, one after the other, and prints their lines.
-    fn print_fields<S: Source, O: Write>(
+    fn print_fields<S: Source, O: Sink>(
         alloc: Global,
         src: &mut S,
         place: Place,
@@ -281,7 +235,7 @@ impl<T: Printed> PrintedFields for Last<T> {
 
     ghost fields = { λ name value. field name.now (T.tree value) no_fields };
 
-    fn print_fields<S: Source, O: Write>(
+    fn print_fields<S: Source, O: Sink>(
         alloc: Global,
         src: &mut S,
         place: Place,
@@ -302,7 +256,7 @@ impl<A: Printed, B: PrintedFields> PrintedFields for (A, B) {
 
     ghost fields = { λ names value. field names.0.now (A.tree value.0) (B.fields names.1 value.1) };
 
-    fn print_fields<S: Source, O: Write>(
+    fn print_fields<S: Source, O: Sink>(
         alloc: Global,
         src: &mut S,
         place: Place,

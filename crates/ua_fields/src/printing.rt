@@ -9,9 +9,6 @@ use std::io::Write;
 use thiserror::Error;
 use ua_builtin::ReadFault;
 
-/// The most bytes of lines that are kept before they are written, besides those of one value.
-const MOST_KEPT: usize = 65536;
-
 /// Why lines are not printed.
 #[derive(Debug, Drop)]
 pub enum PrintFault {
@@ -111,15 +108,4 @@ pub fn write_kept<O: Write>(text: &mut String, out: &mut O) -> io::Result<()>
     out.flush()?;
     text.clear();
     Ok(())
-}
-
-/// Writes the lines that are kept, where they are many.
-pub fn write_full<O: Write>(text: &mut String, out: &mut O) -> io::Result<()>
-    ensures { OnOk result (PrintsLines (O.contents out.old) (string_bytes text.old) (O.contents out.new)
-        (string_bytes text.new) []) }
-{
-    if text.len() < MOST_KEPT {
-        return Ok(());
-    }
-    write_kept(text, out)
 }

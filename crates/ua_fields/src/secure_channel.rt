@@ -1,11 +1,11 @@
 //! Written by `tools/add_service.py --write` from `schema/secure_channel.txt`.
 //! The structures of the SecureChannel services, as lines.
 
-use crate::lines::{Lines, Place, push_fields};
+use crate::lines::{Lines, Place};
 use crate::printed::{Last, Printed, PrintedFields};
 use crate::printing::TellFault;
-use std::alloc::{AllocError, Global};
-use std::io::Write;
+use crate::sink::Sink;
+use std::alloc::Global;
 use ua_builtin::{Source, UaBytes};
 use ua_services::{CloseRequest, OpenRequest, RequestHeader};
 
@@ -14,14 +14,6 @@ impl Lines for OpenRequest {
     ghost use Rattle.ua_fields.specs.SecureChannel.{open_request_entries};
 
     ghost tree = { λ m. structure (open_request_entries m) };
-
-    #[tactic(auto, unfolding(crate::specs::SecureChannel::open_request_entries))]
-    fn push_lines(&self, alloc: Global, out: &mut String, place: Place) -> Result<(), AllocError> {
-        push_fields!(self, alloc, out, place =>
-            push_part request_header, push_field client_protocol_version, push_field request_type,
-            push_field security_mode, push_field client_nonce, push_field requested_lifetime
-        )
-    }
 }
 
 impl Printed for OpenRequest {
@@ -29,7 +21,7 @@ impl Printed for OpenRequest {
         true
     }
 
-    fn print<S: Source, O: Write>(
+    fn print<S: Source, O: Sink>(
         alloc: Global,
         src: &mut S,
         place: Place,
@@ -57,11 +49,6 @@ impl Lines for CloseRequest {
     ghost use Rattle.ua_fields.specs.SecureChannel.{close_request_entries};
 
     ghost tree = { λ m. structure (close_request_entries m) };
-
-    #[tactic(auto, unfolding(crate::specs::SecureChannel::close_request_entries))]
-    fn push_lines(&self, alloc: Global, out: &mut String, place: Place) -> Result<(), AllocError> {
-        push_fields!(self, alloc, out, place => push_part request_header)
-    }
 }
 
 impl Printed for CloseRequest {
@@ -69,7 +56,7 @@ impl Printed for CloseRequest {
         true
     }
 
-    fn print<S: Source, O: Write>(
+    fn print<S: Source, O: Sink>(
         alloc: Global,
         src: &mut S,
         place: Place,

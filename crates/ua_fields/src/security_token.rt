@@ -1,10 +1,10 @@
 //! The ChannelSecurityToken, and the response that holds its fields, as lines.
 
-use crate::lines::{Lines, Place, push_fields};
+use crate::lines::{Appended, Lines, Place, push_fields};
 use crate::printed::{Printed, PrintedFields, print_field};
-use crate::printing::{TellFault, write_full};
+use crate::printing::TellFault;
+use crate::sink::Sink;
 use std::alloc::{AllocError, Global};
-use std::io::Write;
 use ua_builtin::{DateTime, MOST_LEVELS, Source, UaBytes, Wire};
 use ua_services::{OpenResponse, ResponseHeader};
 
@@ -17,29 +17,14 @@ pub(crate) struct SecurityToken {
     revised_lifetime: u32,
 }
 
-impl SecurityToken {
-    ghost use Rattle.std.specs.Prelude.{◌≡◌};
-    ghost use Rattle.ua_fields.specs.SecurityToken.{security_token_of};
-
-    /// The token of a response.
-    fn of(response: &OpenResponse) -> SecurityToken
-        ensures { result ≡ security_token_of response.now }
-    {
-        SecurityToken {
-            channel_id: response.channel_id,
-            token_id: response.token_id,
-            created_at: response.created_at,
-            revised_lifetime: response.revised_lifetime,
-        }
-    }
-}
-
 impl Lines for SecurityToken {
     ghost use Rattle.ua_fields.specs.Tree.{structure};
     ghost use Rattle.ua_fields.specs.SecurityToken.{security_token_entries};
 
     ghost tree = { λ t. structure (security_token_entries t) };
+}
 
+impl Appended for SecurityToken {
     #[tactic(auto, unfolding(crate::specs::SecurityToken::security_token_entries))]
     fn push_lines(&self, alloc: Global, out: &mut String, place: Place) -> Result<(), AllocError> {
         push_fields!(self, alloc, out, place =>
@@ -54,16 +39,6 @@ impl Lines for OpenResponse {
     ghost use Rattle.ua_fields.specs.SecurityToken.{open_response_entries};
 
     ghost tree = { λ m. structure (open_response_entries m) };
-
-    #[tactic(auto, unfolding(crate::specs::SecurityToken::open_response_entries))]
-    fn push_lines(&self, alloc: Global, out: &mut String, place: Place) -> Result<(), AllocError> {
-        let version = &self.server_protocol_version;
-        place.push_part(alloc, out, "response_header", &self.response_header)?;
-        place.push_field(alloc, out, "server_protocol_version", version)?;
-        place.push_part(alloc, out, "security_token", &SecurityToken::of(self))?;
-        place.push_field(alloc, out, "server_nonce", &self.server_nonce)?;
-        Ok(())
-    }
 }
 
 /// The fields of an [`OpenResponse`] after its header. Those before the nonce, which may be long,
@@ -79,7 +54,7 @@ impl PrintedFields for OpenedFields {
 
     ghost fields = { λ names value. opened_fields value };
 
-    fn print_fields<S: Source, O: Write>(
+    fn print_fields<S: Source, O: Sink>(
         alloc: Global,
         src: &mut S,
         place: Place,
@@ -97,7 +72,7 @@ impl PrintedFields for OpenedFields {
         };
         place.push_field(alloc, text, "server_protocol_version", &version)?;
         place.push_part(alloc, text, "security_token", &token)?;
-        write_full(text, out)?;
+        out.write_full(text)?;
         print_field::<UaBytes, S, O>(alloc, src, place, "server_nonce", text, out)
     }
 }
@@ -107,7 +82,7 @@ impl Printed for OpenResponse {
         true
     }
 
-    fn print<S: Source, O: Write>(
+    fn print<S: Source, O: Sink>(
         alloc: Global,
         src: &mut S,
         place: Place,

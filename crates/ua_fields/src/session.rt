@@ -1,11 +1,11 @@
 //! Written by `tools/add_service.py --write` from `schema/session.txt`.
 //! The structures of the Session services, as lines.
 
-use crate::lines::{Lines, Place, push_fields};
+use crate::lines::{Lines, Place};
 use crate::printed::{Last, Printed, PrintedFields};
 use crate::printing::TellFault;
-use std::alloc::{AllocError, Global};
-use std::io::Write;
+use crate::sink::Sink;
+use std::alloc::Global;
 use ua_builtin::{DoubleBits, ExtensionObject, NodeId, Source, StatusCode, UaBytes, UaString};
 use ua_services::{
     ActivateSessionRequest, ActivateSessionResponse, ApplicationDescription, CloseSessionRequest,
@@ -19,11 +19,6 @@ impl Lines for SignedSoftwareCertificate {
     ghost use Rattle.ua_fields.specs.Session.{signed_software_certificate_entries};
 
     ghost tree = { λ m. structure (signed_software_certificate_entries m) };
-
-    #[tactic(auto, unfolding(crate::specs::Session::signed_software_certificate_entries))]
-    fn push_lines(&self, alloc: Global, out: &mut String, place: Place) -> Result<(), AllocError> {
-        push_fields!(self, alloc, out, place => push_field certificate_data, push_field signature)
-    }
 }
 
 impl Printed for SignedSoftwareCertificate {
@@ -31,7 +26,7 @@ impl Printed for SignedSoftwareCertificate {
         true
     }
 
-    fn print<S: Source, O: Write>(
+    fn print<S: Source, O: Sink>(
         alloc: Global,
         src: &mut S,
         place: Place,
@@ -48,11 +43,6 @@ impl Lines for SignatureData {
     ghost use Rattle.ua_fields.specs.Session.{signature_data_entries};
 
     ghost tree = { λ m. structure (signature_data_entries m) };
-
-    #[tactic(auto, unfolding(crate::specs::Session::signature_data_entries))]
-    fn push_lines(&self, alloc: Global, out: &mut String, place: Place) -> Result<(), AllocError> {
-        push_fields!(self, alloc, out, place => push_field algorithm, push_field signature)
-    }
 }
 
 impl Printed for SignatureData {
@@ -60,7 +50,7 @@ impl Printed for SignatureData {
         true
     }
 
-    fn print<S: Source, O: Write>(
+    fn print<S: Source, O: Sink>(
         alloc: Global,
         src: &mut S,
         place: Place,
@@ -77,16 +67,6 @@ impl Lines for CreateSessionRequest {
     ghost use Rattle.ua_fields.specs.Session.{create_session_request_entries};
 
     ghost tree = { λ m. structure (create_session_request_entries m) };
-
-    #[tactic(auto, unfolding(crate::specs::Session::create_session_request_entries))]
-    fn push_lines(&self, alloc: Global, out: &mut String, place: Place) -> Result<(), AllocError> {
-        push_fields!(self, alloc, out, place =>
-            push_part request_header, push_part client_description, push_field server_uri,
-            push_field endpoint_url, push_field session_name, push_field client_nonce,
-            push_field client_certificate, push_field requested_session_timeout,
-            push_field max_response_message_size
-        )
-    }
 }
 
 impl Printed for CreateSessionRequest {
@@ -94,7 +74,7 @@ impl Printed for CreateSessionRequest {
         true
     }
 
-    fn print<S: Source, O: Write>(
+    fn print<S: Source, O: Sink>(
         alloc: Global,
         src: &mut S,
         place: Place,
@@ -144,17 +124,6 @@ impl Lines for CreateSessionResponse {
     ghost use Rattle.ua_fields.specs.Session.{create_session_response_entries};
 
     ghost tree = { λ m. structure (create_session_response_entries m) };
-
-    #[tactic(auto, unfolding(crate::specs::Session::create_session_response_entries))]
-    fn push_lines(&self, alloc: Global, out: &mut String, place: Place) -> Result<(), AllocError> {
-        push_fields!(self, alloc, out, place =>
-            push_part response_header, push_field session_id, push_field authentication_token,
-            push_field revised_session_timeout, push_field server_nonce,
-            push_field server_certificate, push_field server_endpoints,
-            push_field server_software_certificates, push_part server_signature,
-            push_field max_request_message_size
-        )
-    }
 }
 
 impl Printed for CreateSessionResponse {
@@ -162,7 +131,7 @@ impl Printed for CreateSessionResponse {
         true
     }
 
-    fn print<S: Source, O: Write>(
+    fn print<S: Source, O: Sink>(
         alloc: Global,
         src: &mut S,
         place: Place,
@@ -227,15 +196,6 @@ impl Lines for ActivateSessionRequest {
     ghost use Rattle.ua_fields.specs.Session.{activate_session_request_entries};
 
     ghost tree = { λ m. structure (activate_session_request_entries m) };
-
-    #[tactic(auto, unfolding(crate::specs::Session::activate_session_request_entries))]
-    fn push_lines(&self, alloc: Global, out: &mut String, place: Place) -> Result<(), AllocError> {
-        push_fields!(self, alloc, out, place =>
-            push_part request_header, push_part client_signature,
-            push_field client_software_certificates, push_field locale_ids,
-            push_field user_identity_token, push_part user_token_signature
-        )
-    }
 }
 
 impl Printed for ActivateSessionRequest {
@@ -243,7 +203,7 @@ impl Printed for ActivateSessionRequest {
         true
     }
 
-    fn print<S: Source, O: Write>(
+    fn print<S: Source, O: Sink>(
         alloc: Global,
         src: &mut S,
         place: Place,
@@ -281,14 +241,6 @@ impl Lines for ActivateSessionResponse {
     ghost use Rattle.ua_fields.specs.Session.{activate_session_response_entries};
 
     ghost tree = { λ m. structure (activate_session_response_entries m) };
-
-    #[tactic(auto, unfolding(crate::specs::Session::activate_session_response_entries))]
-    fn push_lines(&self, alloc: Global, out: &mut String, place: Place) -> Result<(), AllocError> {
-        push_fields!(self, alloc, out, place =>
-            push_part response_header, push_field server_nonce, push_field results,
-            push_field diagnostic_infos
-        )
-    }
 }
 
 impl Printed for ActivateSessionResponse {
@@ -296,7 +248,7 @@ impl Printed for ActivateSessionResponse {
         true
     }
 
-    fn print<S: Source, O: Write>(
+    fn print<S: Source, O: Sink>(
         alloc: Global,
         src: &mut S,
         place: Place,
@@ -322,13 +274,6 @@ impl Lines for CloseSessionRequest {
     ghost use Rattle.ua_fields.specs.Session.{close_session_request_entries};
 
     ghost tree = { λ m. structure (close_session_request_entries m) };
-
-    #[tactic(auto, unfolding(crate::specs::Session::close_session_request_entries))]
-    fn push_lines(&self, alloc: Global, out: &mut String, place: Place) -> Result<(), AllocError> {
-        push_fields!(self, alloc, out, place =>
-            push_part request_header, push_field delete_subscriptions
-        )
-    }
 }
 
 impl Printed for CloseSessionRequest {
@@ -336,7 +281,7 @@ impl Printed for CloseSessionRequest {
         true
     }
 
-    fn print<S: Source, O: Write>(
+    fn print<S: Source, O: Sink>(
         alloc: Global,
         src: &mut S,
         place: Place,
@@ -353,11 +298,6 @@ impl Lines for CloseSessionResponse {
     ghost use Rattle.ua_fields.specs.Session.{close_session_response_entries};
 
     ghost tree = { λ m. structure (close_session_response_entries m) };
-
-    #[tactic(auto, unfolding(crate::specs::Session::close_session_response_entries))]
-    fn push_lines(&self, alloc: Global, out: &mut String, place: Place) -> Result<(), AllocError> {
-        push_fields!(self, alloc, out, place => push_part response_header)
-    }
 }
 
 impl Printed for CloseSessionResponse {
@@ -365,7 +305,7 @@ impl Printed for CloseSessionResponse {
         true
     }
 
-    fn print<S: Source, O: Write>(
+    fn print<S: Source, O: Sink>(
         alloc: Global,
         src: &mut S,
         place: Place,

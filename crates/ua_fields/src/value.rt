@@ -21,11 +21,11 @@ use crate::lines::{Lines, Place, push_fields, push_start};
 use crate::path::path_of_field;
 use crate::plain::print_plain_variant;
 use crate::printed::Printed;
-use crate::printing::{TellFault, write_full};
+use crate::printing::TellFault;
 use crate::recoded::encode_variant;
+use crate::sink::Sink;
 use crate::style::FieldStyle;
 use std::alloc::{AllocError, Global};
-use std::io::Write;
 use ua_builtin::{FIRST_NEGATIVE, MOST_LEVELS, ReadFault, Source, Wire};
 use ua_diagnostic::field::read_field;
 use ua_diagnostic::{read_no_dims, skip_dims};
@@ -60,13 +60,20 @@ pub(crate) const DIMENSIONS: u8 = 0x40;
 
 pub(crate) const ARRAY: u8 = 0x80;
 
+impl Lines for DataValue {
+    ghost use Rattle.ua_fields.specs.Tree.{structure};
+    ghost use Rattle.ua_fields.specs.DataValue.{data_value_entries};
+
+    ghost tree = { λ m. structure (data_value_entries m) };
+}
+
 /// Its value is printed as it is read.
 impl Printed for DataValue {
     fn is_structure() -> bool {
         true
     }
 
-    fn print<S: Source, O: Write>(
+    fn print<S: Source, O: Sink>(
         alloc: Global,
         src: &mut S,
         place: Place,
@@ -78,7 +85,7 @@ impl Printed for DataValue {
 }
 
 /// Reads the DataValue at the start of the source, and prints its lines.
-fn print_data_value<S: Source, O: Write>(
+fn print_data_value<S: Source, O: Sink>(
     alloc: Global,
     src: &mut S,
     place: Place<'_>,
@@ -101,7 +108,7 @@ fn print_data_value<S: Source, O: Write>(
     print_value_line(alloc, src, place, mask & VALUE != 0, text, out)?;
     let fields = read_fields(alloc, src, mask)?;
     push_fields_after(alloc, text, place, &fields)?;
-    write_full(text, out)?;
+    out.write_full(text)?;
     Ok(())
 }
 
@@ -130,7 +137,7 @@ pub(crate) fn read_fields<S: Source>(
 }
 
 /// Reads a Variant, where it is announced, and prints its line, which is `null` where it is not.
-fn print_value_line<S: Source, O: Write>(
+fn print_value_line<S: Source, O: Sink>(
     alloc: Global,
     src: &mut S,
     place: Place<'_>,
@@ -156,7 +163,7 @@ fn print_value_line<S: Source, O: Write>(
 }
 
 /// Reads a Variant, where it is announced, and prints its text, which is `null` where it is not.
-fn print_announced<S: Source, O: Write>(
+fn print_announced<S: Source, O: Sink>(
     alloc: Global,
     src: &mut S,
     style: FieldStyle,
@@ -188,7 +195,7 @@ pub(crate) fn starts_plain<S: Source>(src: &S) -> bool {
 
 /// Reads the Variant at the start of the source, and prints its text. What is not long is decoded
 /// whole.
-fn print_variant<S: Source, O: Write>(
+fn print_variant<S: Source, O: Sink>(
     alloc: Global,
     src: &mut S,
     text: &mut String,
@@ -212,7 +219,7 @@ fn print_variant<S: Source, O: Write>(
 
 /// Reads the Variant at the start of the source, and prints its text, as it is read. It is read
 /// before, which tells whether it can be encoded.
-fn print_long<S: Source, O: Write>(
+fn print_long<S: Source, O: Sink>(
     alloc: Global,
     src: &mut S,
     text: &mut String,
@@ -235,7 +242,7 @@ fn print_long<S: Source, O: Write>(
 }
 
 /// Reads the Variant at the start of the source, and prints its type and its value.
-fn print_typed<S: Source, O: Write>(
+fn print_typed<S: Source, O: Sink>(
     alloc: Global,
     src: &mut S,
     text: &mut String,
@@ -250,7 +257,7 @@ fn print_typed<S: Source, O: Write>(
 }
 
 /// Reads a Variant after its first byte, and prints its type and its value.
-fn print_tagged<S: Source, O: Write>(
+fn print_tagged<S: Source, O: Sink>(
     alloc: Global,
     src: &mut S,
     tag: u8,
@@ -286,7 +293,7 @@ pub(crate) fn is_read_kind(kind: u8) -> bool
 }
 
 /// Reads a scalar of the type id, and prints its type and its text.
-fn print_one<S: Source, O: Write>(
+fn print_one<S: Source, O: Sink>(
     alloc: Global,
     src: &mut S,
     kind: u8,
@@ -303,7 +310,7 @@ fn print_one<S: Source, O: Write>(
 }
 
 /// Reads an array after its first byte, and prints its type and its elements.
-fn print_array_text<S: Source, O: Write>(
+fn print_array_text<S: Source, O: Sink>(
     alloc: Global,
     src: &mut S,
     kind: u8,
@@ -326,7 +333,7 @@ fn print_array_text<S: Source, O: Write>(
 }
 
 /// Reads so many elements and the dimensions, and prints the type and the elements.
-fn print_many<S: Source, O: Write>(
+fn print_many<S: Source, O: Sink>(
     alloc: Global,
     src: &mut S,
     kind: u8,

@@ -30,7 +30,7 @@ use Rattle.ua_chunk.specs.Open.{open_octets}
 use Rattle.ua_pair.specs.Before.{message_chunks}
 use Rattle.ua_pair.specs.Dissected.{rules, every_frame, AddsLines, AreTexts, AreTold}
 use Rattle.ua_pair.specs.Dissecting.{Holds, DissectorGoesOn, HasRefused, IsDissectorClosed, AreHeld, DissectorStandsAt, StandsBehind, TellsMore}
-use Rattle.ua_pair.specs.Dissecting.{IsStarved, PrintsFirst, PrintsMore, WritesPiece, PrintsPart}
+use Rattle.ua_pair.specs.Dissecting.{IsStarved, PrintsFirst, PrintsMore, PrintsPiece, WritesPiece, PrintsPart}
 use Rattle.ua_pair.specs.Dissecting.{EndsLines, is_dissecting, MovesOn, TakesPiece, Accepts, RefusesFrame, FrameTold, TakesNone, DissectsSome}
 use Rattle.ua_pair.specs.Lines.{refused_line}
 use Rattle.ua_pair.specs.Refused.{frame_reasons}
@@ -377,15 +377,28 @@ printed_more d m e piece at n rest lines shown pending a b c w kb mid kc left x 
           (subst (λ (t : List ℕ). PrintsLines b kb w left t) (append-nil (lines ++ p.lines)) more);
     }
 
-pub printed_end : (d m e : Dissector) (piece : List ℕ) (at : ℕ) (rest lines : List ℕ) (a b c : Option (List ℕ)) (kb left : List ℕ)
-    → PrintedSoFar d m piece at a b kb → rest ≡ drop at piece → TakesNone m rest e lines → PrintsLines b kb c left [] → left ≡ []
-    → WritesPiece d e piece a c
-printed_end d m e piece at rest lines a b c kb left x rest_is none written empty =
+pub printed_end : (d m e : Dissector) (piece : List ℕ) (at : ℕ) (rest lines : List ℕ) (a b : Option (List ℕ)) (kb : List ℕ)
+    → PrintedSoFar d m piece at a b kb → rest ≡ drop at piece → TakesNone m rest e lines → PrintsPiece d e piece a b kb
+printed_end d m e piece at rest lines a b kb x rest_is none =
     let t = so_far_end d m e piece at rest [] x.lines lines x.so_far rest_is none in
+    record { lines = t.lines; printed = subst (λ (l : List ℕ). PrintsLines a [] b kb l) t.added x.printed; moves = t.moves }
+
+-- all of them were written
+pub piece_written : (d e : Dissector) (piece : List ℕ) (a b c : Option (List ℕ)) (kb left : List ℕ) → PrintsPiece d e piece a b kb
+    → PrintsLines b kb c left [] → left ≡ [] → WritesPiece d e piece a c
+piece_written d e piece a b c kb left x written empty =
     let all = lines_then a b c [] kb left x.lines [] x.printed written in
-    let whole : all.written ≡ t.lines =
-    sym (append-nil all.written) ∙ ap (λ (l : List ℕ). all.written ++ l) (sym empty) ∙ sym all.are ∙ append-nil x.lines ∙ t.added in
-    record { lines = t.lines; added = subst (λ (l : List ℕ). Appends a c l) whole all.added; moves = t.moves }
+    let whole : all.written ≡ x.lines =
+    sym (append-nil all.written) ∙ ap (λ (l : List ℕ). all.written ++ l) (sym empty) ∙ sym all.are ∙ append-nil x.lines in
+    record { lines = x.lines; added = subst (λ (l : List ℕ). Appends a c l) whole all.added; moves = x.moves }
+
+-- none was written, and all were added to a text
+pub piece_kept : {E : Type 0} (r : Result (Unit {0}) E) (d e : Dissector) (piece kb text old new : List ℕ) → PrintsPiece d e piece (Some []) (Some []) kb
+    → text ≡ kb → new ≡ (if is_ok r then old ++ text else old) → OnOk r (TakesPiece d e piece old new)
+piece_kept (Ok u) d e piece kb text old new x text_is grown =
+    let same : x.lines ≡ kb = x.printed.are ∙ ap (λ (l : List ℕ). l ++ kb) (sym x.printed.added) in
+    record { lines = x.lines; added = grown ∙ ap (λ (l : List ℕ). old ++ l) (text_is ∙ sym same); moves = x.moves }
+piece_kept (Err f) d e piece kb text old new x text_is grown = tt
 
 -- ---- a piece of which the first lines are printed
 

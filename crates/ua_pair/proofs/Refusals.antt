@@ -146,16 +146,6 @@ opening_text options place n f c old mid new e size first second =
       subst (λ (o : Option OpenChunk). IsFound (IsOpeningText options place (frame_size f)) o (line ++ second.0)) (sym e) sized,
     )
 
-pub opening_told : (d : Teller) (fs : List Frame) (place n : ℕ) (f : Frame) (c : OpenChunk) (old mid new : List ℕ) → TellerStands d fs
-    → open_refusal f.body ≡ None → opening_in f ≡ Some c → n ≡ frame_size f
-    → IsTrue (may_follow (last_number d.assembler) c.sequence) → mid ≡ old ++ opening_line place n c
-    → ((more : List ℕ) × (new ≡ mid ++ more) × IsOpenedText d.options c more) → JudgesKind {A = Unit {0}} Opn d.options fs place f (Ok tt) old new
-opening_told d fs place n f c old mid new s none found size follows first second = (
-  opening_taken (last_sequence fs) f c none found (subst (λ (o : Option ℕ). IsTrue (may_follow o c.sequence)) s.last follows),
-  opening_text d.options place n f c old mid new found size first second,
-)
-
--- the same where its fields are pending
 pub opening_titled : (d : Teller) (fs : List Frame) (place n : ℕ) (f : Frame) (c : OpenChunk) (pending : Option Pending) (old mid new : List ℕ)
     → TellerStands d fs → open_refusal f.body ≡ None → opening_in f ≡ Some c → n ≡ frame_size f
     → IsTrue (may_follow (last_number d.assembler) c.sequence) → mid ≡ old ++ opening_line place n c

@@ -39,21 +39,21 @@ on_ok : {T E : Type 0} (r : Result T E) {P : Type 0} → P → OnOk r P
 on_ok (Ok x) p = p
 on_ok (Err e) p = tt
 
-same_by : (k : Kind) (d : Teller) (fs : List Frame) (f : Frame) (r : Result (Unit {0}) DissectFault) → TellerStands d fs → f.kind ≡ k
+same_by : {A : Type 0} (k : Kind) (d : Teller) (fs : List Frame) (f : Frame) (r : Result A DissectFault) → TellerStands d fs → f.kind ≡ k
     → message_chunk_by k f ≡ None → sequence_by k f ≡ None → OnOk r (TellerStands d (fs ++ f ∷ []))
 same_by k d fs f r s is no_chunk no_number =
     on_ok r (stands_same d fs f (ap (λ (j : Kind). message_chunk_by j f) is ∙ no_chunk) (ap (λ (j : Kind). sequence_by j f) is ∙ no_number) s)
 
 -- a HEL, an ACK and an ERR count for nothing behind them
-pub stands_hello : (d : Teller) (fs : List Frame) (f : Frame) (r : Result (Unit {0}) DissectFault) → f.kind ≡ Hel → TellerStands d fs
+pub stands_hello : {A : Type 0} (d : Teller) (fs : List Frame) (f : Frame) (r : Result A DissectFault) → f.kind ≡ Hel → TellerStands d fs
     → OnOk r (TellerStands d (fs ++ f ∷ []))
 stands_hello d fs f r is s = same_by Hel d fs f r s is refl refl
 
-pub stands_ack : (d : Teller) (fs : List Frame) (f : Frame) (r : Result (Unit {0}) DissectFault) → f.kind ≡ Ack → TellerStands d fs
+pub stands_ack : {A : Type 0} (d : Teller) (fs : List Frame) (f : Frame) (r : Result A DissectFault) → f.kind ≡ Ack → TellerStands d fs
     → OnOk r (TellerStands d (fs ++ f ∷ []))
 stands_ack d fs f r is s = same_by Ack d fs f r s is refl refl
 
-pub stands_error : (d : Teller) (fs : List Frame) (f : Frame) (r : Result (Unit {0}) DissectFault) → f.kind ≡ kind.Err → TellerStands d fs
+pub stands_error : {A : Type 0} (d : Teller) (fs : List Frame) (f : Frame) (r : Result A DissectFault) → f.kind ≡ kind.Err → TellerStands d fs
     → OnOk r (TellerStands d (fs ++ f ∷ []))
 stands_error d fs f r is s = same_by kind.Err d fs f r s is refl refl
 

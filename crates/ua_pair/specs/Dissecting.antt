@@ -12,7 +12,7 @@ use Rattle.ua_pair.specs.declared.dissector.State.TheVariants as state
 use Rattle.ua_pair.specs.declared.options.DissectOptions.{DissectOptions}
 use Rattle.ua_pair.specs.Before.{message_chunks}
 use Rattle.ua_pair.specs.Dissected.{rules, every_frame, AreTold, AreLines}
-use Rattle.ua_fields.specs.Printing.{EachHasText}
+use Rattle.ua_fields.specs.Printing.{EachHasText, PrintsLines}
 use Rattle.ua_pair.specs.Styles.{style_of}
 use Rattle.ua_fields.specs.declared.printing.PrintFault.{PrintFault}
 use Rattle.ua_fields.specs.declared.printing.PrintFault.TheVariants as print
@@ -152,6 +152,12 @@ pub record TakesPiece (old new : Dissector) (piece before after : List ℕ) : Ty
   pub added : after ≡ before ++ lines
   pub moves : MovesOn old new piece lines
 
+-- a fragment was taken, and of its lines the first were printed: the others are kept
+pub record PrintsPiece (old new : Dissector) (piece : List ℕ) (before after : Option (List ℕ)) (left : List ℕ) : Type 0 where
+  pub lines : List ℕ
+  pub printed : PrintsLines before [] after left lines
+  pub moves : MovesOn old new piece lines
+
 -- a fragment was taken, and lines were printed
 pub record WritesPiece (old new : Dissector) (piece : List ℕ) (before after : Option (List ℕ)) : Type 0 where
   pub lines : List ℕ
@@ -194,14 +200,9 @@ pub record DissectsSome (old : Dissector) (octets : List ℕ) (n : ℕ) (new : D
   pub within : n ≤ length octets
   pub moves : MovesOn old new (take n octets) lines
 
--- what was taken of bytes, and the lines that were printed
-abbrev pub TakesNext : Dissector → List ℕ → Option ℕ → Dissector → List ℕ → Type 0
-TakesNext old octets None new lines = TakesNone old octets new lines
-TakesNext old octets (Some n) new lines = DissectsSome old octets n new lines
-
 -- what was taken of bytes, and the lines that were told, if those of the message that is pending
 -- are told after them
-abbrev pub TakesTitle : Dissector → List ℕ → Option (ℕ × Option Pending) → Dissector → List ℕ → Type 0
-TakesTitle old octets None new lines = TakesNone old octets new lines
-TakesTitle old octets (Some taken) new lines = (more : List ℕ) → ArePendingLines new.teller.options taken.1 more
+abbrev pub TakesNext : Dissector → List ℕ → Option (ℕ × Option Pending) → Dissector → List ℕ → Type 0
+TakesNext old octets None new lines = TakesNone old octets new lines
+TakesNext old octets (Some taken) new lines = (more : List ℕ) → ArePendingLines new.teller.options taken.1 more
     → DissectsSome old octets taken.0 new (lines ++ more)

@@ -2,14 +2,13 @@
 
 ghost use Rattle.std.specs.Prelude.{◌≡◌, ◌++◌, ◌≤◌, [], ℕ, List, true, IsErr};
 ghost use Rattle.std.specs.Prelude.{IsOk, OnOk, OnErr, IfErr, IfOk, string_bytes};
-ghost use Rattle.ua_wire.specs.Format.{Extends};
 ghost use Rattle.ua_frame.specs.declared.frame.Frame.{Frame};
 ghost use Rattle.ua_frame.specs.Frames.{IsSized, LetsIn};
 ghost use Rattle.ua_pair.specs.Dissected.{every_frame as open_gate};
 ghost use Rattle.ua_pair.specs.Dissecting.{StandsBehind, TellsMore, EndsLines, AreHeld, IsDissectorClosed};
 ghost use Rattle.ua_pair.specs.Dissecting.{most_buffered, Holds, DissectorGoesOn, FrameTold, TakesPiece};
 ghost use Rattle.ua_pair.specs.Dissecting.{TakesNext, is_dissecting, is_refused, is_stopped, HasRefusedOne};
-ghost use Rattle.ua_pair.specs.Dissecting.{IsStarved, PrintsFirst, PrintsMore, PrintsPart, TakesTitle, WritesPiece};
+ghost use Rattle.ua_pair.specs.Dissecting.{IsStarved, PrintsFirst, PrintsMore, PrintsPart, PrintsPiece, WritesPiece};
 ghost use Rattle.ua_pair.specs.Telling.{ArePendingLines};
 ghost use Rattle.ua_pair.specs.Told.{place_behind};
 
@@ -22,7 +21,7 @@ use crate::teller::{Teller, frame_size};
 use std::alloc::{AllocError, Global};
 use std::io::Write;
 use ua_builtin::StatusCode;
-use ua_fields::{PrintFault, write_full, write_kept};
+use ua_fields::{Kept, PrintFault, Sink, write_kept};
 use ua_frame::Frame;
 
 /// The most bytes that a dissector buffers: those of a UA TCP message of the greatest size, and as
@@ -41,7 +40,8 @@ pub enum State {
 }
 
 /// Prints the bytes that one side of a connection sent, in any fragments, as lines. A UA TCP
-/// message, and a message with its last chunk, is printed as soon as it is complete.
+/// message, and a message with its last chunk, is printed as soon as it is complete. The fields of a
+/// message are printed as it is read, an element of an array at a time, also of an array in a value.
 #[derive(Debug, Drop)]
 pub struct Dissector {
     alloc: Global,
@@ -98,29 +98,32 @@ impl Dissector {
         self.teller = Teller::new(self.alloc, self.teller.options);
     }
 
-    /// Replaces the contents of `lines` by the lines of a complete UA TCP message; a rejected one
-    /// has none, and the dissector stops.
-    fn tell(&mut self, frame: Frame, lines: &mut String) -> Result<(), AllocError>
+    /// Replaces the contents of `lines` by the lines of a complete UA TCP message, without those of
+    /// the fields of the message that is returned; a rejected one has no lines, and the dissector
+    /// stops.
+    fn tell(&mut self, frame: Frame, lines: &mut String) -> Result<Option<Pending>, AllocError>
         requires sized { IsSized frame }
         requires let_in { LetsIn open_gate frame }
-        ensures { (options : DissectOptions) (before : List Frame) → DissectorGoesOn self.old options before []
+        ensures told { (options : DissectOptions) (before : List Frame) → DissectorGoesOn self.old options before []
             → self.old.place ≡ place_behind before
-            → OnOk result (FrameTold self.new options before frame (string_bytes lines.new)) }
+            → IfOk result (λ pending. (more : List ℕ) → ArePendingLines self.new.teller.options pending more
+            → FrameTold self.new options before frame (string_bytes lines.new ++ more)) }
+        ensures options { self.new.teller.options ≡ self.old.teller.options }
     {
         let size = frame_size(&frame);
         lines.clear();
         match self.teller.push_frame(frame, self.place, lines) {
-            Ok(()) => {
+            Ok(pending) => {
                 let Some(place) = self.place.checked_add(size) else {
                     return Err(AllocError);
                 };
                 self.place = place;
-                Ok(())
+                Ok(pending)
             }
             Err(DissectFault::Refused(code)) => {
                 lines.clear();
                 self.stop(State::Refused(code));
-                Ok(())
+                Ok(None)
             }
             Err(DissectFault::OutOfMemory) => Err(AllocError),
         }
@@ -128,9 +131,15 @@ impl Dissector {
 
     /// Consumes bytes up to the end of the first UA TCP message, or all of them, and returns how
     /// many; `None` if there are none, or if none are accepted. The lines of the message replace
-    /// the contents of `lines`.
-    fn take_next(&mut self, octets: &[u8], lines: &mut String) -> Result<Option<usize>, AllocError>
-        ensures { IfOk result (λ taken. TakesNext self.old octets.now taken self.new (string_bytes lines.new)) }
+    /// the contents of `lines`, without those of the fields of the message that is returned.
+    fn take_next(
+        &mut self,
+        octets: &[u8],
+        lines: &mut String,
+    ) -> Result<Option<(usize, Option<Pending>)>, AllocError>
+        ensures taken { IfOk result
+            (λ taken. TakesNext self.old octets.now taken self.new (string_bytes lines.new)) }
+        ensures options { self.new.teller.options ≡ self.old.teller.options }
     {
         lines.clear();
         if octets.is_empty() || !self.goes_on() {
@@ -138,38 +147,63 @@ impl Dissector {
         }
         match self.reader.take(octets) {
             Ok((size, Some(frame))) => {
-                self.tell(frame, lines)?;
-                Ok(Some(size))
+                let pending = self.tell(frame, lines)?;
+                Ok(Some((size, pending)))
             }
-            Ok((size, None)) => Ok(Some(size)),
+            Ok((size, None)) => Ok(Some((size, None))),
             Err(fault) => {
                 let Some(code) = fault.code() else {
                     return Err(AllocError);
                 };
                 self.stop(State::Refused(code));
-                Ok(Some(octets.len()))
+                Ok(Some((octets.len(), None)))
             }
         }
     }
 
-    /// Appends the lines of what a fragment completes, unless an allocation failed before. After an
-    /// error, some of them may have been appended.
-    fn take_all(&mut self, piece: &[u8], out: &mut String) -> Result<(), AllocError>
-        ensures takes { OnOk result
-            (TakesPiece self.old self.new piece.now (string_bytes out.old) (string_bytes out.new)) }
-        ensures err { OnErr result (Extends (string_bytes out.old) (string_bytes out.new)) }
+    /// Prints the lines of what a fragment completes, unless an allocation or the writer failed
+    /// before: the text, which is empty, keeps those that are not handed over.
+    fn print_piece<O: Sink>(
+        &mut self,
+        piece: &[u8],
+        text: &mut String,
+        out: &mut O,
+    ) -> Result<(), PrintFault>
+        requires { string_bytes text.old ≡ [] }
+        ensures prints { OnOk result (PrintsPiece self.old self.new piece.now (O.contents out.old) (O.contents out.new)
+            (string_bytes text.new)) }
+        ensures begun { IfErr result (λ fault. IsStarved fault
+            → PrintsPart self.old piece.now (O.contents out.old) (O.contents out.new)) }
         ensures closed { IsDissectorClosed self.old → IsErr result }
     {
         if let State::Closed = self.state {
-            return Err(AllocError);
+            return Err(PrintFault::OutOfMemory);
         }
         let mut lines = String::new(self.alloc);
         let mut at = 0;
-        while let Some(taken) = self.take_next(&piece[at..], &mut lines)? {
-            out.push_str(&lines)?;
+        while let Some((taken, pending)) = self.take_next(&piece[at..], &mut lines)? {
+            text.push_str(&lines)?;
+            print_pending(self.alloc, &self.teller.options, &pending, text, out)?;
+            out.write_full(text)?;
             at += taken;
         }
         Ok(())
+    }
+
+    /// Appends the lines of what a fragment completes, unless an allocation failed before. On an
+    /// error the text is unchanged.
+    fn take_all(&mut self, piece: &[u8], out: &mut String) -> Result<(), AllocError>
+        ensures takes { OnOk result
+            (TakesPiece self.old self.new piece.now (string_bytes out.old) (string_bytes out.new)) }
+        ensures err { OnErr result (string_bytes out.new ≡ string_bytes out.old) }
+        ensures closed { IsDissectorClosed self.old → IsErr result }
+    {
+        let mut lines = String::new(self.alloc);
+        match self.print_piece(piece, &mut lines, &mut Kept) {
+            Ok(()) => out.push_str(&lines),
+            // There is no writer that could fail.
+            Err(PrintFault::OutOfMemory | PrintFault::Output(_)) => Err(AllocError),
+        }
     }
 
     /// Takes the next bytes, and appends the lines of the UA TCP messages and messages that are
@@ -193,80 +227,11 @@ impl Dissector {
         if self.is_refused() {
             return Ok(());
         }
-        let len = out.len();
         let taken = self.take_all(piece, out);
         if taken.is_err() {
-            out.truncate(len);
             self.stop(State::Closed);
         }
         taken
-    }
-
-    /// Replaces the contents of `lines` by the lines of a complete UA TCP message, without those of
-    /// the fields of the message that is returned; a rejected one has no lines, and the dissector
-    /// stops.
-    fn tell_title(
-        &mut self,
-        frame: Frame,
-        lines: &mut String,
-    ) -> Result<Option<Pending>, AllocError>
-        requires sized { IsSized frame }
-        requires let_in { LetsIn open_gate frame }
-        ensures told { (options : DissectOptions) (before : List Frame) → DissectorGoesOn self.old options before []
-            → self.old.place ≡ place_behind before
-            → IfOk result (λ pending. (more : List ℕ) → ArePendingLines self.new.teller.options pending more
-            → FrameTold self.new options before frame (string_bytes lines.new ++ more)) }
-        ensures options { self.new.teller.options ≡ self.old.teller.options }
-    {
-        let size = frame_size(&frame);
-        lines.clear();
-        match self.teller.push_frame_title(frame, self.place, lines) {
-            Ok(pending) => {
-                let Some(place) = self.place.checked_add(size) else {
-                    return Err(AllocError);
-                };
-                self.place = place;
-                Ok(pending)
-            }
-            Err(DissectFault::Refused(code)) => {
-                lines.clear();
-                self.stop(State::Refused(code));
-                Ok(None)
-            }
-            Err(DissectFault::OutOfMemory) => Err(AllocError),
-        }
-    }
-
-    /// Consumes bytes up to the end of the first UA TCP message, or all of them, as `take_next`
-    /// does. The lines of the message replace the contents of `lines`, without those of the fields
-    /// of the message that is returned.
-    fn take_title(
-        &mut self,
-        octets: &[u8],
-        lines: &mut String,
-    ) -> Result<Option<(usize, Option<Pending>)>, AllocError>
-        ensures taken { IfOk result
-            (λ taken. TakesTitle self.old octets.now taken self.new (string_bytes lines.new)) }
-        ensures options { self.new.teller.options ≡ self.old.teller.options }
-    {
-        lines.clear();
-        if octets.is_empty() || !self.goes_on() {
-            return Ok(None);
-        }
-        match self.reader.take(octets) {
-            Ok((size, Some(frame))) => {
-                let pending = self.tell_title(frame, lines)?;
-                Ok(Some((size, pending)))
-            }
-            Ok((size, None)) => Ok(Some((size, None))),
-            Err(fault) => {
-                let Some(code) = fault.code() else {
-                    return Err(AllocError);
-                };
-                self.stop(State::Refused(code));
-                Ok(Some((octets.len(), None)))
-            }
-        }
     }
 
     /// Prints the lines of what a fragment completes, unless an allocation or the writer failed
@@ -278,27 +243,16 @@ impl Dissector {
             → PrintsPart self.old piece.now (O.contents out.old) (O.contents out.new)) }
         ensures closed { IsDissectorClosed self.old → IsErr result }
     {
-        if let State::Closed = self.state {
-            return Err(PrintFault::OutOfMemory);
-        }
         let mut text = String::new(self.alloc);
-        let mut lines = String::new(self.alloc);
-        let mut at = 0;
-        while let Some((taken, pending)) = self.take_title(&piece[at..], &mut lines)? {
-            text.push_str(&lines)?;
-            print_pending(self.alloc, &self.teller.options, &pending, &mut text, out)?;
-            write_full(&mut text, out)?;
-            at += taken;
-        }
+        self.print_piece(piece, &mut text, out)?;
         write_kept(&mut text, out)?;
         Ok(())
     }
 
     /// Takes the next bytes, and prints what [`take`](Dissector::take) would append, without holding
-    /// all of it: the fields of each request and response in a MSG or an OPN are printed as they are
-    /// read, an element of an array at a time, also of an array in a value; with `plain` a value is
-    /// read whole. On an error the dissector takes nothing more. Where an allocation failed, the
-    /// first of the lines may have been printed; where the writer failed, it is not known what was.
+    /// all of it: lines are handed over when they are some 64 KiB. On an error the dissector takes
+    /// nothing more. Where an allocation failed, the first of the lines may have been printed; where
+    /// the writer failed, it is not known what was.
     pub fn print<O: Write>(&mut self, piece: &[u8], out: &mut O) -> Result<(), PrintFault>
         // The lines printed so far depend on the bytes alone, however they were fragmented.
         ensures told { (options : DissectOptions) (octets told : List ℕ) → StandsBehind self.old options octets told

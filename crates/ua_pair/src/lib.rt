@@ -37,8 +37,4 @@ pub use dissector::Dissector;
 pub use encoding::encoding_name;
 pub use options::DissectOptions;
 pub use stream::dissect;
-pub use ua_fields::{
-    BodyKind, PrintFault, Side, push_body_fields, push_close_request_fields,
-    push_open_answer_fields, push_open_request_fields, push_open_response_fields,
-    push_request_fields, push_response_fields,
-};
+pub use ua_fields::{BodyKind, PrintFault, Side, push_body_fields};

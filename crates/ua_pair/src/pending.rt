@@ -1,27 +1,18 @@
 //! What has its line appended, and whose fields are printed behind it as they are read.
 
-ghost use Rattle.std.specs.Prelude.{◌≡◌, ◌++◌, ◌&&◌, ℕ, List, Some, IfOk};
-ghost use Rattle.std.specs.Prelude.{string_bytes};
+ghost use Rattle.std.specs.Prelude.{◌≡◌, Some, string_bytes};
 ghost use Rattle.std.specs.List.{concat};
-ghost use Rattle.ua_chunk.specs.Item.Item.{Whole};
-ghost use Rattle.ua_chunk.specs.View.{item_of};
+ghost use Rattle.ua_fields.specs.Bodies.{message_kind as kind_of_message, opening_kind as kind_of_opening};
 ghost use Rattle.ua_fields.specs.Printing.{PrintsOrBreaks};
 ghost use Rattle.ua_pair.specs.Styles.{style_of};
 ghost use Rattle.ua_pair.specs.Telling.{AreMessageFields, ArePendingLines};
-ghost use Rattle.ua_pair.specs.Telling.{none_pending};
-ghost use Rattle.ua_fields.specs.Bodies.{message_kind as kind_of_message, opening_kind as kind_of_opening};
 ghost use Rattle.ua_pair.specs.Told.{AreFieldsOf, IsHeaderOf};
-ghost use Rattle.ua_pair.specs.Told.{IsItemText, IsOpenedText};
 
-use crate::delivered::push_message_head;
-use crate::fault::DissectFault;
-use crate::line::{push_aborted_line, push_message_line};
-use crate::name::opening_name;
 use crate::options::DissectOptions;
-use std::alloc::{AllocError, Global};
-use std::io::Write;
-use ua_chunk::{Delivered, Message, OpenChunk};
-use ua_fields::{PrintFault, print_header, print_message, print_opening};
+use std::alloc::Global;
+use ua_builtin::Octets;
+use ua_chunk::{Message, OpenChunk};
+use ua_fields::{BodyKind, PrintFault, Side, Sink, print_body, print_header};
 
 /// What has its line appended, and its fields to be printed after it.
 #[derive(Debug, Drop)]
@@ -32,8 +23,28 @@ pub enum Pending {
     Opening(OpenChunk),
 }
 
+/// How the body of a MSG of this side is decoded.
+fn message_kind(side: Side) -> BodyKind
+    ensures { result ≡ kind_of_message side }
+{
+    match side {
+        Side::Client => BodyKind::Request,
+        Side::Server => BodyKind::Response,
+    }
+}
+
+/// How the body of an OPN of this side is decoded.
+fn opening_kind(side: Side) -> BodyKind
+    ensures { result ≡ kind_of_opening side }
+{
+    match side {
+        Side::Client => BodyKind::OpenRequest,
+        Side::Server => BodyKind::OpenResponse,
+    }
+}
+
 /// Prints the lines of the fields of a message of this side, if they are wanted.
-fn print_fields<O: Write>(
+fn print_fields<O: Sink>(
     alloc: Global,
     options: &DissectOptions,
     message: &Message,
@@ -45,14 +56,16 @@ fn print_fields<O: Write>(
         result }
 {
     if options.fields {
-        print_message(alloc, options.side, options.style(), message, text, out)
+        let mut body = message.source();
+        let kind = message_kind(options.side);
+        print_body(alloc, kind, options.style(), &mut body, text, out)
     } else {
         Ok(())
     }
 }
 
 /// Prints the lines of the header of a message of no known kind, if fields are wanted.
-fn print_header_if<O: Write>(
+fn print_header_if<O: Sink>(
     alloc: Global,
     options: &DissectOptions,
     unsupported: bool,
@@ -64,14 +77,15 @@ fn print_header_if<O: Write>(
         (string_bytes text.new) (IsHeaderOf options.now unsupported (concat message.now)) result }
 {
     if options.fields && unsupported {
-        print_header(alloc, options.side, options.style(), message, text, out)
+        let mut body = message.source();
+        print_header(alloc, options.side, options.style(), &mut body, text, out)
     } else {
         Ok(())
     }
 }
 
 /// Prints the lines of the fields of a message, or of its header, if they are wanted.
-fn print_message_fields<O: Write>(
+fn print_message_fields<O: Sink>(
     alloc: Global,
     options: &DissectOptions,
     unsupported: bool,
@@ -87,7 +101,7 @@ fn print_message_fields<O: Write>(
 }
 
 /// Prints the lines of the fields of the body of an OPN of this side, if they are wanted.
-fn print_opened<O: Write>(
+fn print_opened<O: Sink>(
     alloc: Global,
     options: &DissectOptions,
     chunk: &OpenChunk,
@@ -98,14 +112,16 @@ fn print_opened<O: Write>(
         (string_bytes text.new) (AreFieldsOf options.now (kind_of_opening options.now.side) chunk.now.body) result }
 {
     if options.fields {
-        print_opening(alloc, options.side, options.style(), &chunk.body, text, out)
+        let mut body = Octets::new(&chunk.body);
+        let kind = opening_kind(options.side);
+        print_body(alloc, kind, options.style(), &mut body, text, out)
     } else {
         Ok(())
     }
 }
 
 /// Prints the lines of the fields of what has its line appended, if they are wanted.
-fn print_fields_of<O: Write>(
+fn print_fields_of<O: Sink>(
     alloc: Global,
     options: &DissectOptions,
     pending: &Pending,
@@ -125,7 +141,7 @@ fn print_fields_of<O: Write>(
 
 /// Prints the lines of the fields of what has its line appended, if they are wanted; none where
 /// nothing is pending.
-pub(crate) fn print_pending<O: Write>(
+pub(crate) fn print_pending<O: Sink>(
     alloc: Global,
     options: &DissectOptions,
     pending: &Option<Pending>,
@@ -138,72 +154,5 @@ pub(crate) fn print_pending<O: Write>(
     match pending {
         Some(pending) => print_fields_of(alloc, options, pending, text, out),
         None => Ok(()),
-    }
-}
-
-/// Appends the line of a message, whose fields are pending then.
-fn push_title(
-    alloc: Global,
-    options: &DissectOptions,
-    request: u32,
-    message: Message,
-    lines: &mut String,
-) -> Result<Pending, AllocError>
-    ensures { IfOk result (λ pending. (more : List ℕ) → ArePendingLines options.now (Some pending) more
-        → (text : List ℕ) × (string_bytes lines.new ++ more ≡ string_bytes lines.old ++ text)
-        × IsItemText options.now (Whole request (concat message)) text) }
-{
-    let unsupported = push_message_head(alloc, options, request, &message, lines)?;
-    Ok(Pending::Message(message, unsupported))
-}
-
-/// Appends the line of what a chunk completes, and returns the message whose fields are pending.
-pub(crate) fn push_titled(
-    alloc: Global,
-    options: &DissectOptions,
-    delivered: Delivered,
-    lines: &mut String,
-) -> Result<Option<Pending>, AllocError>
-    ensures { IfOk result (λ pending. (more : List ℕ) → ArePendingLines options.now pending more
-        → (text : List ℕ) × (string_bytes lines.new ++ more ≡ string_bytes lines.old ++ text)
-        × IsItemText options.now (item_of delivered) text) }
-{
-    match delivered {
-        Delivered::Whole(request, message) => {
-            let pending = push_title(alloc, options, request, message, lines)?;
-            Ok(Some(pending))
-        }
-        Delivered::Aborted(request, code, _) => {
-            push_aborted_line(lines, options.names, request, code)?;
-            Ok(None)
-        }
-    }
-}
-
-/// Appends the line of the body of an OPN, whose fields are pending then.
-pub(crate) fn push_opened_title(
-    alloc: Global,
-    options: &DissectOptions,
-    chunk: OpenChunk,
-    lines: &mut String,
-) -> Result<Pending, AllocError>
-    ensures { IfOk result (λ pending. (more : List ℕ) → ArePendingLines options.now (Some pending) more
-        → (text : List ℕ) × (string_bytes lines.new ++ more ≡ string_bytes lines.old ++ text)
-        × IsOpenedText options.now chunk text) }
-{
-    let name = opening_name(alloc, options.side, &chunk.body)?;
-    push_message_line(lines, chunk.request, chunk.body.len(), name)?;
-    Ok(Pending::Opening(chunk))
-}
-
-/// What is returned for a UA TCP message that leaves no fields pending.
-pub(crate) fn without_pending(
-    told: Result<(), DissectFault>,
-) -> Result<Option<Pending>, DissectFault>
-    ensures { result ≡ none_pending told }
-{
-    match told {
-        Ok(()) => Ok(None),
-        Err(fault) => Err(fault),
     }
 }

@@ -16,11 +16,11 @@ ghost use Rattle.ua_pair.specs.Refused.{greeting_reasons, frame_reasons};
 ghost use Rattle.ua_pair.specs.Told.{IsFrameText};
 ghost use Rattle.ua_pair.specs.Told.{line_if, place_behind};
 
-use crate::delivered::{push_delivered, push_opened};
+use crate::delivered::{push_delivered, push_opened, without_pending};
 use crate::fault::DissectFault;
 use crate::line::{GreetingLine, push_chunk_line, push_opening_line};
 use crate::options::DissectOptions;
-use crate::pending::{Pending, push_opened_title, push_titled, without_pending};
+use crate::pending::Pending;
 use std::alloc::Global;
 use ua_builtin::StatusCode;
 use ua_chunk::{Assembler, read_chunk, read_open};
@@ -83,65 +83,6 @@ impl Teller {
         }
     }
 
-    /// Appends the lines of an OPN at this offset.
-    fn push_opening(
-        &mut self,
-        frame: Frame,
-        place: usize,
-        lines: &mut String,
-    ) -> Result<(), DissectFault>
-        requires kind { frame.kind ≡ Opn }
-        requires sized { IsSized frame }
-        ensures judged { (before : List Frame) → TellerStands self.old before →
-            JudgesKind Opn self.old.options before place frame result (string_bytes lines.old)
-            (string_bytes lines.new) }
-        ensures stands { (before : List Frame) → TellerStands self.old before
-            → OnOk result (TellerStands self.new (before ++ frame ∷ [])) }
-        ensures options { self.new.options ≡ self.old.options }
-    {
-        let size = frame_size(&frame);
-        let chunk = match read_open(frame) {
-            Ok(chunk) => chunk,
-            Err(fault) => return Err(DissectFault::from_opening(fault)),
-        };
-        if let Err(fault) = self.assembler.step(chunk.sequence) {
-            return Err(DissectFault::from_chunk(self.options.side, fault));
-        }
-        push_opening_line(lines, place, size, &chunk)?;
-        push_opened(self.alloc, &self.options, &chunk, lines)?;
-        Ok(())
-    }
-
-    /// Appends the lines of a MSG at this offset.
-    fn push_message(
-        &mut self,
-        frame: Frame,
-        place: usize,
-        lines: &mut String,
-    ) -> Result<(), DissectFault>
-        requires kind { frame.kind ≡ Msg }
-        requires sized { IsSized frame }
-        requires let_in { LetsIn every_frame frame }
-        ensures judged { (before : List Frame) → TellerStands self.old before →
-            JudgesKind Msg self.old.options before place frame result (string_bytes lines.old)
-            (string_bytes lines.new) }
-        ensures stands { (before : List Frame) → TellerStands self.old before
-            → OnOk result (TellerStands self.new (before ++ frame ∷ [])) }
-        ensures options { self.new.options ≡ self.old.options }
-    {
-        let size = frame_size(&frame);
-        let chunk = read_chunk(frame);
-        push_chunk_line(lines, "MSG", place, size, &chunk)?;
-        match self.assembler.accept(chunk) {
-            Ok(Some(delivered)) => {
-                push_delivered(self.alloc, &self.options, delivered, lines)?;
-                Ok(())
-            }
-            Ok(None) => Ok(()),
-            Err(fault) => Err(DissectFault::from_chunk(self.options.side, fault)),
-        }
-    }
-
     /// Appends the line of a CLO at this offset.
     fn push_close(
         &mut self,
@@ -168,40 +109,9 @@ impl Teller {
         Ok(())
     }
 
-    /// Appends the lines of the next UA TCP message, which begins at this offset.
-    #[tactic(auto, using(crate::proofs::Standings::stands_hello, crate::proofs::Standings::stands_ack, crate::proofs::Standings::stands_error))]
-    pub fn push_frame(
-        &mut self,
-        frame: Frame,
-        place: usize,
-        lines: &mut String,
-    ) -> Result<(), DissectFault>
-        requires sized { IsSized frame }
-        requires let_in { LetsIn every_frame frame }
-        ensures judged { (before : List Frame) → TellerStands self.old before → place ≡ place_behind before →
-            JudgesFrameTelling (first_reason (frame_reasons self.old.options.side before frame))
-            (IsFrameText self.old.options before frame) result (string_bytes lines.old) (string_bytes lines.new) }
-        ensures stands { (before : List Frame) → TellerStands self.old before
-            → OnOk result (TellerStands self.new (before ++ frame ∷ [])) }
-        ensures options { self.new.options ≡ self.old.options }
-    {
-        let size = frame_size(&frame);
-        let names = self.options.names;
-        match frame.kind {
-            Kind::Hel => push_greeting::<Hello>(self.alloc, &frame.body, names, place, size, lines),
-            Kind::Ack => push_greeting::<Ack>(self.alloc, &frame.body, names, place, size, lines),
-            Kind::Err => {
-                push_greeting::<ErrorFrame>(self.alloc, &frame.body, names, place, size, lines)
-            }
-            Kind::Msg => self.push_message(frame, place, lines),
-            Kind::Opn => self.push_opening(frame, place, lines),
-            Kind::Clo => self.push_close(frame, place, lines),
-        }
-    }
-
     /// Appends the line of a MSG at this offset and that of the message that it completes, whose
     /// fields are pending then.
-    fn push_message_title(
+    fn push_message(
         &mut self,
         frame: Frame,
         place: usize,
@@ -222,7 +132,7 @@ impl Teller {
         let chunk = read_chunk(frame);
         push_chunk_line(lines, "MSG", place, size, &chunk)?;
         match self.assembler.accept(chunk) {
-            Ok(Some(delivered)) => Ok(push_titled(self.alloc, &self.options, delivered, lines)?),
+            Ok(Some(delivered)) => Ok(push_delivered(self.alloc, &self.options, delivered, lines)?),
             Ok(None) => Ok(None),
             Err(fault) => Err(DissectFault::from_chunk(self.options.side, fault)),
         }
@@ -230,7 +140,7 @@ impl Teller {
 
     /// Appends the line of an OPN at this offset and that of its body, whose fields are pending
     /// then.
-    fn push_opening_title(
+    fn push_opening(
         &mut self,
         frame: Frame,
         place: usize,
@@ -255,13 +165,13 @@ impl Teller {
             return Err(DissectFault::from_chunk(self.options.side, fault));
         }
         push_opening_line(lines, place, size, &chunk)?;
-        let pending = push_opened_title(self.alloc, &self.options, chunk, lines)?;
+        let pending = push_opened(self.alloc, &self.options, chunk, lines)?;
         Ok(Some(pending))
     }
 
     /// Appends the lines of the next UA TCP message, which begins at this offset, without those of
     /// the fields of the message that is returned.
-    pub fn push_frame_title(
+    pub fn push_frame(
         &mut self,
         frame: Frame,
         place: usize,
@@ -279,10 +189,36 @@ impl Teller {
             → OnOk result (TellerStands self.new (before ++ frame ∷ [])) }
         ensures options { self.new.options ≡ self.old.options }
     {
+        let size = frame_size(&frame);
+        let names = self.options.names;
         match frame.kind {
-            Kind::Msg => self.push_message_title(frame, place, lines),
-            Kind::Opn => self.push_opening_title(frame, place, lines),
-            _ => without_pending(self.push_frame(frame, place, lines)),
+            Kind::Hel => without_pending(push_greeting::<Hello>(
+                self.alloc,
+                &frame.body,
+                names,
+                place,
+                size,
+                lines,
+            )),
+            Kind::Ack => without_pending(push_greeting::<Ack>(
+                self.alloc,
+                &frame.body,
+                names,
+                place,
+                size,
+                lines,
+            )),
+            Kind::Err => without_pending(push_greeting::<ErrorFrame>(
+                self.alloc,
+                &frame.body,
+                names,
+                place,
+                size,
+                lines,
+            )),
+            Kind::Msg => self.push_message(frame, place, lines),
+            Kind::Opn => self.push_opening(frame, place, lines),
+            Kind::Clo => without_pending(self.push_close(frame, place, lines)),
         }
     }
 

@@ -23,6 +23,7 @@ mod status_codes;
 mod text;
 mod value;
 
+pub use marks::{Marks, push_marked_char};
 pub use names::{code_name, push_code_as};
 pub use plain::{push_array_type, push_plain_fields, push_plain_scalar, push_plain_variant};
 pub use plain_diagnostic::push_diagnostic;

@@ -10,7 +10,7 @@ use ua_builtin::UaString;
 
 /// The characters that delimit a text, and are escaped in it.
 #[derive(Clone, Copy, PartialEq, Eq, Debug)]
-pub(crate) struct Marks {
+pub struct Marks {
     /// A bar follows the text.
     pub bar: bool,
     /// A semicolon follows the text.
@@ -21,7 +21,7 @@ pub(crate) struct Marks {
 
 impl Marks {
     /// The marks of a text alone, or within an array or brackets.
-    pub(crate) fn of(within: bool) -> Marks
+    pub fn of(within: bool) -> Marks
         ensures { result ≡ marks_of within }
     {
         Marks {
@@ -32,7 +32,7 @@ impl Marks {
     }
 
     /// The marks of a text before a bar.
-    pub(crate) fn before_bar(within: bool) -> Marks
+    pub fn before_bar(within: bool) -> Marks
         ensures { result ≡ before_bar within }
     {
         Marks {
@@ -43,7 +43,7 @@ impl Marks {
     }
 
     /// The marks of a text before a semicolon.
-    pub(crate) fn before_semicolon(within: bool) -> Marks
+    pub fn before_semicolon(within: bool) -> Marks
         ensures { result ≡ before_semicolon within }
     {
         Marks {
@@ -64,7 +64,8 @@ pub(crate) fn push_marked(out: &mut String, text: &str, marks: Marks) -> Result<
     Ok(())
 }
 
-fn push_marked_char(out: &mut String, c: char, marks: Marks) -> Result<(), AllocError>
+/// Appends a character of a text between marks: a mark by its digits, any other as it is shown.
+pub fn push_marked_char(out: &mut String, c: char, marks: Marks) -> Result<(), AllocError>
     ensures { OnOk result (string_bytes out.new ≡ string_bytes out.old ++ marked_char marks c) }
 {
     match mark_octet(c, marks) {

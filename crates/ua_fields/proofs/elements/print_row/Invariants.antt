@@ -6,4 +6,4 @@ use Rattle.ua_fields.proofs.elements.print_row.Given as goal
 
 abbrev pub invariant-loop-index : goal.invariant-loop-index
 invariant-loop-index g l = ItemsSoFar (scalars_at element_levels l.kind) l.count l.index (g.S.Source.octets l.fn.src) (g.S.Source.octets l.src)
-    (g.O.Write.contents l.fn.out) (string_bytes l.fn.text) (g.O.Write.contents l.out) (string_bytes l.text)
+    (g.O.Sink.contents l.fn.out) (string_bytes l.fn.text) (g.O.Sink.contents l.out) (string_bytes l.text)

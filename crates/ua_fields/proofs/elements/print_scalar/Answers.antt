@@ -87,10 +87,10 @@ returns-in-25 g c =
 pub returns-in-26-to-31 : goal.returns-in-26-to-31
 returns-in-26-to-31 g c =
     kind_told c.args.kind c.args.kind (λ x. leaf (reserved c.args.kind x)) counted.decode (λ v. unwritable) _ _ _ _ _ _ c.print_reserved.result refl
-    (reserved_at c.args.kind (omega arith) (omega arith)) (λ x. refl) (c.print_reserved.ensures (g.O.Write.contents c.args.out.now))
+    (reserved_at c.args.kind (omega arith) (omega arith)) (λ x. refl) (c.print_reserved.ensures (g.O.Sink.contents c.args.out.now))
 
 pub returns-in-1-to-11 : goal.returns-in-1-to-11
-returns-in-1-to-11 g c = c.print_packed.ensures (g.O.Write.contents c.args.out.now)
+returns-in-1-to-11 g c = c.print_packed.ensures (g.O.Sink.contents c.args.out.now)
 
 pub returns-in_default : goal.returns-in_default
 returns-in_default g c = unread_kind c.args.kind _ (λ some. omega arith)

@@ -5,6 +5,6 @@ use Rattle.ua_fields.proofs.node.print_escaped_base64.Goals as goal
 
 pub returns : goal.returns
 returns g c =
-    subst (λ (t : List ℕ). PrintsPieces (g.O.Write.contents c.args.out.now) (string_bytes c.args.text.now) (g.O.Write.contents c.print_base64.new.out)
+    subst (λ (t : List ℕ). PrintsPieces (g.O.Sink.contents c.args.out.now) (string_bytes c.args.text.now) (g.O.Sink.contents c.print_base64.new.out)
     (string_bytes c.print_base64.new.text) t c.print_base64.result)
     (sym (escaped_base64 c.args.octets.now (λ i. omega (arith, c.type_inv.octets i)))) c.print_base64.ensures

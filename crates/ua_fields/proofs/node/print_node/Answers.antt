@@ -21,7 +21,7 @@ returns-in_err-print_escaped g c =
     c.as_str.ensures.value ∙ c.in_ok-front.ensures.text
     ∙ ap node_text (c.new.ensures ∙ ap (λ (i : Identifier). node c.args.id.now.namespace i) c.nulled.ensures) in
     rw (p.1, p.2)
-    (pieces_stopped (g.O.Write.contents c.args.out.now) (g.O.Write.contents c.print_escaped.new.out) (string_bytes c.args.text.now)
+    (pieces_stopped (g.O.Sink.contents c.args.out.now) (g.O.Sink.contents c.print_escaped.new.out) (string_bytes c.args.text.now)
     (string_bytes c.print_escaped.new.text) (escaped c.as_str.result.now) (escaped (left_out c.args.id.now.identifier))
     (escaped (node_text c.args.id.now)) c.in_err-print_escaped.field-0.0 (escaped_parts c.args.id.now c.as_str.result.now c.as_str.utf8 same)
     c.in_err-print_escaped.ensures)
@@ -31,7 +31,7 @@ returns g c =
     let same : c.as_str.result.now ≡ node_text (node c.args.id.now.namespace (nulled c.args.id.now.identifier)) =
     c.as_str.ensures.value ∙ c.in_ok-front.ensures.text
     ∙ ap node_text (c.new.ensures ∙ ap (λ (i : Identifier). node c.args.id.now.namespace i) c.nulled.ensures) in
-    pieces_both (g.O.Write.contents c.args.out.now) (g.O.Write.contents c.print_escaped.new.out) (g.O.Write.contents c.print_left_out.new.out)
+    pieces_both (g.O.Sink.contents c.args.out.now) (g.O.Sink.contents c.print_escaped.new.out) (g.O.Sink.contents c.print_left_out.new.out)
     (string_bytes c.args.text.now) (string_bytes c.print_escaped.new.text) (string_bytes c.print_left_out.new.text) (escaped c.as_str.result.now)
     (escaped (left_out c.args.id.now.identifier)) (escaped (node_text c.args.id.now)) c.print_left_out.result
     (escaped_parts c.args.id.now c.as_str.result.now c.as_str.utf8 same) c.in_ok-print_escaped.ensures c.print_left_out.ensures

@@ -15,7 +15,7 @@ pub returns-in_err-print_base64 : goal.returns-in_err-print_base64
 returns-in_err-print_base64 g c =
     let p = err_from_is_err_and c.from_residual-in_err-print_base64.result c.from_residual-in_err-print_base64.ensures.1 in
     rw (p.1, p.2)
-    (line_stopped (g.O.Write.contents c.args.out.now) (g.O.Write.contents c.args.out.now) (g.O.Write.contents c.print_base64.new.out)
+    (line_stopped (g.O.Sink.contents c.args.out.now) (g.O.Sink.contents c.args.out.now) (g.O.Sink.contents c.print_base64.new.out)
     (string_bytes c.args.text.now) (string_bytes c.push_start.new.out) (string_bytes c.print_base64.new.text) (encode_of standard c.args.octets.now)
     (codes "\n")
     (line c.args.place.margin.now c.args.place.path.now (encode_of standard c.args.octets.now)) c.in_err-print_base64.field-0.0

@@ -6,5 +6,5 @@ use Rattle.ua_texts.specs.Shown.{escaped, escaped_char}
 use Rattle.ua_fields.proofs.pieces.print_escaped.Given as goal
 
 abbrev pub invariant-loop-c : goal.invariant-loop-c
-invariant-loop-c g l = PiecesSoFar (g.O.Write.contents l.fn.out) (string_bytes l.fn.text) (g.O.Write.contents l.out) (string_bytes l.text)
+invariant-loop-c g l = PiecesSoFar (g.O.Sink.contents l.fn.out) (string_bytes l.fn.text) (g.O.Sink.contents l.out) (string_bytes l.text)
     (flat_map escaped_char (drop (length l.yielded) (chars l.fn.value))) (escaped l.fn.value)

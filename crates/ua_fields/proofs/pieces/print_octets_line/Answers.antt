@@ -14,7 +14,7 @@ pub returns-in_err-print_octets : goal.returns-in_err-print_octets
 returns-in_err-print_octets g c =
     let p = err_from_is_err_and c.from_residual-in_err-print_octets.result c.from_residual-in_err-print_octets.ensures.1 in
     rw (p.1, p.2)
-    (line_stopped (g.O.Write.contents c.args.out.now) (g.O.Write.contents c.args.out.now) (g.O.Write.contents c.print_octets.new.out)
+    (line_stopped (g.O.Sink.contents c.args.out.now) (g.O.Sink.contents c.args.out.now) (g.O.Sink.contents c.print_octets.new.out)
     (string_bytes c.args.text.now) (string_bytes c.push_start.new.out) (string_bytes c.print_octets.new.text) (octets_text c.args.octets.now) (codes "\n")
     (line c.args.place.margin.now c.args.place.path.now (octets_text c.args.octets.now)) c.in_err-print_octets.field-0.0
     (line_begun _ _ _ c.args.place.margin.now c.args.place.path.now _ c.in_ok-push_start.ensures) c.in_err-print_octets.ensures)

@@ -257,11 +257,11 @@ pub print_scalar-returns-in-25 : goal.print_scalar-returns-in-25
 print_scalar-returns-in-25 g t c =
     any_made (plain_field_style c.args.names) (diagnostic_at c.args.depth) (IsDiagnosticText c.args.names) (scalars_at c.args.depth c.args.kind) diagnostic
     (IsPlainScalar c.args.names c.args.within) _ _ _ _ _ _ _ c.print_plain_diagnostic.result
-    (diagnostics_of c.args.depth c.args.kind _ c.in-25.is) (λ x rest e text p. p) (c.print_plain_diagnostic.ensures (g.O.Write.contents c.args.out.now))
+    (diagnostics_of c.args.depth c.args.kind _ c.in-25.is) (λ x rest e text p. p) (c.print_plain_diagnostic.ensures (g.O.Sink.contents c.args.out.now))
 
 pub print_scalar-returns-in_default : goal.print_scalar-returns-in_default
 print_scalar-returns-in_default g t c =
-    c.print_plain_leaf.ensures c.args.depth (g.O.Write.contents c.args.out.now)
+    c.print_plain_leaf.ensures c.args.depth
 
 pub print_bracketed-returns-in_err-push_str : goal.print_bracketed-returns-in_err-push_str
 print_bracketed-returns-in_err-push_str g t c =
@@ -326,7 +326,7 @@ print_data_value-returns g t c =
     (IsRestText c.args.names) (data_value_at c.args.depth) value_within (IsPlainDataValue c.args.names) (g.S.Source.octets c.args.src.now) _ _ _ _
     (data_value_read c.args.depth _ _ c.in_ok-mask.mask (omega arith) c.in_ok-mask.ensures.exact (mask_low c.in_ok-mask.mask c.if-mask-gt-KNOWN_FLAGS.false))
     (data_value_text c.args.names) _ _ _ _ _ c.print_plain_rest.result c.in_ok-print_held.ensures
-    (c.print_plain_rest.ensures (g.O.Write.contents c.print_held.new.out))
+    (c.print_plain_rest.ensures (g.O.Sink.contents c.print_held.new.out))
 
 pub print_held-returns-in_err-push_str : goal.print_held-returns-in_err-push_str
 print_held-returns-in_err-push_str g t c =

@@ -35,4 +35,4 @@ decreases-print_held g l = 10 * l.depth + 2
 
 abbrev pub invariant-print_row-loop-index : goal.invariant-print_row-loop-index
 invariant-print_row-loop-index g l = AnySoFar l.names (scalars_at l.depth l.kind) l.count l.index (g.S.Source.octets l.fn.src) (g.S.Source.octets l.src)
-    (g.O.Write.contents l.fn.out) (string_bytes l.fn.text) (g.O.Write.contents l.out) (string_bytes l.text)
+    (g.O.Sink.contents l.fn.out) (string_bytes l.fn.text) (g.O.Sink.contents l.out) (string_bytes l.text)

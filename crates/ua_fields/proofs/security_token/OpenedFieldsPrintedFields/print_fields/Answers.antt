@@ -62,7 +62,7 @@ pub returns-in_err-front : goal.returns-in_err-front
 returns-in_err-front g c =
     let p = err_from_is_err_and c.from_residual.result c.from_residual.ensures.1 in
     rw (p.1, p.2) (fields_unread c.args.place.style c.args.place.margin.now c.args.place.path.now opened_fields values_read
-    (g.S.Source.octets c.args.src.now) [] (g.O.Write.contents c.args.out.now) (string_bytes c.args.text.now) (λ x. Unit {0})
+    (g.S.Source.octets c.args.src.now) [] (g.O.Sink.contents c.args.out.now) (string_bytes c.args.text.now) (λ x. Unit {0})
     c.in_err-front.field-0.0
     (front_unread with_nonce values_read front_read nonce_read (g.S.Source.octets c.args.src.now) [] c.in_err-front.field-0.0 nonce_behind
     c.in_err-front.ensures.exact))
@@ -86,7 +86,7 @@ returns g c =
     let path = c.args.place.path.now in
     let front = c.in_ok-front.front in
     parts_printed style with_nonce values_read front_read nonce_read (g.S.Source.octets c.args.src.now) _ _ front
-    (g.O.Write.contents c.args.out.now) _ _ (string_bytes c.args.text.now) _ _
+    (g.O.Sink.contents c.args.out.now) _ _ (string_bytes c.args.text.now) _ _
     (AreFieldsBehind style margin path [] (front_fields front))
     (λ sent. IsBehind style margin (field_path path (codes "server_nonce")) [] (byte_string_tree sent))
     (λ v. AreFieldsBehind style margin path [] (opened_fields v)) c.print_field.result nonce_behind c.in_ok-front.ensures.exact

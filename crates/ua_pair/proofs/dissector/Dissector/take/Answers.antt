@@ -1,14 +1,7 @@
-use Rattle.std.proofs.Common.{ℕ, string_bytes, subst, sym, ◌∙◌}
-use Rattle.std.specs.String.Boundary.{IsSplitPoint}
-use Rattle.ua_pair.proofs.CutBacks.{cut_back, on_err}
+use Rattle.std.proofs.Common.{string_bytes, sym, ◌∙◌}
 use Rattle.ua_pair.proofs.Dissections.{takes_tells}
 use Rattle.ua_pair.proofs.Refusing.{says_no_more}
 use Rattle.ua_pair.proofs.dissector.Dissector.take.Goals as goal
-
-pub truncate-requires : goal.truncate-requires
-truncate-requires c = λ fits.
-    subst (λ (n : ℕ). IsSplitPoint (string_bytes c.take_all-taken.new.out) n) (sym c.len-len.ensures)
-    (cut_back c.args.out.now c.take_all-taken.new.out (on_err c.take_all-taken.result c.if-is_err.ensures.value c.take_all-taken.ensures.err))
 
 pub returns-else-is_err-clause-told : goal.returns-else-is_err-clause-told
 returns-else-is_err-clause-told c = takes_tells c.take_all-taken.result c.args.self.now c.take_all-taken.new.self c.args.piece.now _ _
