@@ -10,7 +10,7 @@ the connection ended. With MEGABYTES the program may take no more memory than th
 After them `dissect` and `dissect --fields` get messages of the most octets that they take, each in a run of its own.
 
 With --bound only those requests of which no value is to be kept, and whose answers are small, messages of every kind
-for `dissect`, and those that `dissect --fields` prints as it reads them, of as many octets: the status is 1 where one of
+for `dissect`, and those that `dissect --fields`, without and with `--plain`, prints as it reads them, of as many octets: the status is 1 where one of
 them is answered in another way, or where the program held more than 8 MB. Without PROGRAM it is
 crates/ua_cli/out/ua_cli, and nothing is tried where that is not built.
 """
@@ -34,7 +34,7 @@ from array import array as array_of
 from typing import IO
 
 sys.dont_write_bytecode = True
-from try_parts.large import LONG, NULL, NUMBER, OPEN_REQUEST, OPEN_RESPONSE, PRINTED, TEXT, header, item
+from try_parts.large import LONG, NULL, NUMBER, OPEN_REQUEST, OPEN_RESPONSE, PRINTED, TEXT, WHOLE_WITH_PLAIN, header, item
 
 TOP = os.path.dirname(os.path.dirname(os.path.abspath(__file__)))
 # The most memory, in KiB, that a request of which nothing is to be kept may take: it takes 3,200 to 3,700, and 18,000
@@ -281,7 +281,9 @@ def hold_bound(program: str, nodes: str) -> None:
         flag, memory = attempt(program, nodes, 0, request)
         if flag != 'F' or not memory or memory > BOUND:
             raise SystemExit('try_large: %s: not answered whole within %d kB' % (request[0], BOUND))
-    for message, options in [(it, options) for options in ([], ['--fields']) for it in [*PRINTED, *LONG]]:
+    plain = [it for it in [*PRINTED, *LONG] if it[0] not in WHOLE_WITH_PLAIN]
+    runs = [*[(it, options) for options in ([], ['--fields']) for it in [*PRINTED, *LONG]], *[(it, ['--fields', '--plain']) for it in plain]]
+    for message, options in runs:
         last, memory = dissect(program, 0, message, MOST, options)
         if not last.startswith(b'unreadable' if 'cut off' in message[0] else b'end ') or not 0 < memory <= BOUND:
             raise SystemExit('try_large: %s: not printed whole within %d kB' % (message[0], BOUND))
@@ -299,7 +301,7 @@ def main(words: list[str]) -> None:
             hold_bound(words[1] if len(words) > 1 else os.path.join(TOP, 'crates/ua_cli/out/ua_cli'), nodes.name)
         for request in REQUESTS if not bound else ():
             attempt(words[0], nodes.name, megabytes, request)
-        for message, options in [(it, it_options) for it_options in ([], ['--fields']) for it in [*PRINTED, *LONG]] if not bound else ():
+        for message, options in [(it, it_options) for it_options in ([], ['--fields'], ['--fields', '--plain']) for it in [*PRINTED, *LONG]] if not bound else ():
             dissect(words[0], megabytes, message, MOST_DISSECTED, options)
 
 

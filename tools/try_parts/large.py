@@ -131,3 +131,5 @@ LONG = [
     ('OpenSecureChannelResponse with a StringTable of null Strings', '--server', OPEN_RESPONSE + RESPONSE[:17], bytes(27) + NULL, NULL),
     ('Write of an array of null Variants', '', WRITE + b'\1\0\0\0' + item(TEXT, b'\1\x98'), b'', b'\0'),
 ]
+# Of these `dissect --fields --plain` makes the text of a field whole: the digits of an ExtensionObject.
+WHOLE_WITH_PLAIN = ('ActivateSessionRequest of an identity', 'ServiceFault of an additional header')
