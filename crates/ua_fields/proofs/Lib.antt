@@ -12,6 +12,8 @@ mod ValueElements
 mod ValueArrays
 mod ValueLines
 mod PlainSteps
+mod PlainDiagnostics
+mod PlainLengths
 mod PlainHas
 mod PlainValues
 mod PlainLeaves

@@ -1,13 +1,12 @@
--- Lines of values whose texts are long.
-use Rattle.std.proofs.Common.{◌≡◌, ℕ, Bool, true, false, List, [], ◌++◌, Option, Some, None, Result, Ok, Err, ◌↔◌, codes, cond, refl, sym, ap, subst, ◌∙◌}
-use Rattle.ua_builtin.specs.ExtensionObject.{extension_object as object_format}
+-- Values whose texts are long, and their lines.
+use Rattle.std.proofs.Common.{◌≡◌, ℕ, Bool, true, false, List, [], ◌++◌, Option, Some, Result, Ok, Err, ◌↔◌, codes, cond}
+use Rattle.std.proofs.Common.{refl, sym, ap, subst, ◌∙◌, append_assoc}
 use Rattle.ua_builtin.specs.Format.{Format}
-use Rattle.ua_builtin.specs.declared.extension_object.ExtensionObject.{ExtensionObject}
-use Rattle.ua_fields.proofs.Printings.{nothing_breaks, tree_has}
-use Rattle.ua_fields.specs.Leaves.{below_object, encoded, encoded_text, extension_object_tree}
-use Rattle.ua_fields.specs.Leaves.{is_null_object, object_line, object_text, token_of}
-use Rattle.ua_fields.specs.Printing.{BreaksOffLines, PrintsOrBreaks, PrintsPieces}
-use Rattle.ua_fields.specs.Tree.{IsBehind, IsPlainText, IsText, Leaf, Tree, exact_leaf_text, line, same_leaf, text}
+use Rattle.ua_fields.proofs.Printings.{kept_grown, lines_then, nothing_breaks, only_kept, tree_has}
+use Rattle.ua_fields.proofs.ValueTexts.{other_is}
+use Rattle.ua_fields.specs.Leaves.{encoded, encoded_text, plain_or_null}
+use Rattle.ua_fields.specs.Printing.{BreaksOffLines, PrintsAny, PrintsLines, PrintsOrBreaks, PrintsPieces, PrintsText, told_fault}
+use Rattle.ua_fields.specs.Tree.{IsBehind, IsText, Leaf, Tree, line, same_leaf, text}
 use Rattle.ua_fields.specs.declared.style.FieldStyle.{FieldStyle}
 use Rattle.ua_fields.specs.declared.printing.PrintFault.{PrintFault}
 use Rattle.ua_fields.specs.declared.printing.PrintFault.TheVariants as print
@@ -15,7 +14,6 @@ use Rattle.ua_texts.specs.PlainLeaf.{Either}
 use Rattle.ua_texts.specs.Shown.{written_text}
 use Rattle.ua_wire.specs.declared.fault.WriteFault.{WriteFault}
 use Rattle.ua_wire.specs.declared.fault.WriteFault.TheVariants.{NotWritable}
-use Rattle.ua_wire.specs.Format.{flat}
 
 either_same : (b : Bool) (A : Type 0) → A → Either b A A
 either_same true A a = a
@@ -25,66 +23,127 @@ either_same false A a = a
 pub same_text : (style : FieldStyle) (shown : List ℕ) → IsText style (same_leaf shown) shown
 same_text style shown = either_same style.plain (shown ≡ shown) refl
 
--- an exact text
-pub exact_text : (style : FieldStyle) (leaf : Leaf) → style.plain ≡ false → IsText style leaf (exact_leaf_text style.names leaf)
-exact_text style leaf exact =
-    let shown = exact_leaf_text style.names leaf in
-    subst (λ (b : Bool). Either b (IsPlainText style.names leaf shown) (shown ≡ shown)) (sym exact) refl
-
--- the line of a tree was printed in pieces
-pub tree_pieces : (style : FieldStyle) (margin path : List ℕ) (tree : Tree) (lines : List ℕ) (a b : Option (List ℕ)) (ka kb : List ℕ)
-    (r : Result (Unit {0}) PrintFault) → IsBehind style margin path [] tree lines → PrintsPieces a ka b kb lines r
-    → PrintsOrBreaks style a ka b kb (IsBehind style margin path [] tree) r
-tree_pieces style margin path tree lines a b ka kb (Ok x) is h = record { lines = lines; printed = h; holds = is }
-tree_pieces style margin path tree lines a b ka kb (Err print.OutOfMemory) is h = record {
+-- a text of which this holds was printed in pieces
+pub holds_pieces : (style : FieldStyle) (Is : List ℕ → Type 0) (shown : List ℕ) (a b : Option (List ℕ)) (ka kb : List ℕ) (r : Result (Unit {0}) PrintFault)
+    → Is shown → PrintsPieces a ka b kb shown r → PrintsOrBreaks style a ka b kb Is r
+holds_pieces style Is shown a b ka kb (Ok x) is h = record { lines = shown; printed = h; holds = is }
+holds_pieces style Is shown a b ka kb (Err print.OutOfMemory) is h = record {
   lost = h.lost;
   lines = h.part;
   printed = h.printed;
-  front = λ t. (h.rest, subst (IsBehind style margin path [] tree) (sym h.front) is);
+  front = λ t. (h.rest, subst Is (sym h.front) is);
 }
-tree_pieces style margin path tree lines a b ka kb (Err (print.Output error)) is h = tt
+holds_pieces style Is shown a b ka kb (Err (print.Output error)) is h = tt
 
--- that of a text
-pub text_pieces : (style : FieldStyle) (margin path shown : List ℕ) (leaf : Leaf) (a b : Option (List ℕ)) (ka kb : List ℕ)
-    (r : Result (Unit {0}) PrintFault) → IsText style leaf shown → PrintsPieces a ka b kb (line margin path shown) r
-    → PrintsOrBreaks style a ka b kb (IsBehind style margin path [] (text leaf)) r
-text_pieces style margin path shown leaf a b ka kb r is h =
-    tree_pieces style margin path (text leaf) (line margin path shown) a b ka kb r (shown, refl, is) h
+-- nothing was printed of that of a field
+pub text_unprinted : (style : FieldStyle) (leaf : Leaf) (known : Option (List ℕ)) (kept : List ℕ)
+    → BreaksOffLines style known kept known (IsText style leaf)
+text_unprinted style leaf known kept = nothing_breaks style known known kept (IsText style leaf) refl (λ t. t leaf)
 
--- that of a value by its bytes, which is not null
-pub encoded_pieces : {A : Type 0} (style : FieldStyle) (margin path : List ℕ) (format : Format A) (is_null : A → Bool) (plain : Bool → A → List ℕ) (value : A)
-    (a b : Option (List ℕ)) (ka kb : List ℕ) (r : Result (Unit {0}) PrintFault) → style.plain ≡ false → is_null value ≡ false
-    → PrintsPieces a ka b kb (line margin path (written_text (format.encodable value) (format.canonical value))) r
-    → PrintsOrBreaks style a ka b kb (IsBehind style margin path [] (text (encoded format is_null plain value))) r
-unfolding encoded_text
-encoded_pieces style margin path format is_null plain value a b ka kb r exact some h =
-    let shown = written_text (format.encodable value) (format.canonical value) in
-    let same : encoded_text format is_null value ≡ shown = ap (λ (b : Bool). cond b (codes "null") shown) some in
-    text_pieces style margin path (encoded_text format is_null value) (encoded format is_null plain value) a b ka kb r
-    (exact_text style (encoded format is_null plain value) exact)
-    (subst (λ (t : List ℕ). PrintsPieces a ka b kb (line margin path t) r) (sym same) h)
+-- it was printed in pieces
+pub text_pieces : (style : FieldStyle) (shown : List ℕ) (leaf : Leaf) (a b : Option (List ℕ)) (ka kb : List ℕ) (r : Result (Unit {0}) PrintFault)
+    → IsText style leaf shown → PrintsPieces a ka b kb shown r → PrintsOrBreaks style a ka b kb (IsText style leaf) r
+text_pieces style shown leaf a b ka kb r is h = holds_pieces style (IsText style leaf) shown a b ka kb r is h
 
-object_exact : (x : ExtensionObject) (token : Option (List ℕ × Tree)) (names : Bool) → exact_leaf_text names (object_line x token) ≡ object_text x
-object_exact x None names = refl
-object_exact x (Some token) names = refl
+-- that of one that is the same in each style
+pub same_pieces : (style : FieldStyle) (shown : List ℕ) (a b : Option (List ℕ)) (ka kb : List ℕ) (r : Result (Unit {0}) PrintFault)
+    → PrintsPieces a ka b kb shown r → PrintsOrBreaks style a ka b kb (IsText style (same_leaf shown)) r
+same_pieces style shown a b ka kb r h = text_pieces style shown (same_leaf shown) a b ka kb r (same_text style shown) h
 
--- that of an ExtensionObject by its bytes
-pub object_pieces : (style : FieldStyle) (margin path : List ℕ) (x : ExtensionObject) (a b : Option (List ℕ)) (ka kb : List ℕ)
-    (r : Result (Unit {0}) PrintFault) → style.plain ≡ false → is_null_object x ≡ false
-    → PrintsPieces a ka b kb (line margin path (written_text ((flat object_format).encodable x) ((flat object_format).canonical x))) r
-    → PrintsOrBreaks style a ka b kb (IsBehind style margin path [] (extension_object_tree x)) r
-unfolding encoded_text
-object_pieces style margin path x a b ka kb r exact some h =
-    let token = token_of x in
-    let leaf = object_line x token in
-    let shown = written_text ((flat object_format).encodable x) ((flat object_format).canonical x) in
-    let same : exact_leaf_text style.names leaf ≡ shown =
-    object_exact x token style.names ∙ ap (λ (b : Bool). cond b (codes "null") shown) some in
-    let lines = line margin path shown in
-    let is : IsText style leaf shown = subst (IsText style leaf) same (exact_text style leaf exact) in
-    let below : Either style.plain (IsBehind style (margin ++ codes "  ") path lines (below_object token) lines) (lines ≡ lines) =
-    subst (λ (b : Bool). Either b (IsBehind style (margin ++ codes "  ") path lines (below_object token) lines) (lines ≡ lines)) (sym exact) refl in
-    tree_pieces style margin path (extension_object_tree x) lines a b ka kb r (shown, lines, refl, is, below) h
+module _ {A : Type 0} (style : FieldStyle) (format : Format A) (is_null : A → Bool) (plain : Bool → A → List ℕ) (value : A) (a b : Option (List ℕ))
+    (ka kb : List ℕ) (r : Result (Unit {0}) PrintFault) where
+  -- a value as people write it, which is not null
+  pub plain_pieces : style.plain ≡ true → is_null value ≡ false → PrintsPieces a ka b kb (plain style.names value) r
+      → PrintsOrBreaks style a ka b kb (IsText style (encoded format is_null plain value)) r
+  plain_pieces is_plain some h =
+      let shown = plain style.names value in
+      let same : shown ≡ plain_or_null is_null (plain style.names) value = ap (λ (n : Bool). cond n (codes "null") shown) (sym some) in
+      text_pieces style shown (encoded format is_null plain value) a b ka kb r
+      (subst (λ (p : Bool). Either p (shown ≡ plain_or_null is_null (plain style.names) value) (shown ≡ encoded_text format is_null value)) (sym is_plain) same)
+      h
+
+  -- or by its bytes
+  pub encoded_pieces : style.plain ≡ false → is_null value ≡ false
+      → PrintsPieces a ka b kb (written_text (format.encodable value) (format.canonical value)) r
+      → PrintsOrBreaks style a ka b kb (IsText style (encoded format is_null plain value)) r
+  unfolding encoded_text
+  encoded_pieces exact some h =
+      let shown = written_text (format.encodable value) (format.canonical value) in
+      let same : shown ≡ encoded_text format is_null value = ap (λ (n : Bool). cond n (codes "null") shown) (sym some) in
+      text_pieces style shown (encoded format is_null plain value) a b ka kb r
+      (subst (λ (p : Bool). Either p (shown ≡ plain_or_null is_null (plain style.names) value) (shown ≡ encoded_text format is_null value)) (sym exact) same) h
+
+-- ---- a line, its text in pieces
+
+module _ (style : FieldStyle) (Is Line : List ℕ → Type 0) (margin path : List ℕ) (known b : Option (List ℕ)) (kept mid : List ℕ)
+    (is_line : (shown : List ℕ) → Is shown → Line (line margin path shown)) (begun : mid ≡ kept ++ (margin ++ (path ++ codes " "))) where
+  abbrev front : List ℕ
+  front = margin ++ (path ++ codes " ")
+
+  whole : (shown : List ℕ) → front ++ (shown ++ codes "\n") ≡ line margin path shown
+  unfolding line
+  whole shown =
+      append_assoc margin (path ++ codes " ") (shown ++ codes "\n")
+      ∙ ap (λ (t : List ℕ). margin ++ t) (append_assoc path (codes " ") (shown ++ codes "\n"))
+
+  -- its text breaks off
+  pub line_broken : (left : List ℕ) (e : PrintFault) → PrintsOrBreaks style known mid b left Is (Err e)
+      → PrintsOrBreaks style known kept b left Line (Err e)
+  line_broken left print.OutOfMemory h = record {
+    lost = h.lost;
+    lines = front ++ h.lines;
+    printed = lines_then known known b kept mid h.lost front h.lines (only_kept known kept mid front begun) h.printed;
+    front = λ t.
+        let one = h.front t in
+        let same : line margin path (h.lines ++ one.0) ≡ (front ++ h.lines) ++ (one.0 ++ codes "\n") =
+        sym (whole (h.lines ++ one.0)) ∙ ap (λ (s : List ℕ). front ++ s) (append_assoc h.lines one.0 (codes "\n"))
+        ∙ sym (append_assoc front h.lines (one.0 ++ codes "\n")) in
+        (one.0 ++ codes "\n", subst Line same (is_line (h.lines ++ one.0) one.1));
+  }
+  line_broken left (print.Output error) h = tt
+
+  -- its end is not kept
+  pub line_unended : (kb : List ℕ) → PrintsText known mid b kb Is → BreaksOffLines style known kept b Line
+  line_unended kb h = record {
+    lost = kb;
+    lines = front ++ h.lines;
+    printed = lines_then known known b kept mid kb front h.lines (only_kept known kept mid front begun) h.printed;
+    front = λ t. (
+      codes "\n",
+      subst Line (sym (whole h.lines) ∙ sym (append_assoc front h.lines (codes "\n"))) (is_line h.lines h.holds),
+    );
+  }
+
+  -- it is, and perhaps written
+  pub line_ended : (c : Option (List ℕ)) (kb grown kc : List ℕ) → PrintsText known mid b kb Is → grown ≡ kb ++ codes "\n"
+      → PrintsLines b grown c kc [] → PrintsText known kept c kc Line
+  line_ended c kb grown kc h e w = record {
+    lines = line margin path h.lines;
+    printed = subst (PrintsLines known kept c kc) (whole h.lines)
+        (lines_then known known c kept mid kc front (h.lines ++ codes "\n") (only_kept known kept mid front begun)
+        (lines_then known b c mid kb kc h.lines (codes "\n") h.printed (kept_grown b c kb grown kc (codes "\n") e w)));
+    holds = is_line h.lines h.holds;
+  }
+
+-- it was kept at once
+pub kept_line : (style : FieldStyle) (Line : List ℕ → Type 0) (known : Option (List ℕ)) (kept left lines : List ℕ) → left ≡ kept ++ lines → Line lines
+    → PrintsText known kept known left Line
+kept_line style Line known kept left lines e is = record { lines = lines; printed = only_kept known kept left lines e; holds = is }
+
+-- the line of a text
+pub is_text_line : (style : FieldStyle) (margin path : List ℕ) (leaf : Leaf) (shown : List ℕ) → IsText style leaf shown
+    → IsBehind style margin path [] (text leaf) (line margin path shown)
+is_text_line style margin path leaf shown is = (shown, refl, is)
+
+-- ---- values that are read whole
+
+-- a text of a value was printed, or not
+pub read_broken : {A : Type 0} (style : FieldStyle) (read : List ℕ → Option (A × List ℕ)) (Is : A → List ℕ → Type 0) (old new next : List ℕ) (value : A)
+    (a b : Option (List ℕ)) (ka kb left : List ℕ) (e : PrintFault) → read old ≡ Some (value, new) → PrintsOrBreaks style a ka b kb (Is value) (Err e)
+    → PrintsAny style read Is old next a ka b left (Err (told_fault e))
+read_broken {A = A} style read Is old new next value a b ka kb left print.OutOfMemory is h = λ other rest e.
+    subst (λ (v : A). BreaksOffLines style a ka b (Is v)) (other_is (read old) value other new rest is e) h
+read_broken style read Is old new next value a b ka kb left (print.Output error) is h = tt
 
 -- the text of a value that cannot be encoded
 pub unwritten_text : (r : Result (Unit {0}) WriteFault) (fits : Bool) (canonical : List ℕ) → (r ≡ Err NotWritable) ↔ (fits ≡ false)

@@ -1,10 +1,10 @@
--- The text of a NodeId in two parts, escaped.
-use Rattle.std.proofs.Common.{◌≡◌, ℕ, zero, suc, ◌+◌, ◌*◌, ◌/◌, ◌%◌, ◌<◌, Bool, true, false, List, [], ◌∷◌, ◌++◌}
+-- The text of a NodeId in two parts, in a form.
+use Rattle.std.proofs.Common.{◌≡◌, ℕ, zero, suc, ◌+◌, ◌*◌, ◌/◌, ◌%◌, ◌<◌, ◌==◌, if◌then◌else◌, ◌&&◌, ◌||◌, Bool, true, false, List, [], ◌∷◌, ◌++◌}
 use Rattle.std.proofs.Common.{length, replicate, slice_index, codes, refl, sym, ap, ap₂, ◌∙◌, append-nil, append_assoc, arith}
 use Rattle.std.proofs.lemmas.Bool.Decides.{nat_tests}
 use Rattle.std.proofs.lemmas.Grind.{flat_map-append}
 use Rattle.std.proofs.lemmas.Str.{chars-append, chars-IsAscii, encode_ascii}
-use Rattle.std.specs.Char.{encode_utf8}
+use Rattle.std.specs.Char.{encode_utf8, is_ascii_control}
 use Rattle.std.specs.List.{flat_map}
 use Rattle.std.specs.Str.{IsUtf8, chars}
 use Rattle.base64.proofs.EngineFacts.{IsAscii-encode_of, encode_of-nil}
@@ -17,89 +17,153 @@ use Rattle.ua_builtin.specs.NodeText.{identifier_text, list_of, namespace_text, 
 use Rattle.ua_builtin.specs.declared.node_id.Identifier.{Identifier}
 use Rattle.ua_builtin.specs.declared.node_id.Identifier.TheVariants.{Numeric, Text, Guid as Global, Opaque}
 use Rattle.ua_builtin.specs.declared.node_id.NodeId.{NodeId}
-use Rattle.ua_texts.specs.Shown.{IsPlainOctet, escaped, escaped_char}
-use Rattle.ua_fields.specs.NodeText.{left_out, nulled}
+use Rattle.ua_texts.proofs.Shows.{shown-plain}
+use Rattle.ua_texts.specs.Marks.{is_mark, marked, marked_char}
+use Rattle.ua_texts.specs.Shown.{IsPlainOctet, escaped, escaped_char, escaped_octet, shown}
+use Rattle.ua_texts.specs.declared.marks.Marks.{Marks}
+use Rattle.ua_fields.specs.declared.node.TextForm.{TextForm}
+use Rattle.ua_fields.specs.declared.node.TextForm.TheVariants.{Field, Marked}
+use Rattle.ua_fields.specs.NodeText.{formed, left_out, nulled}
 
--- ---- escaped texts
+-- ---- texts in a form
 
--- a text and another one are escaped apart
-escaped-append : (a b : List ℕ) → IsUtf8 a → escaped (a ++ b) ≡ escaped a ++ escaped b
-unfolding escaped
-escaped-append a b u = ap (λ (cs : List ℕ). flat_map escaped_char cs) (chars-append a b u) ∙ flat_map-append escaped_char (chars a) (chars b)
+abbrev form_char : TextForm → ℕ → List ℕ
+form_char Field c = escaped_char c
+form_char (Marked marks) c = marked_char marks c
 
--- each byte is an ASCII character, no control character and no backslash
-abbrev ArePlain : List ℕ → Type 0
-ArePlain [] = Unit {0}
-ArePlain (b ∷ bs) = IsPlainOctet b × ArePlain bs
+by_chars : (form : TextForm) (text : List ℕ) → formed form text ≡ flat_map (form_char form) (chars text)
+unfolding escaped marked
+by_chars Field text = refl
+by_chars (Marked marks) text = refl
 
-plain-append : (a b : List ℕ) → ArePlain a → ArePlain b → ArePlain (a ++ b)
-plain-append [] b h k = k
-plain-append (x ∷ a) b h k = (h.0, plain-append a b h.1 k)
+-- a text and another one are written apart
+formed-append : (form : TextForm) (a b : List ℕ) → IsUtf8 a → formed form (a ++ b) ≡ formed form a ++ formed form b
+formed-append form a b u =
+    by_chars form (a ++ b) ∙ ap (λ (cs : List ℕ). flat_map (form_char form) cs) (chars-append a b u)
+    ∙ flat_map-append (form_char form) (chars a) (chars b)
+    ∙ sym (ap₂ (λ (s t : List ℕ). s ++ t) (by_chars form a) (by_chars form b))
 
-plain_char : (b : ℕ) → IsPlainOctet b → escaped_char b ≡ encode_utf8 b
-plain_char b h = grind (arith, nat_tests)
+-- a byte that is an ASCII character, no control character, no backslash and no mark
+abbrev IsQuiet : ℕ → Type 0
+IsQuiet b = IsPlainOctet b × ((b ≡ 124 → ⊥) × (b ≡ 59 → ⊥) × (b ≡ 44 → ⊥) × (b ≡ 40 → ⊥) × (b ≡ 41 → ⊥) × (b ≡ 123 → ⊥) × (b ≡ 125 → ⊥))
 
-plain_octet : (b : ℕ) → IsPlainOctet b → escaped_char b ≡ b ∷ []
-plain_octet b h = plain_char b h ∙ encode_ascii b (omega arith)
+-- each byte is
+abbrev AreQuiet : List ℕ → Type 0
+AreQuiet [] = Unit {0}
+AreQuiet (b ∷ bs) = IsQuiet b × AreQuiet bs
 
-plain_octets : (bs : List ℕ) → ArePlain bs → flat_map escaped_char bs ≡ bs
-plain_octets [] h = refl
-plain_octets (b ∷ bs) h = ap₂ (λ (s t : List ℕ). s ++ t) (plain_octet b h.0) (plain_octets bs h.1)
+quiet-append : (a b : List ℕ) → AreQuiet a → AreQuiet b → AreQuiet (a ++ b)
+quiet-append [] b h k = k
+quiet-append (x ∷ a) b h k = (h.0, quiet-append a b h.1 k)
+
+differs : (b n : ℕ) → (b ≡ n → ⊥) → (b == n) ≡ false
+differs b n h = grind (arith, nat_tests)
+
+not_and : (a b : Bool) → b ≡ false → (a && b) ≡ false
+not_and true b e = e
+not_and false b e = refl
+
+neither : (a b : Bool) → a ≡ false → b ≡ false → (a || b) ≡ false
+neither true b e f = absurd cc
+neither false b e f = f
+
+no_mark : (marks : Marks) (b : ℕ) → IsQuiet b → is_mark marks b ≡ false
+no_mark marks b h =
+    neither (marks.bar && b == 124) _ (not_and marks.bar (b == 124) (differs b 124 h.1.0))
+    (neither (marks.semicolon && b == 59) _ (not_and marks.semicolon (b == 59) (differs b 59 h.1.1))
+    (not_and marks.within _
+    (neither (b == 44 || b == 40) _ (neither (b == 44) (b == 40) (differs b 44 h.1.2) (differs b 40 h.1.3))
+    (neither (b == 41) _ (differs b 41 h.1.4) (neither (b == 123) (b == 125) (differs b 123 h.1.5) (differs b 125 h.1.6))))))
+
+no_control : (b : ℕ) → IsPlainOctet b → is_ascii_control b ≡ false
+no_control b h = grind (arith, nat_tests)
+
+quiet_char : (form : TextForm) (b : ℕ) → IsQuiet b → form_char form b ≡ encode_utf8 b
+quiet_char Field b h =
+    let plain : IsPlainOctet b = h.0 in
+    grind (arith, nat_tests)
+quiet_char (Marked marks) b h =
+    ap (λ (t : Bool). if t then escaped_octet b else shown (encode_utf8 b)) (no_mark marks b h) ∙ shown-plain b h.0.2 (no_control b h.0)
+
+quiet_octet : (form : TextForm) (b : ℕ) → IsQuiet b → form_char form b ≡ b ∷ []
+quiet_octet form b h =
+    let low : b < 0x7F = h.0.1 in
+    quiet_char form b h ∙ encode_ascii b (omega arith)
+
+quiet_octets : (form : TextForm) (bs : List ℕ) → AreQuiet bs → flat_map (form_char form) bs ≡ bs
+quiet_octets form [] h = refl
+quiet_octets form (b ∷ bs) h = ap₂ (λ (s t : List ℕ). s ++ t) (quiet_octet form b h.0) (quiet_octets form bs h.1)
 
 -- ---- base64
 
--- no symbol of its alphabet is a control character or a backslash
-no_backslash : (b i : ℕ) → b ≡ 92 → i < 64 → slice_index standard.decode_table b ≡ i → ⊥
-no_backslash b i e less back =
-    let none : slice_index standard.decode_table 92 ≡ 255 = refl in
-    let same : 255 ≡ i = sym none ∙ ap (λ (x : ℕ). slice_index standard.decode_table x) (sym e) ∙ back in
+-- no symbol of its alphabet is a control character, a backslash or a mark
+no_symbol : (b i x : ℕ) → slice_index standard.decode_table x ≡ 255 → b ≡ x → i < 64 → slice_index standard.decode_table b ≡ i → ⊥
+no_symbol b i x none e less back =
+    let same : 255 ≡ i = sym none ∙ ap (λ (n : ℕ). slice_index standard.decode_table n) (sym e) ∙ back in
     omega arith
 
-plain_symbol : (i : ℕ) → i < 64 → IsPlainOctet (slice_index standard.encode_table i)
-plain_symbol i less =
+quiet_symbol : (i : ℕ) → i < 64 → IsQuiet (slice_index standard.encode_table i)
+quiet_symbol i less =
     let printable = is_alphabet_symbol standard.encode_table standard.padding.value i
     (are_tables_alphabet standard.encode_table standard.decode_table standard.padding.value standard.tables) less in
     let back = decode-encode_table standard.encode_table standard.decode_table
     (are_tables_inverse standard.encode_table standard.decode_table standard.padding.value standard.tables) i less in
-    (printable.0, omega (arith, printable.1), λ e. no_backslash (slice_index standard.encode_table i) i e less back)
+    let b = slice_index standard.encode_table i in (
+      (printable.0, omega (arith, printable.1), λ e. no_symbol b i 92 refl e less back),
+      (
+        λ e. no_symbol b i 124 refl e less back,
+        λ e. no_symbol b i 59 refl e less back,
+        λ e. no_symbol b i 44 refl e less back,
+        λ e. no_symbol b i 40 refl e less back,
+        λ e. no_symbol b i 41 refl e less back,
+        λ e. no_symbol b i 123 refl e less back,
+        λ e. no_symbol b i 125 refl e less back,
+      ),
+    )
 
 -- nor is one of a text of them
-symbols_plain : (t : List ℕ) → ((i : ℕ) → i < 64 → IsPlainOctet (slice_index t i)) → (m : List ℕ) → IsBytes m → ArePlain (encode_symbols t m)
+symbols_quiet : (t : List ℕ) → ((i : ℕ) → i < 64 → IsQuiet (slice_index t i)) → (m : List ℕ) → IsBytes m → AreQuiet (encode_symbols t m)
 unfolding encode_symbols
-symbols_plain t p [] h = tt
-symbols_plain t p (a ∷ []) h =
+symbols_quiet t p [] h = tt
+symbols_quiet t p (a ∷ []) h =
     let first : a < 256 = h 0 in
     (p (a / 4) (omega arith), (p (a % 4 * 16) (omega arith), tt))
-symbols_plain t p (a ∷ b ∷ []) h =
+symbols_quiet t p (a ∷ b ∷ []) h =
     let first : a < 256 = h 0 in
     let second : b < 256 = h 1 in
     (p (a / 4) (omega arith), (p (a % 4 * 16 + b / 16) (omega arith), (p (b % 16 * 4) (omega arith), tt)))
-symbols_plain t p (a ∷ b ∷ c ∷ rest) h =
+symbols_quiet t p (a ∷ b ∷ c ∷ rest) h =
     let first : a < 256 = h 0 in
     let second : b < 256 = h 1 in
     let third : c < 256 = h 2 in (
       p (a / 4) (omega arith),
       (
         p (a % 4 * 16 + b / 16) (omega arith),
-        (p (b % 16 * 4 + c / 64) (omega arith), (p (c % 64) (omega arith), symbols_plain t p rest (λ i. h (suc (suc (suc i)))))),
+        (p (b % 16 * 4 + c / 64) (omega arith), (p (c % 64) (omega arith), symbols_quiet t p rest (λ i. h (suc (suc (suc i)))))),
       ),
     )
 
-padding_plain : (n : ℕ) → ArePlain (replicate n 61)
-padding_plain zero = tt
-padding_plain (suc n) = ((omega arith, omega arith, λ e. omega arith), padding_plain n)
+padding_quiet : (n : ℕ) → AreQuiet (replicate n 61)
+padding_quiet zero = tt
+padding_quiet (suc n) = (
+  (
+    (omega arith, omega arith, λ e. omega arith),
+    (λ e. omega arith, λ e. omega arith, λ e. omega arith, λ e. omega arith, λ e. omega arith, λ e. omega arith, λ e. omega arith),
+  ),
+  padding_quiet n,
+)
 
-encoded_plain : (t : List ℕ) (padding : Bool) (m : List ℕ) → ArePlain (encode_symbols t m) → ArePlain (encode t 61 padding m)
-encoded_plain t true m h = plain-append (encode_symbols t m) (replicate (padding_len (length m)) 61) h (padding_plain (padding_len (length m)))
-encoded_plain t false m h = plain-append (encode_symbols t m) [] h tt
+encoded_quiet : (t : List ℕ) (padding : Bool) (m : List ℕ) → AreQuiet (encode_symbols t m) → AreQuiet (encode t 61 padding m)
+encoded_quiet t true m h = quiet-append (encode_symbols t m) (replicate (padding_len (length m)) 61) h (padding_quiet (padding_len (length m)))
+encoded_quiet t false m h = quiet-append (encode_symbols t m) [] h tt
 
--- so it is escaped as it is
-pub escaped_base64 : (m : List ℕ) → IsBytes m → escaped (encode_of standard m) ≡ encode_of standard m
-unfolding escaped
-escaped_base64 m h =
-    ap (λ (cs : List ℕ). flat_map escaped_char cs) (chars-IsAscii (encode_of standard m) (IsAscii-encode_of standard m))
-    ∙ plain_octets (encode_of standard m)
-    (encoded_plain standard.encode_table standard.config.encode_padding m (symbols_plain standard.encode_table plain_symbol m h))
+-- so it is written as it is
+pub formed_base64 : (form : TextForm) (m : List ℕ) → IsBytes m → formed form (encode_of standard m) ≡ encode_of standard m
+formed_base64 form m h =
+    by_chars form (encode_of standard m)
+    ∙ ap (λ (cs : List ℕ). flat_map (form_char form) cs) (chars-IsAscii (encode_of standard m) (IsAscii-encode_of standard m))
+    ∙ quiet_octets form (encode_of standard m)
+    (encoded_quiet standard.encode_table standard.config.encode_padding m (symbols_quiet standard.encode_table quiet_symbol m h))
 
 -- ---- NodeIds
 
@@ -115,9 +179,9 @@ node_parts v =
     append_assoc (namespace_text v.namespace) (identifier_text (nulled v.identifier)) (left_out v.identifier)
     ∙ ap (λ (t : List ℕ). namespace_text v.namespace ++ t) (identifier_parts v.identifier)
 
--- the first part of a text, and what is left out of it, escaped
-pub escaped_parts : (v : NodeId) (front : List ℕ) → IsUtf8 front → front ≡ node_text (node v.namespace (nulled v.identifier))
-    → escaped front ++ escaped (left_out v.identifier) ≡ escaped (node_text v)
-escaped_parts v front u e =
-    sym (escaped-append front (left_out v.identifier) u)
-    ∙ ap escaped (ap (λ (t : List ℕ). t ++ left_out v.identifier) e ∙ node_parts v)
+-- the first part of a text, and what is left out of it, in a form
+pub formed_parts : (form : TextForm) (v : NodeId) (front : List ℕ) → IsUtf8 front → front ≡ node_text (node v.namespace (nulled v.identifier))
+    → formed form front ++ formed form (left_out v.identifier) ≡ formed form (node_text v)
+formed_parts form v front u e =
+    sym (formed-append form front (left_out v.identifier) u)
+    ∙ ap (formed form) (ap (λ (t : List ℕ). t ++ left_out v.identifier) e ∙ node_parts v)

@@ -163,8 +163,5 @@ so_fails names p all index first now next new a b c ka kb kc left OutOfMemory le
     so_broken names p all index first now a b c ka kb less s h
 so_fails names p all index first now next new a b c ka kb kc left (Output error) less s h = tt
 
-pub rows_have : (names : Bool) → HasTexts (plain_field_style names) (IsRowText names)
-rows_have names t ss = let texts = row_has names t ss in (parted texts.0, (texts.0, refl, texts.1))
-
 pub items_have : (names : Bool) (index : ℕ) → HasTexts (plain_field_style names) (IsItemText names index)
 items_have names index t s = let value = scalar_has names t true s in (comma_at index ++ value.0, (value.0, refl, value.1))

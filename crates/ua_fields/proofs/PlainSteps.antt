@@ -1,15 +1,18 @@
 -- Values that are printed in any of their texts as they are read.
 use Rattle.std.proofs.Common.{◌≡◌, ℕ, List, [], ◌++◌, Option, Some}
-use Rattle.std.proofs.Common.{Result, Ok, Err, refl, sym, ap, subst, ◌∙◌, append-nil}
+use Rattle.std.proofs.Common.{Result, Ok, Err, refl, sym, ap, subst, ◌∙◌, append-nil, append_assoc}
 use Rattle.ua_builtin.specs.Exact.{◌>>=◌, image_read}
 use Rattle.ua_builtin.specs.Format.{Gives, GivesBy}
 use Rattle.ua_wire.proofs.Readers.{bind_some, some_is}
 use Rattle.ua_wire.specs.declared.fault.ReadFault.{ReadFault}
 use Rattle.ua_wire.specs.declared.fault.ReadFault.TheVariants as fault
 use Rattle.ua_fields.specs.declared.style.FieldStyle.{FieldStyle}
+use Rattle.ua_fields.specs.declared.printing.PrintFault.{PrintFault}
+use Rattle.ua_fields.specs.declared.printing.PrintFault.TheVariants as print
 use Rattle.ua_fields.specs.declared.printing.TellFault.{TellFault}
 use Rattle.ua_fields.specs.declared.printing.TellFault.TheVariants.{NoValue, OutOfMemory, Output}
-use Rattle.ua_fields.specs.Printing.{BreaksOffLines, BreaksRead, EachHasText, PrintsAny, PrintsLines, PrintsText, PrintsValue, tell_fault}
+use Rattle.ua_fields.specs.Printing.{BreaksOffLines, BreaksRead, EachHasText, PrintsAny, PrintsLines, PrintsPieces, PrintsText, PrintsValue}
+use Rattle.ua_fields.specs.Printing.{tell_fault, told_fault}
 use Rattle.ua_fields.proofs.Printings.{breaks_as, first_breaks, image_there, nothing_breaks, only_kept, prints_then, second_breaks}
 use Rattle.ua_fields.proofs.ValueTexts.{other_is, then_written}
 
@@ -59,21 +62,54 @@ behind : (two : List ℕ) (First Both : List ℕ → Type 0) → ((one : List �
     → (one second : List ℕ) → First one → second ≡ two → Both (one ++ second)
 behind two First Both f one second s e = subst (λ (t : List ℕ). Both (one ++ t)) (sym e) (f one s)
 
+-- a text was printed, and the value's behind it
+pub any_behind : {A : Type 0} (style : FieldStyle) (read : List ℕ → Option (A × List ℕ)) (Is Told : A → List ℕ → Type 0) (old new : List ℕ)
+    (a b c : Option (List ℕ)) (ka kb kc one : List ℕ) (r : Result (Unit {0}) TellFault) → PrintsLines a ka b kb one
+    → ((x : A) (text : List ℕ) → Is x text → Told x (one ++ text))
+    → PrintsAny style read Is old new b kb c kc r → PrintsAny style read Told old new a ka c kc r
+any_behind style read Is Told old new a b c ka kb kc one (Ok u) front f h = (
+  h.0,
+  h.1,
+  prints_then a b c ka kb kc (λ text. text ≡ one) (Is h.0) (Told h.0) (in_front one (Is h.0) (Told h.0) (f h.0))
+      (record { lines = one; printed = front; holds = refl }) h.2,
+)
+any_behind style read Is Told old new a b c ka kb kc one (Err NoValue) front f h = h
+any_behind style read Is Told old new a b c ka kb kc one (Err OutOfMemory) front f h = λ value rest g.
+    second_breaks style a b c ka kb (λ text. text ≡ one) (Is value) (Told value) (in_front one (Is value) (Told value) (f value))
+    (record { lines = one; printed = front; holds = refl }) (h value rest g)
+any_behind style read Is Told old new a b c ka kb kc one (Err (Output error)) front f h = tt
+
+-- it was, and none of the value's
+pub any_unbehind : {A : Type 0} (style : FieldStyle) (read : List ℕ → Option (A × List ℕ)) (Is Told : A → List ℕ → Type 0) (old : List ℕ)
+    (a b : Option (List ℕ)) (ka kb one : List ℕ) → HasTexts style Is → PrintsLines a ka b kb one
+    → ((x : A) (text : List ℕ) → Is x text → Told x (one ++ text)) → BreaksRead style read old a ka b Told
+any_unbehind style read Is Told old a b ka kb one has front f = λ value rest g.
+    second_breaks style a b b ka kb (λ text. text ≡ one) (Is value) (Told value) (in_front one (Is value) (Told value) (f value))
+    (record { lines = one; printed = front; holds = refl }) (nothing_breaks style b b kb (Is value) refl (λ t. has t value))
+
+-- it breaks off
+pub any_broken : {A : Type 0} (style : FieldStyle) (read : List ℕ → Option (A × List ℕ)) (Is Told : A → List ℕ → Type 0) (old new : List ℕ)
+    (a b : Option (List ℕ)) (ka kb left one : List ℕ) (e : PrintFault) → HasTexts style Is
+    → ((x : A) (text : List ℕ) → Is x text → Told x (one ++ text)) → PrintsPieces a ka b kb one (Err e)
+    → PrintsAny style read Told old new a ka b left (Err (told_fault e))
+any_broken style read Is Told old new a b ka kb left one print.OutOfMemory has f h = λ value rest g. record {
+  lost = h.lost;
+  lines = h.part;
+  printed = h.printed;
+  front = λ t.
+      let more = has t value in
+      let same : one ++ more.0 ≡ h.part ++ (h.rest ++ more.0) = ap (λ (s : List ℕ). s ++ more.0) (sym h.front) ∙ append_assoc h.part h.rest more.0 in
+      (h.rest ++ more.0, subst (Told value) same (f value more.0 more.1));
+}
+any_broken style read Is Told old new a b ka kb left one (print.Output error) has f h = tt
+
 -- a text in front of the value's
 pub any_after : {A : Type 0} (style : FieldStyle) (read : List ℕ → Option (A × List ℕ)) (Is Told : A → List ℕ → Type 0) (old new : List ℕ)
     (a b : Option (List ℕ)) (ka mid kb one : List ℕ) (r : Result (Unit {0}) TellFault) → mid ≡ ka ++ one
     → ((x : A) (text : List ℕ) → Is x text → Told x (one ++ text))
     → PrintsAny style read Is old new a mid b kb r → PrintsAny style read Told old new a ka b kb r
-any_after style read Is Told old new a b ka mid kb one (Ok u) e f h = (
-  h.0,
-  h.1,
-  prints_then a a b ka mid kb (λ text. text ≡ one) (Is h.0) (Told h.0) (in_front one (Is h.0) (Told h.0) (f h.0)) (one_printed a ka mid one e) h.2,
-)
-any_after style read Is Told old new a b ka mid kb one (Err NoValue) e f h = h
-any_after style read Is Told old new a b ka mid kb one (Err OutOfMemory) e f h = λ value rest g.
-    second_breaks style a a b ka mid (λ text. text ≡ one) (Is value) (Told value) (in_front one (Is value) (Told value) (f value)) (one_printed a ka mid one e)
-    (h value rest g)
-any_after style read Is Told old new a b ka mid kb one (Err (Output error)) e f h = tt
+any_after style read Is Told old new a b ka mid kb one r e f h =
+    any_behind style read Is Told old new a a b ka mid kb one r (only_kept a ka mid one e) f h
 
 -- one behind it: the value is not there, or its text breaks off
 pub any_first : {A : Type 0} (style : FieldStyle) (read : List ℕ → Option (A × List ℕ)) (Is Told : A → List ℕ → Type 0) (old next new : List ℕ)

@@ -23,14 +23,15 @@ use Rattle.ua_variant.specs.Fields.{data_fields}
 use Rattle.ua_variant.specs.View.{value_within}
 use Rattle.ua_wire.specs.declared.fault.ReadFault.{ReadFault}
 use Rattle.ua_wire.specs.declared.fault.ReadFault.TheVariants as fault
+use Rattle.ua_fields.specs.declared.printing.PrintFault.{PrintFault}
 use Rattle.ua_fields.specs.declared.printing.TellFault.{TellFault}
 use Rattle.ua_fields.specs.PlainTexts.{IsHeldText, IsRestText, IsRowText, TellsDims}
-use Rattle.ua_fields.specs.Printing.{Judges, PrintsAny, value_levels}
+use Rattle.ua_fields.specs.Printing.{BreaksRead, Judges, PrintsAny, PrintsLines, PrintsPieces, told_fault, value_levels}
 use Rattle.ua_fields.specs.Styles.{plain_field_style}
-use Rattle.ua_fields.proofs.PlainHas.{data_value_has, scalar_has, typed_has, variant_has}
-use Rattle.ua_fields.proofs.PlainSteps.{HasTexts, Printed, any_after, any_kept, any_made}
+use Rattle.ua_fields.proofs.PlainHas.{data_value_has, row_has, scalar_has, typed_has, variant_has}
+use Rattle.ua_fields.proofs.PlainSteps.{HasTexts, Printed, any_after, any_behind, any_broken, any_kept, any_made, any_unbehind}
 use Rattle.ua_fields.proofs.PlainValues.{kept_then}
-use Rattle.ua_fields.proofs.Printings.{image_there}
+use Rattle.ua_fields.proofs.Printings.{image_there, lines_then, only_kept}
 use Rattle.ua_fields.proofs.ValueArrays.{array_none}
 use Rattle.ua_fields.proofs.ValueTexts.{other_is}
 
@@ -144,18 +145,43 @@ dims_gives n k count f octets fault.OutOfMemory h = tt
 abbrev pub IsHeadedRow : Bool → ℕ → List ℤ → ScalarsData → List ℕ → Type 0
 IsHeadedRow names k ds ss text = (texts : List (List ℕ)) × (text ≡ array_type_text k ds ++ (codes " " ++ parted texts)) × ArePlain names ss texts
 
-pub row_headed : (names : Bool) (k : ℕ) (ds : List ℤ) (read : Decoder ScalarsData) (old new : List ℕ) (a b : Option (List ℕ)) (ka typed mid kb : List ℕ)
-    (r : Result (Unit {0}) TellFault) → typed ≡ ka ++ array_type_text k ds → mid ≡ typed ++ codes " "
-    → PrintsAny (plain_field_style names) read (IsRowText names) old new a mid b kb r
-    → PrintsAny (plain_field_style names) read (IsHeadedRow names k ds) old new a ka b kb r
-row_headed names k ds read old new a b ka typed mid kb r e f h =
-    any_after (plain_field_style names) read (IsRowText names) (IsHeadedRow names k ds) old new a b ka mid kb (array_type_text k ds ++ codes " ") r
-    (kept_then (array_type_text k ds) (codes " ") ka typed mid e f)
-    (λ x text p. (
-      p.0,
-      append_assoc (array_type_text k ds) (codes " ") text ∙ ap (λ (t : List ℕ). array_type_text k ds ++ (codes " " ++ t)) p.1,
-      p.2,
-    )) h
+-- the elements behind a space
+abbrev IsSpacedRow : Bool → ScalarsData → List ℕ → Type 0
+IsSpacedRow names ss text = (texts : List (List ℕ)) × (text ≡ codes " " ++ parted texts) × ArePlain names ss texts
+
+spaced_have : (names : Bool) → HasTexts (plain_field_style names) (IsSpacedRow names)
+spaced_have names t ss = let texts = row_has names t ss in (codes " " ++ parted texts.0, (texts.0, refl, texts.1))
+
+spaced_headed : (names : Bool) (k : ℕ) (ds : List ℤ) (x : ScalarsData) (text : List ℕ) → IsSpacedRow names x text
+    → IsHeadedRow names k ds x (array_type_text k ds ++ text)
+spaced_headed names k ds x text p = (p.0, ap (λ (t : List ℕ). array_type_text k ds ++ t) p.1, p.2)
+
+module _ (names : Bool) (k : ℕ) (ds : List ℤ) (read : Decoder ScalarsData) (old new : List ℕ) (a b : Option (List ℕ)) (ka typed : List ℕ) where
+  -- the type breaks off
+  pub head_broken : (left : List ℕ) (e : PrintFault) → PrintsPieces a ka b typed (array_type_text k ds) (Err e)
+      → PrintsAny (plain_field_style names) read (IsHeadedRow names k ds) old new a ka b left (Err (told_fault e))
+  head_broken left e h =
+      any_broken (plain_field_style names) read (IsSpacedRow names) (IsHeadedRow names k ds) old new a b ka typed left (array_type_text k ds) e
+      (spaced_have names) (spaced_headed names k ds) h
+
+  -- it was printed, and no more
+  pub head_alone : PrintsLines a ka b typed (array_type_text k ds) → BreaksRead (plain_field_style names) read old a ka b (IsHeadedRow names k ds)
+  head_alone h =
+      any_unbehind (plain_field_style names) read (IsSpacedRow names) (IsHeadedRow names k ds) old a b ka typed (array_type_text k ds) (spaced_have names) h
+      (spaced_headed names k ds)
+
+  -- the elements were printed behind it
+  pub row_headed : (c : Option (List ℕ)) (mid kc : List ℕ) (r : Result (Unit {0}) TellFault) → PrintsLines a ka b typed (array_type_text k ds)
+      → mid ≡ typed ++ codes " " → PrintsAny (plain_field_style names) read (IsRowText names) old new b mid c kc r
+      → PrintsAny (plain_field_style names) read (IsHeadedRow names k ds) old new a ka c kc r
+  row_headed c mid kc r h f rows =
+      any_behind (plain_field_style names) read (IsRowText names) (IsHeadedRow names k ds) old new a b c ka mid kc (array_type_text k ds ++ codes " ") r
+      (lines_then a b b ka typed mid (array_type_text k ds) (codes " ") h (only_kept b typed mid (codes " ") f))
+      (λ x text p. (
+        p.0,
+        append_assoc (array_type_text k ds) (codes " ") text ∙ ap (λ (t : List ℕ). array_type_text k ds ++ (codes " " ++ t)) p.1,
+        p.2,
+      )) rows
 
 -- an array of these elements has those dimensions
 pub as_many : (names within : Bool) (n k count : ℕ) (f : Bool) (octets : List ℕ) (dims : List ℤ) → TellsDims n k f count octets (Ok dims)

@@ -27,7 +27,7 @@ use Rattle.ua_wire.specs.declared.fault.ReadFault.{ReadFault}
 use Rattle.ua_wire.specs.declared.fault.ReadFault.TheVariants as read_fault
 use Rattle.ua_fields.specs.Bodies.{IsBodyText, IsFound, IsHeaderText, behind_id}
 use Rattle.ua_fields.specs.Messages.{AreMessageLines, close_request_tree, open_answer_tree, open_request_tree, request_tree, response_tree, service_fault_tree}
-use Rattle.ua_fields.specs.Printing.{BreaksOffLines, BreaksRead, EachHasText, IsTextBehind, IsThereBehind, PrintsText, PrintsLines, PrintsOrBreaks, PrintsRead}
+use Rattle.ua_fields.specs.Printing.{BreaksOffLines, BreaksRead, EachHasText, IsTextBehind, IsThereBehind, PrintsText, PrintsOrBreaks, PrintsRead}
 use Rattle.ua_fields.specs.Printing.{behind_id_read, tell_fault}
 use Rattle.ua_fields.specs.Tree.{Tree}
 use Rattle.ua_fields.specs.declared.body.BodyKind.{BodyKind}
@@ -39,7 +39,7 @@ use Rattle.ua_fields.specs.declared.side.Side.{Side}
 use Rattle.ua_fields.specs.declared.side.Side.TheVariants.{Client, Server}
 use Rattle.ua_fields.specs.declared.printing.TellFault.{TellFault}
 use Rattle.ua_fields.specs.declared.printing.TellFault.TheVariants.{NoValue, OutOfMemory, Output}
-use Rattle.ua_fields.proofs.Printings.{breaks_as, kept_grown, nothing_breaks, only_kept, tree_has}
+use Rattle.ua_fields.proofs.Printings.{breaks_as, nothing_breaks, only_kept, tree_has}
 
 -- the messages made of what was read, and that one alone after which nothing is left
 abbrev made : {A B : Type 0} → (A → B) → Option (A × List ℕ) → Option (B × List ℕ)
@@ -263,19 +263,10 @@ behind_unread style format tree octets new known kept P read_fault.NoValue h = a
 behind_unread style format tree octets new known kept P read_fault.OutOfMemory h = λ value rest e.
     nothing_breaks style known known kept (AreMessageLines style (tree value)) refl (λ t. tree_has style t (codes "  ") [] [] (tree value))
 
--- what is known to be there is printed
-pub known_printed : {A : Type 0} (format : Format A) (octets new : List ℕ) (a b : Option (List ℕ)) (ka kb : List ℕ) (Is : A → List ℕ → Type 0)
-    → ((value : A) × (behind_id_read format octets ≡ Some (value, new)) × PrintsText a ka b kb (Is value))
-    → PrintsText a ka b kb (IsTextBehind format Is octets)
-known_printed format octets new a b ka kb Is h = record { lines = h.2.lines; printed = h.2.printed; holds = (h.0, new, h.1, h.2.holds) }
-
 pub known_breaks : {A : Type 0} (style : FieldStyle) (format : Format A) (octets : List ℕ) (a b : Option (List ℕ)) (ka : List ℕ) (Is : A → List ℕ → Type 0)
     → IsThereBehind format octets → BreaksRead style (behind_id_read format) octets a ka b Is → BreaksOffLines style a ka b (IsTextBehind format Is octets)
 known_breaks style format octets a b ka Is there h =
     breaks_as style a b ka (Is there.0) (IsTextBehind format Is octets) (λ text x. (there.0, there.1, there.2, x)) (h there.0 there.1 there.2)
-
-pub known_is_there : {A : Type 0} (format : Format A) (octets : List ℕ) → IsThereBehind format octets → behind_id_read format octets ≡ None → ⊥
-known_is_there format octets h e = let both = sym h.2 ∙ e in absurd cc
 
 -- ---- the lines that a body has, where each value has a text
 
@@ -301,15 +292,6 @@ pub body_breaks : (style : FieldStyle) (kind : BodyKind) (octets : List ℕ) (kn
     → BreaksOffLines style known kept known (IsBodyText style kind octets)
 body_breaks style kind octets known kept =
     nothing_breaks style known known kept (IsBodyText style kind octets) refl (λ t. body_has style t kind octets)
-
--- a text that was added is kept
-pub added_printed : (known after : Option (List ℕ)) (old mid left : List ℕ) (Holds : List ℕ → Type 0) → ((text : List ℕ) × (mid ≡ old ++ text) × Holds text)
-    → PrintsLines known mid after left [] → PrintsText known old after left Holds
-added_printed known after old mid left Holds h w = record { lines = h.0; printed = kept_grown known after old mid left h.0 h.1 w; holds = h.2 }
-
-pub only_added : (known : Option (List ℕ)) (old new : List ℕ) (Holds : List ℕ → Type 0) → ((text : List ℕ) × (new ≡ old ++ text) × Holds text)
-    → PrintsText known old known new Holds
-only_added known old new Holds h = record { lines = h.0; printed = only_kept known old new h.0 h.1; holds = h.2 }
 
 pub nothing_printed : (known : Option (List ℕ)) (kept : List ℕ) → PrintsText known kept known kept (λ text. text ≡ [])
 nothing_printed known kept = record { lines = []; printed = only_kept known kept kept [] (sym (append-nil kept)); holds = refl }

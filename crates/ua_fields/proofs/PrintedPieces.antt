@@ -1,6 +1,6 @@
 -- Texts that are printed in pieces.
 use Rattle.std.proofs.Common.{◌≡◌, ℕ, ◌+◌, ◌/◌, ◌%◌, ◌<◌, List, [], ◌∷◌, ◌++◌, Option, Result, Ok, Err, length, get_or, drop, slice_index}
-use Rattle.std.proofs.Common.{encode_utf8, encode_utf8_all, codes, refl, sym, subst, ap, ap₂, ◌∙◌, append-nil, append_assoc, arith, length-append}
+use Rattle.std.proofs.Common.{encode_utf8, encode_utf8_all, refl, sym, subst, ap, ap₂, ◌∙◌, append-nil, append_assoc, arith, length-append}
 use Rattle.std.proofs.lemmas.List.{drop_all, drop_more, take-append-drop}
 use Rattle.std.proofs.lemmas.Str.{encodes-chars}
 use Rattle.std.specs.List.{IsSplitAt, flat_map}
@@ -9,7 +9,6 @@ use Rattle.base64.proofs.EngineFacts.{encode_of-append}
 use Rattle.base64.specs.Engines.{standard}
 use Rattle.base64.specs.GeneralPurpose.{encode_of}
 use Rattle.hex.specs.Hex.{encode_lower, encode_with, lower_digits}
-use Rattle.ua_fields.specs.Tree.{line}
 use Rattle.ua_texts.proofs.Shows.{shown-append, shown-nil}
 use Rattle.ua_texts.specs.Shown.{shown}
 use Rattle.ua_fields.specs.Printing.{PrintsLines, PrintsFront, PrintsPieces}
@@ -133,24 +132,6 @@ piece_broken a b c ka kb one rest text s h = record {
       ∙ ap (λ (t : List ℕ). s.part ++ t) (sym (append_assoc h.part h.rest rest) ∙ ap (λ (t : List ℕ). t ++ rest) h.front) ∙ s.front;
 }
 
--- what comes before the text of a line was kept
-pub line_begun : (known : Option (List ℕ)) (kept left margin path shown : List ℕ) → left ≡ kept ++ (margin ++ (path ++ codes " "))
-    → PiecesSoFar known kept known left (shown ++ codes "\n") (line margin path shown)
-unfolding line
-line_begun known kept left margin path shown grown = record {
-  part = margin ++ (path ++ codes " ");
-  printed = only_kept known kept left (margin ++ (path ++ codes " ")) grown;
-  front = append_assoc margin (path ++ codes " ") (shown ++ codes "\n")
-      ∙ ap (λ (t : List ℕ). margin ++ t) (append_assoc path (codes " ") (shown ++ codes "\n"));
-}
-
--- a line was, its text in pieces
-pub line_ended : (a b c d : Option (List ℕ)) (ka kb kc mid kd one two text : List ℕ) → PiecesSoFar a ka b kb (one ++ two) text
-    → PrintsLines b kb c kc one → mid ≡ kc ++ two → PrintsLines c mid d kd [] → PrintsLines a ka d kd text
-line_ended a b c d ka kb kc mid kd one two text s h grown w =
-    pieces_last a d ka kd [] text
-    (pieces_on a c d ka kc mid kd two [] two text (pieces_then a b c ka kb kc one two text s h) (sym (append-nil two)) grown w) refl
-
 -- its text was not printed whole
 pub line_stopped : (a b c : Option (List ℕ)) (ka kb kc one rest text : List ℕ) (fault : PrintFault) → PiecesSoFar a ka b kb (one ++ rest) text
     → PrintsPieces b kb c kc one (Err fault) → PrintsPieces a ka c kc text (Err fault)
@@ -184,11 +165,6 @@ pub end_kept : (a b : Option (List ℕ)) (ka kb new one two text : List ℕ) →
     → PrintsLines a ka b new text
 end_kept a b ka kb new one two text e h grown = pieces_both a b b ka kb new one two text (Ok tt) e h (only_kept b kb new two grown)
 
--- the newline was not kept
-pub line_broken : (a b c : Option (List ℕ)) (ka kb kc one two text : List ℕ) → PiecesSoFar a ka b kb (one ++ two) text → PrintsLines b kb c kc one
-    → PrintsFront a ka c text
-line_broken a b c ka kb kc one two text s h = pieces_broken a c ka kc two text (pieces_then a b c ka kb kc one two text s h)
-
--- a line was kept
-pub line_kept : (known : Option (List ℕ)) (kept left text : List ℕ) → left ≡ kept ++ text → PrintsLines known kept known left text
-line_kept known kept left text grown = only_kept known kept left text grown
+-- a text was kept
+pub text_kept : (known : Option (List ℕ)) (kept left text : List ℕ) → left ≡ kept ++ text → PrintsLines known kept known left text
+text_kept known kept left text grown = only_kept known kept left text grown

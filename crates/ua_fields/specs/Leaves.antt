@@ -35,9 +35,6 @@ use Rattle.ua_texts.specs.Values.{boolean_text}
 use Rattle.ua_texts.specs.PlainDiagnostic.{plain_diagnostic}
 use Rattle.ua_texts.specs.PlainLeaf.{plain_localized, plain_name}
 use Rattle.ua_fields.specs.Tree.{Fields, Leaf, Tree, double_of, fixed, moment_of, named, no_fields, opened, same_leaf, structure, text}
-use Rattle.ua_fields.specs.declared.identity.IssuedIdentityToken.{IssuedIdentityToken}
-use Rattle.ua_fields.specs.declared.identity.UserNameIdentityToken.{UserNameIdentityToken}
-use Rattle.ua_fields.specs.declared.identity.X509IdentityToken.{X509IdentityToken}
 
 -- what the line of a value says, or `null` if there is none
 abbrev pub leaf_or_null : {A : Type 0} → (A → Leaf) → Option A → Leaf
@@ -199,66 +196,56 @@ diagnostic_info d = text (diagnostic_leaf d)
 -- ---- identity tokens
 
 -- AnonymousIdentityToken (OPC 10000-4, 7.41.3)
-unfoldable pub anonymous_token_entries : AnonymousIdentityToken → Fields
+abbrev pub anonymous_token_entries : AnonymousIdentityToken → Fields
 anonymous_token_entries m = named ((codes "policy_id", string_tree m.policy_id) ∷ [])
 
+-- the fields of the other tokens in order, as they are encoded
+
 -- UserNameIdentityToken (OPC 10000-4, 7.41.4)
-unfoldable pub user_name_token_entries : UserNameIdentityToken → Fields
-user_name_token_entries m = named (
-    (codes "policy_id", string_tree m.policy_id)
-    ∷ (codes "user_name", string_tree m.user_name)
-    ∷ (codes "password", byte_string_tree m.password)
-    ∷ (codes "encryption_algorithm", string_tree m.encryption_algorithm)
-    ∷ [])
-
--- X509IdentityToken (OPC 10000-4, 7.41.5)
-unfoldable pub certificate_token_entries : X509IdentityToken → Fields
-certificate_token_entries m = named (
-    (codes "policy_id", string_tree m.policy_id)
-    ∷ (codes "certificate_data", byte_string_tree m.certificate_data)
-    ∷ [])
-
--- IssuedIdentityToken (OPC 10000-4, 7.41.6)
-unfoldable pub issued_token_entries : IssuedIdentityToken → Fields
-issued_token_entries m = named (
-    (codes "policy_id", string_tree m.policy_id)
-    ∷ (codes "token_data", byte_string_tree m.token_data)
-    ∷ (codes "encryption_algorithm", string_tree m.encryption_algorithm)
-    ∷ [])
-
--- the parts of tokens in order, as they are encoded
 abbrev pub UserNameParts : Type 0
 UserNameParts = Option (List ℕ) × (Option (List ℕ) × (Option (List ℕ) × Option (List ℕ)))
 
+abbrev pub user_name_token_entries : UserNameParts → Fields
+user_name_token_entries = λ (policy_id, (user_name, (password, encryption_algorithm))). named (
+    (codes "policy_id", string_tree policy_id)
+    ∷ (codes "user_name", string_tree user_name)
+    ∷ (codes "password", byte_string_tree password)
+    ∷ (codes "encryption_algorithm", string_tree encryption_algorithm)
+    ∷ [])
+
+-- X509IdentityToken (OPC 10000-4, 7.41.5)
 abbrev pub CertificateParts : Type 0
 CertificateParts = Option (List ℕ) × Option (List ℕ)
 
+abbrev pub certificate_token_entries : CertificateParts → Fields
+certificate_token_entries = λ (policy_id, certificate_data). named (
+    (codes "policy_id", string_tree policy_id)
+    ∷ (codes "certificate_data", byte_string_tree certificate_data)
+    ∷ [])
+
+-- IssuedIdentityToken (OPC 10000-4, 7.41.6)
 abbrev pub IssuedParts : Type 0
 IssuedParts = Option (List ℕ) × (Option (List ℕ) × Option (List ℕ))
 
--- the tokens that are made of them
-abbrev pub user_name_token : UserNameParts → UserNameIdentityToken
-user_name_token v = record { policy_id = v.0; user_name = v.1.0; password = v.1.1.0; encryption_algorithm = v.1.1.1 }
+abbrev pub issued_token_entries : IssuedParts → Fields
+issued_token_entries = λ (policy_id, (token_data, encryption_algorithm)). named (
+    (codes "policy_id", string_tree policy_id)
+    ∷ (codes "token_data", byte_string_tree token_data)
+    ∷ (codes "encryption_algorithm", string_tree encryption_algorithm)
+    ∷ [])
 
-abbrev pub certificate_token : CertificateParts → X509IdentityToken
-certificate_token v = record { policy_id = v.0; certificate_data = v.1 }
-
-abbrev pub issued_token : IssuedParts → IssuedIdentityToken
-issued_token v = record { policy_id = v.0; token_data = v.1.0; encryption_algorithm = v.1.1 }
-
--- the tokens that bytes encode, with nothing after them
+-- the fields of the token that bytes encode, with nothing after it
 abbrev pub anonymous_token_of : List ℕ → Option AnonymousIdentityToken
 anonymous_token_of octets = body_of anonymous_identity_token octets
 
-abbrev pub user_name_token_of : List ℕ → Option UserNameIdentityToken
-user_name_token_of octets = option_map user_name_token
-    (body_of (pair (flat string_format) (pair (flat string_format) (pair (flat counted) (flat string_format)))) octets)
+abbrev pub user_name_token_of : List ℕ → Option UserNameParts
+user_name_token_of octets = body_of (pair (flat string_format) (pair (flat string_format) (pair (flat counted) (flat string_format)))) octets
 
-abbrev pub certificate_token_of : List ℕ → Option X509IdentityToken
-certificate_token_of octets = option_map certificate_token (body_of (pair (flat string_format) (flat counted)) octets)
+abbrev pub certificate_token_of : List ℕ → Option CertificateParts
+certificate_token_of octets = body_of (pair (flat string_format) (flat counted)) octets
 
-abbrev pub issued_token_of : List ℕ → Option IssuedIdentityToken
-issued_token_of octets = option_map issued_token (body_of (pair (flat string_format) (pair (flat counted) (flat string_format))) octets)
+abbrev pub issued_token_of : List ℕ → Option IssuedParts
+issued_token_of octets = body_of (pair (flat string_format) (pair (flat counted) (flat string_format))) octets
 
 -- a token by the name of its type, and its fields
 abbrev pub token_as : {A : Type 0} → List ℕ → (A → Tree) → Option A → Option (List ℕ × Tree)

@@ -1,14 +1,18 @@
-//! Identity tokens, which are the bodies of ExtensionObjects, as lines.
+//! ExtensionObjects, and the identity tokens that they hold, as lines.
 
-ghost use Rattle.std.specs.Prelude.{◌≡◌, IfOk, OnOk, IsTrue, option_map, string_bytes};
+ghost use Rattle.std.specs.Prelude.{◌≡◌, [], IfOk, IsTrue, None, is_some, option_map, string_bytes};
 ghost use Rattle.ua_opening.specs.Message.{body_of};
-ghost use Rattle.ua_fields.specs.Leaves.{certificate_token_of, extension_object_tree, issued_token_of};
-ghost use Rattle.ua_fields.specs.Leaves.{object_or_token, octets_of_body as octets_in, token_as, token_numbered};
-ghost use Rattle.ua_fields.specs.Leaves.{user_name_token_of};
-ghost use Rattle.ua_fields.specs.Tree.{IsBehind};
+ghost use Rattle.ua_fields.specs.Leaves.{extension_object_tree, object_or_token};
+ghost use Rattle.ua_fields.specs.Leaves.{octets_of_body as octets_in, token_as, token_numbered};
+ghost use Rattle.ua_fields.specs.Printing.{PrintsOrBreaks};
+ghost use Rattle.ua_fields.specs.Tree.{IsBehind, structure};
 
-use crate::leaves::push_object_octets;
-use crate::lines::{Appended, Lines, Place, deeper_margin, push_fields, push_line};
+use crate::lines::{Lines, Place, deeper_margin, push_line, push_start};
+use crate::null::is_null_object;
+use crate::pieces::print_encoding;
+use crate::printed::{Last, Printed, PrintedFields};
+use crate::printing::{PrintFault, TellFault};
+use crate::sink::Sink;
 use std::alloc::{AllocError, Global};
 use ua_builtin::{
     ExtensionBody, ExtensionObject, MOST_LEVELS, Octets, ReadFault, Source, UaBytes, UaString, Wire,
@@ -25,211 +29,161 @@ const X509: u32 = 327;
 
 const ISSUED: u32 = 940;
 
-/// The name and the password of a user (OPC 10000-4, 7.41.4).
-#[derive(Drop)]
-pub(crate) struct UserNameIdentityToken {
-    pub(crate) policy_id: UaString,
-    pub(crate) user_name: UaString,
-    /// Encrypted, unless the policy says otherwise.
-    pub(crate) password: UaBytes,
-    pub(crate) encryption_algorithm: UaString,
-}
+/// The field of an AnonymousIdentityToken (OPC 10000-4, 7.41.3).
+struct AnonymousFields;
 
-/// The certificate of a user (OPC 10000-4, 7.41.5).
-#[derive(Drop)]
-pub(crate) struct X509IdentityToken {
-    pub(crate) policy_id: UaString,
-    pub(crate) certificate_data: UaBytes,
-}
-
-/// A token that another service issued for a user (OPC 10000-4, 7.41.6).
-#[derive(Drop)]
-pub(crate) struct IssuedIdentityToken {
-    pub(crate) policy_id: UaString,
-    pub(crate) token_data: UaBytes,
-    pub(crate) encryption_algorithm: UaString,
-}
-
-impl Lines for AnonymousIdentityToken {
-    ghost use Rattle.ua_fields.specs.Tree.{structure};
+impl PrintedFields for AnonymousFields {
     ghost use Rattle.ua_fields.specs.Leaves.{anonymous_token_entries};
 
-    ghost tree = { λ m. structure (anonymous_token_entries m) };
-}
+    type Values = AnonymousIdentityToken;
 
-impl Appended for AnonymousIdentityToken {
-    #[tactic(auto, unfolding(crate::specs::Leaves::anonymous_token_entries))]
-    fn push_lines(&self, alloc: Global, out: &mut String, place: Place) -> Result<(), AllocError> {
-        push_fields!(self, alloc, out, place => push_field policy_id)
+    type Names = ();
+
+    ghost fields = { λ names token. anonymous_token_entries token };
+
+    fn print_fields<S: Source, O: Sink>(
+        alloc: Global,
+        src: &mut S,
+        place: Place,
+        _names: (),
+        text: &mut String,
+        out: &mut O,
+    ) -> Result<(), TellFault> {
+        <Last<UaString>>::print_fields(alloc, src, place, "policy_id", text, out)
     }
 }
 
-impl Lines for UserNameIdentityToken {
-    ghost use Rattle.ua_fields.specs.Tree.{structure};
-    ghost use Rattle.ua_fields.specs.Leaves.{user_name_token_entries};
+/// The fields of a UserNameIdentityToken: its policy, the name and the password of a user, and how
+/// that is encrypted (OPC 10000-4, 7.41.4).
+type UserNameFields = (UaString, (UaString, (UaBytes, Last<UaString>)));
 
-    ghost tree = { λ m. structure (user_name_token_entries m) };
-}
+/// The fields of an X509IdentityToken: its policy, and the certificate of a user (OPC 10000-4,
+/// 7.41.5).
+type CertificateFields = (UaString, Last<UaBytes>);
 
-impl Appended for UserNameIdentityToken {
-    #[tactic(auto, unfolding(crate::specs::Leaves::user_name_token_entries))]
-    fn push_lines(&self, alloc: Global, out: &mut String, place: Place) -> Result<(), AllocError> {
-        push_fields!(self, alloc, out, place =>
-            push_field policy_id, push_field user_name, push_field password,
-            push_field encryption_algorithm
-        )
-    }
-}
+/// The fields of an IssuedIdentityToken: its policy, what another service issued for a user, and how
+/// that is encrypted (OPC 10000-4, 7.41.6).
+type IssuedFields = (UaString, (UaBytes, Last<UaString>));
 
-impl Lines for X509IdentityToken {
-    ghost use Rattle.ua_fields.specs.Tree.{structure};
-    ghost use Rattle.ua_fields.specs.Leaves.{certificate_token_entries};
-
-    ghost tree = { λ m. structure (certificate_token_entries m) };
-}
-
-impl Appended for X509IdentityToken {
-    #[tactic(auto, unfolding(crate::specs::Leaves::certificate_token_entries))]
-    fn push_lines(&self, alloc: Global, out: &mut String, place: Place) -> Result<(), AllocError> {
-        push_fields!(self, alloc, out, place => push_field policy_id, push_field certificate_data)
-    }
-}
-
-impl Lines for IssuedIdentityToken {
-    ghost use Rattle.ua_fields.specs.Tree.{structure};
-    ghost use Rattle.ua_fields.specs.Leaves.{issued_token_entries};
-
-    ghost tree = { λ m. structure (issued_token_entries m) };
-}
-
-impl Appended for IssuedIdentityToken {
-    #[tactic(auto, unfolding(crate::specs::Leaves::issued_token_entries))]
-    fn push_lines(&self, alloc: Global, out: &mut String, place: Place) -> Result<(), AllocError> {
-        push_fields!(self, alloc, out, place =>
-            push_field policy_id, push_field token_data, push_field encryption_algorithm
-        )
-    }
-}
-
-/// The value that exactly these bytes encode.
-fn found_whole<T: Wire + Drop>(alloc: Global, octets: &[u8]) -> Result<Option<T>, AllocError>
-    ensures { IfOk result (λ found. found ≡ body_of T.format octets.now) }
+/// Whether these bytes encode a value, with nothing after it.
+fn is_encoding<T: Wire + Drop>(alloc: Global, octets: &[u8]) -> Result<bool, AllocError>
+    ensures { IfOk result (λ is. is ≡ is_some (body_of T.format octets.now)) }
 {
     let mut src = Octets::new(octets);
     match T::read_value(alloc, &mut src, MOST_LEVELS) {
-        Ok(value) if src.left() == 0 => Ok(Some(value)),
-        Ok(_) => Ok(None),
-        Err(ReadFault::NoValue) => Ok(None),
+        Ok(value) => {
+            drop(value);
+            Ok(src.left() == 0)
+        }
+        Err(ReadFault::NoValue) => Ok(false),
         Err(ReadFault::OutOfMemory) => Err(AllocError),
     }
 }
 
-fn found_user_name(
+/// Prints the line of an ExtensionObject by its bytes, in pieces, that of a null one as
+/// `null`.
+fn print_octets_line<O: Sink>(
     alloc: Global,
-    octets: &[u8],
-) -> Result<Option<UserNameIdentityToken>, AllocError>
-    ensures { IfOk result (λ found. found ≡ user_name_token_of octets.now) }
-{
-    let found: Option<(UaString, (UaString, (UaBytes, UaString)))> = found_whole(alloc, octets)?;
-    Ok(match found {
-        Some((policy_id, (user_name, (password, encryption_algorithm)))) => {
-            Some(UserNameIdentityToken {
-                policy_id,
-                user_name,
-                password,
-                encryption_algorithm,
-            })
-        }
-        None => None,
-    })
-}
-
-fn found_certificate(alloc: Global, octets: &[u8]) -> Result<Option<X509IdentityToken>, AllocError>
-    ensures { IfOk result (λ found. found ≡ certificate_token_of octets.now) }
-{
-    let found: Option<(UaString, UaBytes)> = found_whole(alloc, octets)?;
-    Ok(match found {
-        Some((policy_id, certificate_data)) => Some(X509IdentityToken {
-            policy_id,
-            certificate_data,
-        }),
-        None => None,
-    })
-}
-
-fn found_issued(alloc: Global, octets: &[u8]) -> Result<Option<IssuedIdentityToken>, AllocError>
-    ensures { IfOk result (λ found. found ≡ issued_token_of octets.now) }
-{
-    let found: Option<(UaString, (UaBytes, UaString))> = found_whole(alloc, octets)?;
-    Ok(match found {
-        Some((policy_id, (token_data, encryption_algorithm))) => Some(IssuedIdentityToken {
-            policy_id,
-            token_data,
-            encryption_algorithm,
-        }),
-        None => None,
-    })
-}
-
-/// Appends an identity token: a line with the name of its type, and its fields one level deeper; if
-/// none was found, the bytes of the ExtensionObject.
-fn push_token<T: Appended + Drop>(
-    alloc: Global,
-    out: &mut String,
-    place: Place<'_>,
     object: &ExtensionObject,
-    name: &str,
-    found: Option<T>,
-) -> Result<(), AllocError>
-    requires { IsTrue place.style.plain }
-    ensures { OnOk result (IsBehind place.entry.style place.entry.margin.now place.entry.path.now (string_bytes out.old)
-        (object_or_token object.now (token_as name.now T.tree found)) (string_bytes out.new)) }
+    place: Place<'_>,
+    text: &mut String,
+    out: &mut O,
+) -> Result<(), PrintFault>
+    ensures { PrintsOrBreaks place.entry.style (O.contents out.old) (string_bytes text.old) (O.contents out.new)
+        (string_bytes text.new) (IsBehind place.entry.style place.entry.margin.now place.entry.path.now []
+        (object_or_token object.now None)) result }
 {
-    let Some(token) = found else {
-        return push_object_octets(alloc, out, place, object);
-    };
-    push_line(out, place, name)?;
+    if is_null_object(object) {
+        push_line(text, place, "null")?;
+        return Ok(());
+    }
+    push_start(text, place)?;
+    print_encoding(alloc, object, text, out)?;
+    text.push_str("\n")?;
+    out.write_full(text)?;
+    Ok(())
+}
+
+/// Prints an identity token: a line with the name of its type, and its fields one level deeper; the
+/// bytes of the ExtensionObject, unless the others encode a token with nothing after it.
+fn print_token<F: PrintedFields, O: Sink>(
+    alloc: Global,
+    object: &ExtensionObject,
+    octets: &[u8],
+    place: Place<'_>,
+    type_name: &str,
+    field_names: F::Names,
+    text: &mut String,
+    out: &mut O,
+) -> Result<(), PrintFault>
+    requires { IsTrue place.style.plain }
+    ensures { PrintsOrBreaks place.entry.style (O.contents out.old) (string_bytes text.old) (O.contents out.new)
+        (string_bytes text.new) (IsBehind place.entry.style place.entry.margin.now place.entry.path.now []
+        (object_or_token object.now (token_as type_name.now (λ v. structure (F.fields field_names v))
+        (body_of F.Values.format octets.now)))) result }
+{
+    if !is_encoding::<F::Values>(alloc, octets)? {
+        return print_octets_line(alloc, object, place, text, out);
+    }
+    push_line(text, place, type_name)?;
     let margin = deeper_margin(alloc, place.margin)?;
     let inner = Place {
         style: place.style,
         margin: &margin,
         path: place.path,
     };
-    token.push_lines(alloc, out, inner)
+    let mut src = Octets::new(octets);
+    match F::print_fields(alloc, &mut src, inner, field_names, text, out) {
+        Ok(()) => Ok(()),
+        // This cannot be: the bytes encode a token.
+        Err(TellFault::NoValue) => Err(PrintFault::OutOfMemory),
+        Err(TellFault::OutOfMemory) => Err(PrintFault::OutOfMemory),
+        Err(TellFault::Output(error)) => Err(PrintFault::Output(error)),
+    }
 }
 
-/// Appends the identity token that bytes of an encoding with this number encode, or the bytes of
-/// the ExtensionObject.
-fn push_numbered(
+/// Prints the identity token that bytes of an encoding with this number encode, or the bytes of the
+/// ExtensionObject.
+fn print_numbered<O: Sink>(
     alloc: Global,
-    out: &mut String,
-    place: Place<'_>,
     object: &ExtensionObject,
     number: u32,
     octets: &[u8],
-) -> Result<(), AllocError>
+    place: Place<'_>,
+    text: &mut String,
+    out: &mut O,
+) -> Result<(), PrintFault>
     requires { IsTrue place.style.plain }
-    ensures { OnOk result (IsBehind place.entry.style place.entry.margin.now place.entry.path.now (string_bytes out.old)
-        (object_or_token object.now (token_numbered number octets.now)) (string_bytes out.new)) }
+    ensures { PrintsOrBreaks place.entry.style (O.contents out.old) (string_bytes text.old) (O.contents out.new)
+        (string_bytes text.new) (IsBehind place.entry.style place.entry.margin.now place.entry.path.now []
+        (object_or_token object.now (token_numbered number octets.now))) result }
 {
     match number {
         ANONYMOUS => {
-            let found: Option<AnonymousIdentityToken> = found_whole(alloc, octets)?;
-            push_token(alloc, out, place, object, "AnonymousIdentityToken", found)
+            let name = "AnonymousIdentityToken";
+            print_token::<AnonymousFields, O>(alloc, object, octets, place, name, (), text, out)
         }
         USER_NAME => {
-            let found = found_user_name(alloc, octets)?;
-            push_token(alloc, out, place, object, "UserNameIdentityToken", found)
+            let name = "UserNameIdentityToken";
+            let names = (
+                "policy_id",
+                ("user_name", ("password", "encryption_algorithm")),
+            );
+            print_token::<UserNameFields, O>(alloc, object, octets, place, name, names, text, out)
         }
         X509 => {
-            let found = found_certificate(alloc, octets)?;
-            push_token(alloc, out, place, object, "X509IdentityToken", found)
+            let name = "X509IdentityToken";
+            let names = ("policy_id", "certificate_data");
+            print_token::<CertificateFields, O>(
+                alloc, object, octets, place, name, names, text, out,
+            )
         }
         ISSUED => {
-            let found = found_issued(alloc, octets)?;
-            push_token(alloc, out, place, object, "IssuedIdentityToken", found)
+            let name = "IssuedIdentityToken";
+            let names = ("policy_id", ("token_data", "encryption_algorithm"));
+            print_token::<IssuedFields, O>(alloc, object, octets, place, name, names, text, out)
         }
-        _ => push_object_octets(alloc, out, place, object),
+        _ => print_octets_line(alloc, object, place, text, out),
     }
 }
 
@@ -243,26 +197,51 @@ fn octets_of_body(body: &ExtensionBody) -> Option<&[u8]>
     }
 }
 
-/// Appends the lines of an ExtensionObject: its bytes, or as people write it the identity token
-/// that it holds.
-#[tactic(auto, using(crate::proofs::Identities::exact_object))]
-pub(crate) fn push_object(
+/// Prints the lines of an ExtensionObject: its bytes, or as people write it the identity token that
+/// it holds.
+fn print_object<O: Sink>(
     alloc: Global,
-    out: &mut String,
-    place: Place<'_>,
     object: &ExtensionObject,
-) -> Result<(), AllocError>
-    ensures { OnOk result (IsBehind place.entry.style place.entry.margin.now place.entry.path.now (string_bytes out.old)
-        (extension_object_tree object.now) (string_bytes out.new)) }
+    place: Place<'_>,
+    text: &mut String,
+    out: &mut O,
+) -> Result<(), PrintFault>
+    ensures { PrintsOrBreaks place.entry.style (O.contents out.old) (string_bytes text.old) (O.contents out.new)
+        (string_bytes text.new) (IsBehind place.entry.style place.entry.margin.now place.entry.path.now []
+        (extension_object_tree object.now)) result }
 {
     if !place.style.plain {
-        return push_object_octets(alloc, out, place, object);
+        return print_octets_line(alloc, object, place, text, out);
     }
     let Some(number) = standard_number(&object.type_id) else {
-        return push_object_octets(alloc, out, place, object);
+        return print_octets_line(alloc, object, place, text, out);
     };
     let Some(octets) = octets_of_body(&object.body) else {
-        return push_object_octets(alloc, out, place, object);
+        return print_octets_line(alloc, object, place, text, out);
     };
-    push_numbered(alloc, out, place, object, number, octets)
+    print_numbered(alloc, object, number, octets, place, text, out)
+}
+
+impl Lines for ExtensionObject {
+    ghost use Rattle.ua_fields.specs.Leaves.{extension_object_tree};
+
+    ghost tree = { extension_object_tree };
+}
+
+impl Printed for ExtensionObject {
+    fn is_structure() -> bool {
+        false
+    }
+
+    fn print<S: Source, O: Sink>(
+        alloc: Global,
+        src: &mut S,
+        place: Place,
+        text: &mut String,
+        out: &mut O,
+    ) -> Result<(), TellFault> {
+        let object = ExtensionObject::read_value(alloc, src, MOST_LEVELS)?;
+        print_object(alloc, &object, place, text, out)?;
+        Ok(())
+    }
 }

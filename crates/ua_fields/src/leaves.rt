@@ -1,20 +1,17 @@
 //! Values without fields of their own, as lines.
 
-ghost use Rattle.std.specs.Prelude.{string_bytes, None, OnOk};
+ghost use Rattle.std.specs.Prelude.{string_bytes, OnOk};
 ghost use Rattle.ua_texts.specs.PlainLeaf.{Adds};
-ghost use Rattle.ua_fields.specs.Leaves.{object_leaf, object_or_token};
 ghost use Rattle.ua_fields.specs.Tree.{IsBehind, IsText, Leaf, text};
 
-use crate::identity::push_object;
 use crate::lines::{Appended, Lines, Place, push_line, push_start};
-use crate::null::{is_empty, is_null_name, is_null_object, is_null_text};
+use crate::null::{is_empty, is_null_name, is_null_text};
 use crate::style::FieldStyle;
 use crate::text::{push_encoded_or_null, push_node};
 use std::alloc::{AllocError, Global};
 use std::fmt::Write;
 use ua_builtin::{
-    DateTime, DoubleBits, ExtensionObject, LocalizedText, NodeId, QualifiedName, StatusCode,
-    UaBytes, UaString,
+    DateTime, DoubleBits, LocalizedText, NodeId, QualifiedName, StatusCode, UaBytes, UaString,
 };
 use ua_texts::{
     push_base64, push_code_as, push_diagnostic, push_double, push_escaped_string, push_moment,
@@ -38,7 +35,7 @@ pub(crate) trait Text {
 }
 
 /// Appends a line with the text of a value.
-fn push_text_line<T: Text>(
+pub(crate) fn push_text_line<T: Text>(
     alloc: Global,
     out: &mut String,
     place: Place<'_>,
@@ -312,45 +309,5 @@ impl Text for DiagnosticInfo {
         } else {
             push_encoded_or_null(alloc, out, is_null, self)
         }
-    }
-}
-
-/// Appends the text of an ExtensionObject by its bytes.
-#[tactic(auto, unfolding(crate::specs::Leaves::encoded_text))]
-fn push_object_text(
-    alloc: Global,
-    out: &mut String,
-    style: FieldStyle,
-    object: &ExtensionObject,
-) -> Result<(), AllocError>
-    ensures { Adds result (string_bytes out.old) (string_bytes out.new) (IsText style (object_leaf object.now)) }
-{
-    push_encoded_or_null(alloc, out, is_null_object(object), object)
-}
-
-/// Appends the line of an ExtensionObject by its bytes.
-pub(crate) fn push_object_octets(
-    alloc: Global,
-    out: &mut String,
-    place: Place<'_>,
-    object: &ExtensionObject,
-) -> Result<(), AllocError>
-    ensures { OnOk result (IsBehind place.entry.style place.entry.margin.now place.entry.path.now (string_bytes out.old)
-        (object_or_token object.now None) (string_bytes out.new)) }
-{
-    push_start(out, place)?;
-    push_object_text(alloc, out, place.style, object)?;
-    out.push_str("\n")
-}
-
-impl Lines for ExtensionObject {
-    ghost use Rattle.ua_fields.specs.Leaves.{extension_object_tree};
-
-    ghost tree = { extension_object_tree };
-}
-
-impl Appended for ExtensionObject {
-    fn push_lines(&self, alloc: Global, out: &mut String, place: Place) -> Result<(), AllocError> {
-        push_object(alloc, out, place, self)
     }
 }

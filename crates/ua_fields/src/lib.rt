@@ -30,6 +30,7 @@ mod opened;
 mod path;
 mod pieces;
 mod plain;
+mod plain_diagnostic;
 mod plain_leaf;
 mod plain_parts;
 mod printed;

@@ -4,17 +4,25 @@ ghost use Rattle.std.specs.Prelude.{◌≡◌, string_bytes};
 ghost use Rattle.base64.specs.Engines.{standard};
 ghost use Rattle.base64.specs.GeneralPurpose.{encode_of};
 ghost use Rattle.ua_builtin.specs.NodeText.{node_text};
-ghost use Rattle.ua_fields.specs.NodeText.{left_out, nulled as without_text};
+ghost use Rattle.ua_fields.specs.NodeText.{formed, left_out, nulled as without_text};
 ghost use Rattle.ua_fields.specs.Printing.{PrintsPieces};
-ghost use Rattle.ua_fields.specs.Tree.{line};
-ghost use Rattle.ua_texts.specs.Shown.{escaped};
 
-use crate::lines::{Place, push_start};
-use crate::pieces::{print_base64, print_escaped};
+use crate::pieces::{print_base64, print_escaped, print_marked};
 use crate::printing::PrintFault;
 use crate::sink::Sink;
 use std::alloc::Global;
 use ua_builtin::{Identifier, NodeId, UaBytes, UaString};
+use ua_texts::Marks;
+
+/// How the characters of a text are written.
+#[derive(Clone, Copy)]
+pub(crate) enum TextForm {
+    /// As those of a field: control characters, also U+0080 to U+009F, and backslashes are escaped.
+    Field,
+    /// As those of a value that people read: ASCII control characters, backslashes and these marks
+    /// are escaped.
+    Marked(Marks),
+}
 
 /// The identifier, with null in place of a text or of bytes.
 fn nulled(identifier: &Identifier) -> Identifier
@@ -28,66 +36,68 @@ fn nulled(identifier: &Identifier) -> Identifier
     }
 }
 
-/// Prints bytes in base64, in pieces. None of its characters is escaped.
-fn print_escaped_base64<O: Sink>(
-    octets: &[u8],
+/// Prints a text in its form, in pieces.
+fn print_formed<O: Sink>(
+    value: &str,
+    form: TextForm,
     text: &mut String,
     out: &mut O,
 ) -> Result<(), PrintFault>
     ensures { PrintsPieces (O.contents out.old) (string_bytes text.old) (O.contents out.new) (string_bytes text.new)
-        (escaped (encode_of standard octets.now)) result }
+        (formed form value.now) result }
 {
-    print_base64(octets, text, out)
-}
-
-/// Prints what `nulled` leaves out of the text of a NodeId, escaped, in pieces.
-fn print_left_out<O: Sink>(
-    identifier: &Identifier,
-    text: &mut String,
-    out: &mut O,
-) -> Result<(), PrintFault>
-    ensures { PrintsPieces (O.contents out.old) (string_bytes text.old) (O.contents out.new) (string_bytes text.new)
-        (escaped (left_out identifier.now)) result }
-{
-    match identifier {
-        Identifier::Text(value) => print_escaped(value.as_str().unwrap_or(""), text, out),
-        Identifier::Opaque(octets) => {
-            print_escaped_base64(octets.as_octets().unwrap_or(&[]), text, out)
-        }
-        Identifier::Numeric(_) => print_escaped("", text, out),
-        Identifier::Guid(_) => print_escaped("", text, out),
+    match form {
+        TextForm::Field => print_escaped(value, text, out),
+        TextForm::Marked(marks) => print_marked(value, marks, text, out),
     }
 }
 
-/// Prints the text of a NodeId, escaped, in pieces.
-fn print_node<O: Sink>(
-    alloc: Global,
-    id: &NodeId,
+/// Prints bytes in base64, in pieces. None of its characters is escaped, and none is a mark.
+fn print_formed_base64<O: Sink>(
+    octets: &[u8],
+    form: TextForm,
     text: &mut String,
     out: &mut O,
 ) -> Result<(), PrintFault>
     ensures { PrintsPieces (O.contents out.old) (string_bytes text.old) (O.contents out.new) (string_bytes text.new)
-        (escaped (node_text id.now)) result }
+        (formed form (encode_of standard octets.now)) result }
 {
-    let front = NodeId::new(id.namespace, nulled(&id.identifier)).to_text(alloc)?;
-    print_escaped(front.as_str(), text, out)?;
-    print_left_out(&id.identifier, text, out)
+    let _form = form;
+    print_base64(octets, text, out)
 }
 
-/// Prints the line of a NodeId, its text in pieces.
-pub(crate) fn print_node_line<O: Sink>(
-    alloc: Global,
-    place: Place<'_>,
-    id: &NodeId,
+/// Prints what `nulled` leaves out of the text of a NodeId, in pieces.
+fn print_left_out<O: Sink>(
+    identifier: &Identifier,
+    form: TextForm,
     text: &mut String,
     out: &mut O,
 ) -> Result<(), PrintFault>
     ensures { PrintsPieces (O.contents out.old) (string_bytes text.old) (O.contents out.new) (string_bytes text.new)
-        (line place.entry.margin.now place.entry.path.now (escaped (node_text id.now))) result }
+        (formed form (left_out identifier.now)) result }
 {
-    push_start(text, place)?;
-    print_node(alloc, id, text, out)?;
-    text.push_str("\n")?;
-    out.write_full(text)?;
-    Ok(())
+    match identifier {
+        Identifier::Text(value) => print_formed(value.as_str().unwrap_or(""), form, text, out),
+        Identifier::Opaque(octets) => {
+            print_formed_base64(octets.as_octets().unwrap_or(&[]), form, text, out)
+        }
+        Identifier::Numeric(_) => print_formed("", form, text, out),
+        Identifier::Guid(_) => print_formed("", form, text, out),
+    }
+}
+
+/// Prints the text of a NodeId, in pieces.
+pub(crate) fn print_node<O: Sink>(
+    alloc: Global,
+    id: &NodeId,
+    form: TextForm,
+    text: &mut String,
+    out: &mut O,
+) -> Result<(), PrintFault>
+    ensures { PrintsPieces (O.contents out.old) (string_bytes text.old) (O.contents out.new) (string_bytes text.new)
+        (formed form (node_text id.now)) result }
+{
+    let front = NodeId::new(id.namespace, nulled(&id.identifier)).to_text(alloc)?;
+    print_formed(front.as_str(), form, text, out)?;
+    print_left_out(&id.identifier, form, text, out)
 }

@@ -5,11 +5,9 @@ ghost use Rattle.base64.specs.Engines.{standard};
 ghost use Rattle.base64.specs.GeneralPurpose.{encode_of};
 ghost use Rattle.hex.specs.Hex.{encode_lower};
 ghost use Rattle.ua_fields.specs.Printing.{PrintsPieces};
-ghost use Rattle.ua_fields.specs.Tree.{line};
 ghost use Rattle.ua_texts.specs.Marks.{marked, marked_string};
 ghost use Rattle.ua_texts.specs.Shown.{escaped, octets_text, shown, written_text};
 
-use crate::lines::{Place, push_line, push_start};
 use crate::printing::PrintFault;
 use crate::sink::Sink;
 use base64::engine::general_purpose::STANDARD;
@@ -17,8 +15,8 @@ use std::alloc::{AllocError, Global};
 use ua_builtin::{UaString, Wire, WriteFault};
 use ua_texts::{Marks, push_char, push_escaped_char, push_marked_char};
 
-/// The bytes of a piece, which base64 has in groups of three. A value of no more bytes is printed
-/// whole.
+/// The bytes of a piece, which base64 has in groups of three. The text of a field that is encoded in
+/// no more bytes is made whole, but for that of an ExtensionObject.
 pub(crate) const PIECE: usize = 24576;
 
 /// Prints a text, escaped, in pieces.
@@ -135,76 +133,21 @@ pub(crate) fn print_octets<O: Sink>(
     Ok(())
 }
 
-/// Prints the line of a text, escaped, in pieces.
-pub(crate) fn print_escaped_line<O: Sink>(
-    place: Place<'_>,
-    value: &str,
-    text: &mut String,
-    out: &mut O,
-) -> Result<(), PrintFault>
-    ensures { PrintsPieces (O.contents out.old) (string_bytes text.old) (O.contents out.new) (string_bytes text.new)
-        (line place.entry.margin.now place.entry.path.now (escaped value.now)) result }
-{
-    push_start(text, place)?;
-    print_escaped(value, text, out)?;
-    text.push_str("\n")?;
-    out.write_full(text)?;
-    Ok(())
-}
-
-/// Prints the line of bytes in base64, in pieces.
-pub(crate) fn print_base64_line<O: Sink>(
-    place: Place<'_>,
-    octets: &[u8],
-    text: &mut String,
-    out: &mut O,
-) -> Result<(), PrintFault>
-    ensures { PrintsPieces (O.contents out.old) (string_bytes text.old) (O.contents out.new) (string_bytes text.new)
-        (line place.entry.margin.now place.entry.path.now (encode_of standard octets.now)) result }
-{
-    push_start(text, place)?;
-    print_base64(octets, text, out)?;
-    text.push_str("\n")?;
-    out.write_full(text)?;
-    Ok(())
-}
-
-/// Prints the line of bytes as `0x` and their hexadecimal digits, in pieces.
-pub(crate) fn print_octets_line<O: Sink>(
+/// Prints the bytes of a value's canonical encoding, in pieces, `unwritable` if it has none.
+pub(crate) fn print_encoding<T: Wire, O: Sink>(
     alloc: Global,
-    place: Place<'_>,
-    octets: &[u8],
-    text: &mut String,
-    out: &mut O,
-) -> Result<(), PrintFault>
-    ensures { PrintsPieces (O.contents out.old) (string_bytes text.old) (O.contents out.new) (string_bytes text.new)
-        (line place.entry.margin.now place.entry.path.now (octets_text octets.now)) result }
-{
-    push_start(text, place)?;
-    print_octets(alloc, octets, text, out)?;
-    text.push_str("\n")?;
-    out.write_full(text)?;
-    Ok(())
-}
-
-/// Prints the line of a value by the bytes of its canonical encoding, in pieces, or `unwritable` if
-/// it has none.
-pub(crate) fn print_encoded_line<T: Wire, O: Sink>(
-    alloc: Global,
-    place: Place<'_>,
     value: &T,
     text: &mut String,
     out: &mut O,
 ) -> Result<(), PrintFault>
     ensures { PrintsPieces (O.contents out.old) (string_bytes text.old) (O.contents out.new) (string_bytes text.new)
-        (line place.entry.margin.now place.entry.path.now
-        (written_text (T.format.encodable value.now) (T.format.canonical value.now))) result }
+        (written_text (T.format.encodable value.now) (T.format.canonical value.now)) result }
 {
     let mut octets = Vec::new(alloc);
     match value.write(&mut octets) {
-        Ok(()) => print_octets_line(alloc, place, octets.as_slice(), text, out),
+        Ok(()) => print_octets(alloc, octets.as_slice(), text, out),
         Err(WriteFault::NotWritable) => {
-            push_line(text, place, "unwritable")?;
+            text.push_str("unwritable")?;
             Ok(())
         }
         Err(WriteFault::OutOfMemory) => Err(PrintFault::OutOfMemory),

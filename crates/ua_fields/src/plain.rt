@@ -14,7 +14,9 @@ ghost use Rattle.ua_fields.specs.PlainTexts.{IsHeldText, IsItemText, IsRowText};
 ghost use Rattle.ua_fields.specs.Styles.{plain_field_style};
 
 use crate::elements::push_comma;
-use crate::plain_parts::{ahead_dims, print_plain_diagnostic, print_plain_leaf, print_plain_rest};
+use crate::plain_parts::{
+    ahead_dims, print_array_type, print_plain_diagnostic, print_plain_leaf, print_plain_rest,
+};
 use crate::printing::TellFault;
 use crate::recoded::encode_variant;
 use crate::sink::Sink;
@@ -209,7 +211,7 @@ fn print_many<S: Source, O: Sink>(
         (O.contents out.old) (string_bytes text.old) (O.contents out.new) (string_bytes text.new) result }
 {
     let dims = ahead_dims(alloc, src, depth, kind, flagged, count)?;
-    push_array_type(text, kind, &dims)?;
+    print_array_type(kind, &dims, text, out)?;
     text.push_str(" ")?;
     print_row(alloc, src, depth, kind, count, names, text, out)?;
     skip_dims(alloc, src, flagged, count)?;
@@ -282,7 +284,7 @@ fn print_scalar<S: Source, O: Sink>(
     match kind {
         23 => print_data_value(alloc, src, depth, names, text, out),
         24 => print_bracketed(alloc, src, depth, names, text, out),
-        25 => print_plain_diagnostic(alloc, src, depth, names, text),
+        25 => print_plain_diagnostic(alloc, src, depth, names, text, out),
         _ => print_plain_leaf(alloc, src, kind, names, within, text, out),
     }
 }

@@ -1,25 +1,27 @@
-//! Scalars that hold no further value, printed as people write them: long texts in pieces.
+//! Scalars and fields that hold no further value, printed as people write them: long texts in
+//! pieces.
 
 ghost use Rattle.std.specs.Prelude.{◌≡◌, ◌++◌, OnOk, string_bytes};
 ghost use Rattle.ua_fields.specs.Printing.{PrintsOrBreaks, PrintsPieces};
 ghost use Rattle.ua_fields.specs.Styles.{plain_field_style};
 ghost use Rattle.ua_texts.specs.Plain.{IsPlainScalar};
 ghost use Rattle.ua_texts.specs.PlainLeaf.{locale_text, plain_expanded, plain_localized, plain_name};
-ghost use Rattle.ua_texts.specs.PlainLeaf.{plain_node, plain_string, server_text, uri_text};
+ghost use Rattle.ua_texts.specs.PlainLeaf.{plain_string, server_text, uri_text};
 ghost use Rattle.ua_variant.specs.View.{scalar_of};
 
+use crate::node::{TextForm, print_node};
 use crate::pieces::{print_marked, print_marked_string, print_shown};
 use crate::printing::PrintFault;
 use crate::sink::Sink;
 use std::alloc::{AllocError, Global};
 use std::fmt::Write;
-use ua_builtin::{ExpandedNodeId, LocalizedText, NodeId, QualifiedName, UaString};
+use ua_builtin::{ExpandedNodeId, LocalizedText, QualifiedName, UaString};
 use ua_texts::{Marks, push_plain_scalar};
 use ua_variant::Scalar;
 
-/// Prints a scalar, alone or within an array or brackets: a String, a NodeId, a QualifiedName or a
-/// LocalizedText in pieces, any other whole.
-pub(crate) fn print_leaf<O: Sink>(
+/// Prints a scalar, alone or within an array or brackets: a String, a NodeId, an ExpandedNodeId, a
+/// QualifiedName or a LocalizedText in pieces, any other whole.
+pub(crate) fn print_plain_scalar<O: Sink>(
     alloc: Global,
     scalar: &Scalar,
     names: bool,
@@ -32,7 +34,9 @@ pub(crate) fn print_leaf<O: Sink>(
 {
     match scalar {
         Scalar::String(value) => print_plain_string(value, within, text, out),
-        Scalar::NodeId(value) => print_plain_node(alloc, value, within, text, out),
+        Scalar::NodeId(value) => {
+            print_node(alloc, value, TextForm::Marked(Marks::of(within)), text, out)
+        }
         Scalar::ExpandedNodeId(value) => {
             print_plain_expanded(alloc, value.get(), within, text, out)
         }
@@ -65,21 +69,6 @@ fn print_plain_string<O: Sink>(
     Ok(())
 }
 
-/// Prints a NodeId as its text, which is made whole.
-fn print_plain_node<O: Sink>(
-    alloc: Global,
-    node: &NodeId,
-    within: bool,
-    text: &mut String,
-    out: &mut O,
-) -> Result<(), PrintFault>
-    ensures { PrintsPieces (O.contents out.old) (string_bytes text.old) (O.contents out.new) (string_bytes text.new)
-        (plain_node within node.now) result }
-{
-    let node_text = node.to_text(alloc)?;
-    print_marked(&node_text, Marks::of(within), text, out)
-}
-
 /// Prints an ExpandedNodeId: its server, the URI of its namespace, and its NodeId.
 fn print_plain_expanded<O: Sink>(
     alloc: Global,
@@ -93,7 +82,13 @@ fn print_plain_expanded<O: Sink>(
 {
     push_server(text, id.server_index)?;
     print_uri(&id.namespace_uri, within, text, out)?;
-    print_plain_node(alloc, &id.node_id, within, text, out)
+    print_node(
+        alloc,
+        &id.node_id,
+        TextForm::Marked(Marks::of(within)),
+        text,
+        out,
+    )
 }
 
 /// Appends the index of a server, unless that is 0.
@@ -126,7 +121,7 @@ fn print_uri<O: Sink>(
 }
 
 /// Prints a QualifiedName: its namespace and its name, with a colon between.
-fn print_plain_name<O: Sink>(
+pub(crate) fn print_plain_name<O: Sink>(
     name: &QualifiedName,
     within: bool,
     text: &mut String,
@@ -140,7 +135,7 @@ fn print_plain_name<O: Sink>(
 }
 
 /// Prints a LocalizedText: its locale with a bar after it, if it has one, and its text.
-fn print_plain_localized<O: Sink>(
+pub(crate) fn print_plain_localized<O: Sink>(
     value: &LocalizedText,
     within: bool,
     text: &mut String,

@@ -4,7 +4,8 @@ ghost use Rattle.std.specs.Prelude.{◌≡◌, ◌<◌, ◌≤◌, ℕ, true, fa
 ghost use Rattle.ua_builtin.specs.Counted.{first_negative};
 ghost use Rattle.ua_builtin.specs.Exact.{skipped};
 ghost use Rattle.ua_builtin.specs.Format.{Gives, GivesBy, most_levels};
-ghost use Rattle.ua_texts.specs.Plain.{IsPlainScalar};
+ghost use Rattle.std.specs.List.{flat_map};
+ghost use Rattle.ua_texts.specs.Plain.{IsPlainScalar, array_type_text, length_text};
 ghost use Rattle.ua_variant.specs.Data.{diagnostic};
 ghost use Rattle.ua_variant.specs.Decoding.{elements_at, row_at, scalars_at};
 ghost use Rattle.ua_variant.specs.Fields.{data_fields};
@@ -12,21 +13,23 @@ ghost use Rattle.ua_variant.specs.Leaf.{holds_values};
 ghost use Rattle.ua_variant.specs.View.{scalar_of};
 ghost use Rattle.ua_diagnostic.specs.Diagnostic.{diagnostic_at};
 ghost use Rattle.ua_fields.specs.PlainTexts.{IsRestText, TellsDims};
-ghost use Rattle.ua_fields.specs.Printing.{PrintsAny, element_levels};
+ghost use Rattle.ua_fields.specs.Printing.{PrintsAny, PrintsPieces, element_levels};
 ghost use Rattle.ua_fields.specs.Styles.{plain_field_style};
 
 use crate::elements::{print_scalar, read_packed};
-use crate::plain_leaf::print_leaf;
-use crate::printing::TellFault;
+use crate::plain_diagnostic::print_diagnostic;
+use crate::plain_leaf::print_plain_scalar;
+use crate::printing::{PrintFault, TellFault};
 use crate::sink::Sink;
 use crate::value::read_fields;
 use std::alloc::Global;
+use std::fmt::Write;
 use ua_builtin::{
     ExpandedNodeId, ExtensionObject, LocalizedText, NodeId, QualifiedName, ReadFault, Source,
     UaBytes, UaString, Wire, XmlElement,
 };
 use ua_diagnostic::read_dims;
-use ua_texts::{push_diagnostic, push_plain_fields};
+use ua_texts::{push_array_type, push_plain_fields, type_name};
 use ua_variant::{Boxed, DataValue, DiagnosticInfo, Dimensions, Scalar, Variant};
 use ua_wire::Skip;
 
@@ -85,28 +88,29 @@ pub(crate) fn print_plain_leaf<S: Source, O: Sink>(
         }
         _ => {
             let scalar = read_leaf(alloc, src, kind)?;
-            print_leaf(alloc, &scalar, names, within, text, out)?;
+            print_plain_scalar(alloc, &scalar, names, within, text, out)?;
             Ok(())
         }
     }
 }
 
-/// Reads a DiagnosticInfo, and appends its text as people write it.
+/// Reads a DiagnosticInfo, and prints its text as people write it.
 #[inline(never)]
-pub(crate) fn print_plain_diagnostic<S: Source>(
+pub(crate) fn print_plain_diagnostic<S: Source, O: Sink>(
     alloc: Global,
     src: &mut S,
     depth: u32,
     names: bool,
     text: &mut String,
+    out: &mut O,
 ) -> Result<(), TellFault>
     requires levels { depth ≤ most_levels }
-    ensures { (known : Option (List ℕ)) → PrintsAny (plain_field_style names) (diagnostic_at depth)
-        (λ d. IsPlainScalar names true (diagnostic d)) (S.octets src.old) (S.octets src.new) known
-        (string_bytes text.old) known (string_bytes text.new) result }
+    ensures { PrintsAny (plain_field_style names) (diagnostic_at depth)
+        (λ d. IsPlainScalar names true (diagnostic d)) (S.octets src.old) (S.octets src.new)
+        (O.contents out.old) (string_bytes text.old) (O.contents out.new) (string_bytes text.new) result }
 {
     let value = DiagnosticInfo::read_value(alloc, src, depth)?;
-    push_diagnostic(text, &value, names)?;
+    print_diagnostic(&value, names, text, out)?;
     Ok(())
 }
 
@@ -127,6 +131,41 @@ pub(crate) fn print_plain_rest<S: Source>(
     let fields = read_fields(alloc, src, mask)?;
     push_plain_fields(text, &fields, names)?;
     text.push_str(" }")?;
+    Ok(())
+}
+
+/// The most dimensions whose text is made whole.
+const MANY: usize = 1024;
+
+/// Prints the type of an array and its dimensions, many of them in pieces.
+#[inline(never)]
+pub(crate) fn print_array_type<O: Sink>(
+    kind: u8,
+    dims: &Dimensions,
+    text: &mut String,
+    out: &mut O,
+) -> Result<(), PrintFault>
+    ensures { PrintsPieces (O.contents out.old) (string_bytes text.old) (O.contents out.new) (string_bytes text.new)
+        (array_type_text kind dims.now) result }
+{
+    let lengths = dims.as_slice();
+    if lengths.len() <= MANY {
+        push_array_type(text, kind, dims)?;
+        return Ok(());
+    }
+    text.push_str(type_name(kind))?;
+    print_lengths(lengths, text, out)
+}
+
+/// Prints the lengths of dimensions, each in square brackets, in pieces.
+fn print_lengths<O: Sink>(lengths: &[i32], text: &mut String, out: &mut O) -> Result<(), PrintFault>
+    ensures { PrintsPieces (O.contents out.old) (string_bytes text.old) (O.contents out.new) (string_bytes text.new)
+        (flat_map length_text lengths.now) result }
+{
+    for length in lengths {
+        write!(text, "[{length}]")?;
+        out.write_full(text)?;
+    }
     Ok(())
 }
 

@@ -1,4 +1,4 @@
-use Rattle.std.proofs.Common.{◌-◌, bit_and, true, [], Some, None, Ok, Err, codes, refl, sym, ap, ◌∙◌, arith}
+use Rattle.std.proofs.Common.{◌-◌, bit_and, true, [], Some, None, Ok, Err, codes, refl, sym, ap, ◌∙◌, arith, string_bytes}
 use Rattle.std.proofs.lemmas.Result.{err_from_is_err_and}
 use Rattle.ua_builtin.specs.Exact.{◌>>=◌}
 use Rattle.ua_builtin.specs.Flags.{has}
@@ -14,13 +14,15 @@ use Rattle.ua_variant.specs.Fields.{data_fields}
 use Rattle.ua_variant.specs.View.{value_within}
 use Rattle.ua_fields.specs.declared.printing.TellFault.TheVariants.{OutOfMemory}
 use Rattle.ua_fields.specs.PlainTexts.{IsHeldText, IsItemText, IsRestText}
+use Rattle.ua_fields.specs.Printing.{told_fault}
 use Rattle.ua_fields.specs.Styles.{plain_field_style}
 use Rattle.ua_fields.proofs.PlainRows.{items_have, so_fails, so_first, so_last, so_on}
 use Rattle.ua_fields.proofs.PlainSteps.{any_after, any_ended, any_first, any_from, any_kept, any_lost, any_made, any_unended, any_unread, any_written}
 use Rattle.ua_fields.proofs.PlainSteps.{joined_ended, joined_first, joined_unended, pair_first, pair_second}
 use Rattle.ua_fields.proofs.PlainValues.{IsDiagnosticText, rest_has}
 use Rattle.ua_fields.proofs.PlainVariants.{IsClosed, IsHeadedRow, IsOpenedBy, as_many, closed_have, data_value_read, data_value_text, data_values_have}
-use Rattle.ua_fields.proofs.PlainVariants.{data_values_of, diagnostics_of, dims_gives, held_have, is_closed, is_opened, mask_gives, no_mask, null_printed}
+use Rattle.ua_fields.proofs.PlainVariants.{data_values_of, diagnostics_of, dims_gives, head_alone, head_broken}
+use Rattle.ua_fields.proofs.PlainVariants.{held_have, is_closed, is_opened, mask_gives, no_mask, null_printed}
 use Rattle.ua_fields.proofs.PlainVariants.{one_printed, row_headed, typed_have, typed_level, unannounced, variants_of}
 use Rattle.ua_fields.proofs.ValueArrays.{array_count, array_masked, array_uncounted, dims_passed, dims_unpassed, no_array_masked, no_variant_after}
 use Rattle.ua_fields.proofs.ValueArrays.{null_after, null_undimmed}
@@ -150,19 +152,29 @@ print_many-returns-in_err-dims g t c =
     (IsPlainTyped c.args.names within) _ [] [] _ _ c.in_err-dims.field-0.0 (typed_have c.args.names within)
     (dims_gives c.args.depth c.args.kind c.args.count c.args.flagged _ c.in_err-dims.field-0.0 c.in_err-dims.ensures))
 
-pub print_many-returns-in_err-push_array_type : goal.print_many-returns-in_err-push_array_type
-print_many-returns-in_err-push_array_type g t c =
-    let p = err_from_is_err_and c.from_residual-in_err-push_array_type.result c.from_residual-in_err-push_array_type.ensures.1 in
+pub print_many-returns-in_err-print_array_type : goal.print_many-returns-in_err-print_array_type
+print_many-returns-in_err-print_array_type g t c =
+    let p = err_from_is_err_and c.from_residual-in_err-print_array_type.result c.from_residual-in_err-print_array_type.ensures.1 in
     λ within.
-    rw (p.1, p.2) (any_lost (plain_field_style c.args.names) (elements_at (scalars_at c.args.depth) c.args.kind c.args.flagged c.args.count)
-    (IsPlainTyped c.args.names within) _ _ _ (typed_have c.args.names within))
+    rw (p.1, p.2) (joined_first (plain_field_style c.args.names) (row_at c.args.count (scalars_at c.args.depth c.args.kind))
+    (IsHeadedRow c.args.names c.args.kind c.in_ok-dims.dims) (elements_at (scalars_at c.args.depth) c.args.kind c.args.flagged c.args.count)
+    (dims_behind c.args.kind c.args.flagged c.args.count) (IsPlainTyped c.args.names within) (g.S.Source.octets c.args.src.now) _ _ _ refl
+    (as_many c.args.names within c.args.depth c.args.kind c.args.count c.args.flagged _ c.in_ok-dims.dims c.in_ok-dims.ensures) [] [] [] []
+    (told_fault c.in_err-print_array_type.field-0.0)
+    (head_broken c.args.names c.args.kind c.in_ok-dims.dims (row_at c.args.count (scalars_at c.args.depth c.args.kind)) _ [] _ _ _
+    (string_bytes c.print_array_type.new.text) [] c.in_err-print_array_type.field-0.0 c.in_err-print_array_type.ensures))
 
 pub print_many-returns-in_err-push_str : goal.print_many-returns-in_err-push_str
 print_many-returns-in_err-push_str g t c =
     let p = err_from_is_err_and c.from_residual-in_err-push_str.result c.from_residual-in_err-push_str.ensures.1 in
     λ within.
-    rw (p.1, p.2) (any_lost (plain_field_style c.args.names) (elements_at (scalars_at c.args.depth) c.args.kind c.args.flagged c.args.count)
-    (IsPlainTyped c.args.names within) _ _ _ (typed_have c.args.names within))
+    rw (p.1, p.2) (joined_first (plain_field_style c.args.names) (row_at c.args.count (scalars_at c.args.depth c.args.kind))
+    (IsHeadedRow c.args.names c.args.kind c.in_ok-dims.dims) (elements_at (scalars_at c.args.depth) c.args.kind c.args.flagged c.args.count)
+    (dims_behind c.args.kind c.args.flagged c.args.count) (IsPlainTyped c.args.names within) (g.S.Source.octets c.args.src.now) _ _ _ refl
+    (as_many c.args.names within c.args.depth c.args.kind c.args.count c.args.flagged _ c.in_ok-dims.dims c.in_ok-dims.ensures) [] [] [] []
+    OutOfMemory
+    (head_alone c.args.names c.args.kind c.in_ok-dims.dims (row_at c.args.count (scalars_at c.args.depth c.args.kind)) _ [] _ _ _ _
+    c.in_ok-print_array_type.ensures))
 
 pub print_many-returns-in_err-print_row : goal.print_many-returns-in_err-print_row
 print_many-returns-in_err-print_row g t c =
@@ -173,9 +185,9 @@ print_many-returns-in_err-print_row g t c =
     (dims_behind c.args.kind c.args.flagged c.args.count) (IsPlainTyped c.args.names within) (g.S.Source.octets c.args.src.now) _ _ _ refl
     (as_many c.args.names within c.args.depth c.args.kind c.args.count c.args.flagged _ c.in_ok-dims.dims c.in_ok-dims.ensures) [] [] [] []
     c.in_err-print_row.field-0.0
-    (row_headed c.args.names c.args.kind c.in_ok-dims.dims (row_at c.args.count (scalars_at c.args.depth c.args.kind)) _ [] _ _ _ _ _ []
+    (row_headed c.args.names c.args.kind c.in_ok-dims.dims (row_at c.args.count (scalars_at c.args.depth c.args.kind)) _ [] _ _ _ _ _ _ []
     (Err c.in_err-print_row.field-0.0)
-    c.in_ok-push_array_type.ensures c.in_ok-push_str.ensures.bytes c.in_err-print_row.ensures))
+    c.in_ok-print_array_type.ensures c.in_ok-push_str.ensures.bytes c.in_err-print_row.ensures))
 
 pub print_many-returns-in_err-skip_dims : goal.print_many-returns-in_err-skip_dims
 print_many-returns-in_err-skip_dims g t c =
@@ -186,8 +198,8 @@ print_many-returns-in_err-skip_dims g t c =
     (dims_behind c.args.kind c.args.flagged c.args.count) (IsPlainTyped c.args.names within) (g.S.Source.octets c.args.src.now) _ _ _ refl
     (as_many c.args.names within c.args.depth c.args.kind c.args.count c.args.flagged _ c.in_ok-dims.dims c.in_ok-dims.ensures) _ [] _ []
     c.in_err-skip_dims.field-0.0
-    (row_headed c.args.names c.args.kind c.in_ok-dims.dims (row_at c.args.count (scalars_at c.args.depth c.args.kind)) _ _ _ _ _ _ _ _ (Ok tt)
-    c.in_ok-push_array_type.ensures c.in_ok-push_str.ensures.bytes c.in_ok-print_row.ensures)
+    (row_headed c.args.names c.args.kind c.in_ok-dims.dims (row_at c.args.count (scalars_at c.args.depth c.args.kind)) _ _ _ _ _ _ _ _ _ (Ok tt)
+    c.in_ok-print_array_type.ensures c.in_ok-push_str.ensures.bytes c.in_ok-print_row.ensures)
     (dims_unpassed c.args.kind c.args.flagged c.args.count _ _ c.in_err-skip_dims.field-0.0 c.in_err-skip_dims.ensures.exact))
 
 pub print_many-returns : goal.print_many-returns
@@ -196,8 +208,8 @@ print_many-returns g t c =
     (IsHeadedRow c.args.names c.args.kind c.in_ok-dims.dims) (elements_at (scalars_at c.args.depth) c.args.kind c.args.flagged c.args.count)
     (dims_behind c.args.kind c.args.flagged c.args.count) (IsPlainTyped c.args.names within) (g.S.Source.octets c.args.src.now) _ _ _ refl
     (as_many c.args.names within c.args.depth c.args.kind c.args.count c.args.flagged _ c.in_ok-dims.dims c.in_ok-dims.ensures) _ _ _
-    (row_headed c.args.names c.args.kind c.in_ok-dims.dims (row_at c.args.count (scalars_at c.args.depth c.args.kind)) _ _ _ _ _ _ _ _ (Ok tt)
-    c.in_ok-push_array_type.ensures c.in_ok-push_str.ensures.bytes c.in_ok-print_row.ensures)
+    (row_headed c.args.names c.args.kind c.in_ok-dims.dims (row_at c.args.count (scalars_at c.args.depth c.args.kind)) _ _ _ _ _ _ _ _ _ (Ok tt)
+    c.in_ok-print_array_type.ensures c.in_ok-push_str.ensures.bytes c.in_ok-print_row.ensures)
     (dims_passed c.args.kind c.args.flagged c.args.count _ _ _ c.in_ok-skip_dims.ensures.exact)
 
 pub print_row-loop-index-init : goal.print_row-loop-index-init
@@ -257,7 +269,7 @@ pub print_scalar-returns-in-25 : goal.print_scalar-returns-in-25
 print_scalar-returns-in-25 g t c =
     any_made (plain_field_style c.args.names) (diagnostic_at c.args.depth) (IsDiagnosticText c.args.names) (scalars_at c.args.depth c.args.kind) diagnostic
     (IsPlainScalar c.args.names c.args.within) _ _ _ _ _ _ _ c.print_plain_diagnostic.result
-    (diagnostics_of c.args.depth c.args.kind _ c.in-25.is) (λ x rest e text p. p) (c.print_plain_diagnostic.ensures (g.O.Sink.contents c.args.out.now))
+    (diagnostics_of c.args.depth c.args.kind _ c.in-25.is) (λ x rest e text p. p) c.print_plain_diagnostic.ensures
 
 pub print_scalar-returns-in_default : goal.print_scalar-returns-in_default
 print_scalar-returns-in_default g t c =

@@ -25,6 +25,6 @@ returns g c =
     let server = server_text c.args.id.now.server_index in
     let uri = uri_text c.args.within c.args.id.now.namespace_uri in
     let node = plain_node c.args.within c.args.id.now.node_id in
-    pieces_both _ _ _ _ _ _ (server ++ uri) node (server ++ (uri ++ node)) c.print_plain_node.result (append_assoc server uri node)
+    pieces_both _ _ _ _ _ _ (server ++ uri) node (server ++ (uri ++ node)) c.print_node.result (append_assoc server uri node)
     (kept_both _ _ _ _ _ server uri (server ++ uri) (Ok tt) refl c.in_ok-push_server.ensures c.in_ok-print_uri.ensures)
-    c.print_plain_node.ensures
+    (rw c.of.ensures at c.print_node.ensures)

@@ -1,8 +1,0 @@
--- The lines of its fields stand one behind the other.
-use Rattle.std.proofs.Common.{refl}
-use Rattle.ua_fields.specs.Leaves.{anonymous_token_entries}
-use Rattle.ua_fields.proofs.identity.AnonymousIdentityTokenAppended.push_lines.Goals as goal
-
-pub returns : goal.returns
-unfolding anonymous_token_entries
-returns c = (_, c.in_ok-push_field.ensures, refl)

@@ -1,8 +1,0 @@
--- The lines of its fields stand one behind the other.
-use Rattle.std.proofs.Common.{refl}
-use Rattle.ua_fields.specs.Leaves.{user_name_token_entries}
-use Rattle.ua_fields.proofs.identity.UserNameIdentityTokenAppended.push_lines.Goals as goal
-
-pub returns : goal.returns
-unfolding user_name_token_entries
-returns c = (_, c.in_ok-push_field.ensures, (_, c.in_ok-push_field-2.ensures, (_, c.in_ok-push_field-3.ensures, (_, c.in_ok-push_field-4.ensures, refl))))
