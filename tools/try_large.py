@@ -34,7 +34,7 @@ from array import array as array_of
 from typing import IO
 
 sys.dont_write_bytecode = True
-from try_parts.large import LONG, NULL, NUMBER, OPEN_REQUEST, OPEN_RESPONSE, PRINTED, TEXT, WHOLE_WITH_PLAIN, header, item
+from try_parts.large import LONG, NULL, NUMBER, OPEN_REQUEST, OPEN_RESPONSE, PRINTED, TEXT, header, item
 
 TOP = os.path.dirname(os.path.dirname(os.path.abspath(__file__)))
 # The most memory, in KiB, that a request of which nothing is to be kept may take: it takes 3,200 to 3,700, and 18,000
@@ -70,10 +70,16 @@ def array(session: bool, kind: int, element: bytes) -> bytes:
     return write(session, NUMBER, struct.pack('<BI', 0x80 + kind, count) + count * element)
 
 
-def items(front: bytes, rest: bytes, one: bytes, most: int = MOST) -> bytes:
-    """A message of as many of these items as the most octets hold."""
+def items(front: bytes, rest: bytes, one: bytes, most: int = MOST, first: bytes = b'') -> bytes:
+    """A message of as many of these items as the most octets hold, the first of which may be another one."""
     count = (most - len(front) - len(rest) - 4) // len(one)
-    return front + struct.pack('<I', count) + count * one + rest
+    return front + struct.pack('<I', count) + (first or one) + (count - 1) * one + rest
+
+
+def within(front: bytes, rest: bytes, one: bytes, before: bytes, behind: bytes, most: int) -> bytes:
+    """The same in a body of bytes that has its length ahead."""
+    body = items(before, behind, one, most - len(front) - len(rest) - 4)
+    return front + struct.pack('<I', len(body)) + body + rest
 
 
 class Client:
@@ -248,9 +254,10 @@ def send(line: IO[bytes], octets: bytes) -> None:
 def dissect(program: str, megabytes: int, message: tuple, most: int, options: list[str]) -> tuple[bytes, int]:
     """Gives a run of `dissect` a message of so many octets: the last line that it printed, or that it read no message, and the
     most memory that it held, once it has taken all of it."""
-    name, side, front, rest, one = message
+    name, side, front, rest, one, *others = message
     # An OPN is one chunk, which has no more octets than a message.
-    body = items(front, rest, one, most - len(opening(b'')) * front.startswith((OPEN_REQUEST, OPEN_RESPONSE)))
+    room = most - len(opening(b'')) * front.startswith((OPEN_REQUEST, OPEN_RESPONSE))
+    body = within(front, rest, one, *others[1:], room) if len(others) > 1 else items(front, rest, one, room, *others)
     start, printed, memory, end = time.monotonic(), 0, 0, b''
     told = subprocess.Popen([program, 'dissect', '-', *options, *([side] if side else [])], bufsize=0, stdin=subprocess.PIPE,
                             stdout=subprocess.PIPE, stderr=subprocess.STDOUT, preexec_fn=lambda: limited(megabytes))
@@ -272,6 +279,11 @@ def dissect(program: str, megabytes: int, message: tuple, most: int, options: li
     return last, memory
 
 
+def dissections() -> list[tuple[tuple, list[str]]]:
+    """The messages that are dissected, each without its fields, with them, and with them as people write them."""
+    return [(it, options) for options in ([], ['--fields'], ['--fields', '--plain']) for it in [*PRINTED, *LONG]]
+
+
 def hold_bound(program: str, nodes: str) -> None:
     """Sends the requests of which nothing is to be kept, and dissects the messages that are printed as they are read."""
     if not os.path.exists(program):
@@ -281,9 +293,7 @@ def hold_bound(program: str, nodes: str) -> None:
         flag, memory = attempt(program, nodes, 0, request)
         if flag != 'F' or not memory or memory > BOUND:
             raise SystemExit('try_large: %s: not answered whole within %d kB' % (request[0], BOUND))
-    plain = [it for it in [*PRINTED, *LONG] if it[0] not in WHOLE_WITH_PLAIN]
-    runs = [*[(it, options) for options in ([], ['--fields']) for it in [*PRINTED, *LONG]], *[(it, ['--fields', '--plain']) for it in plain]]
-    for message, options in runs:
+    for message, options in dissections():
         last, memory = dissect(program, 0, message, MOST, options)
         if not last.startswith(b'unreadable' if 'cut off' in message[0] else b'end ') or not 0 < memory <= BOUND:
             raise SystemExit('try_large: %s: not printed whole within %d kB' % (message[0], BOUND))
@@ -301,7 +311,7 @@ def main(words: list[str]) -> None:
             hold_bound(words[1] if len(words) > 1 else os.path.join(TOP, 'crates/ua_cli/out/ua_cli'), nodes.name)
         for request in REQUESTS if not bound else ():
             attempt(words[0], nodes.name, megabytes, request)
-        for message, options in [(it, it_options) for it_options in ([], ['--fields'], ['--fields', '--plain']) for it in [*PRINTED, *LONG]] if not bound else ():
+        for message, options in dissections() if not bound else ():
             dissect(words[0], megabytes, message, MOST_DISSECTED, options)
 
 

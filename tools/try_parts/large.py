@@ -29,7 +29,10 @@ ONE_VALUE = b'\x01\0\x7A\x02' + RESPONSE + struct.pack('<I', 1) + b'\x01'
 # An endpoint with null fields: up to its discovery URLs, and behind them.
 ENDPOINT = 3 * NULL + b'\0' + bytes(4) + 2 * NULL
 APPLIED, APPLICATION = NULL + bytes(4) + 3 * NULL + b'\0', ENDPOINT[4:] + NULL
-# A name, the option of the side that sends the message, and its octets before an array, after it, and of an element.
+# Up to the type of an identity token.
+TOKEN = b'\x01\0\xD3\x01' + header(False) + 4 * NULL + b'\1\0'
+# A name, the option of the side that sends the message, and its octets before an array, after it, of an element, and of the
+# first one where that is another.
 PRINTED = [
     ('ReadResponse of empty DataValues', '--server', b'\x01\0\x7A\x02' + RESPONSE, NULL, b'\0'),
     ('ReadResponse of DataValues of an Int32', '--server', b'\x01\0\x7A\x02' + RESPONSE, NULL, b'\1\6' + bytes(4)),
@@ -98,17 +101,23 @@ TEXTS = [
     ('a ByteString', b'\x0F', b'a'),
     ('an ExtensionObject', b'\x16' + bytes(2) + b'\1', b'a'),
     ('a LocalizedText', b'\x15\2', b'a'),
+    ('a NodeId of bytes', b'\x11\5\0\0', b'a'),
+    ('an ExpandedNodeId of a text that prints escaped', b'\x12\3\0\0', b'\1'),
+    ('a DiagnosticInfo that prints escaped', b'\x19\x10', b'\1'),
 ]
 PRINTED += [
     *[('ReadResponse of an array of %s' % name, '--server', ONE_VALUE + bytes([0x80 + kind]), NULL, one) for name, kind, one in VALUES],
     *[('ReadResponse of an array of %s' % name, '--server', ONE_VALUE + front, NULL, one) for name, front, one in NESTED],
     *[('ReadResponse of %s' % name, '--server', ONE_VALUE + front, NULL, one) for name, front, one in TEXTS],
 ]
+# The same of an array without elements, of so many dimensions: the first is 0, the others are long.
+PRINTED += [('ReadResponse of an array of dimensions', '--server', ONE_VALUE + b'\xC6' + bytes(4), NULL, struct.pack('<i', 2147483647), bytes(4))]
 # The same of the other kinds of message, and of fields whose text `dissect --fields` prints in pieces.
 LONG = [
     ('header of no known kind with a StringTable', '--server', b'\x01\0\x12\x02' + RESPONSE[:17], bytes(3), NULL),
     ('body of no known kind', '--server', b'\x01\0\xFF\xFF', b'', b'\0'),
     ('CreateSessionRequest of a session name', '', b'\x01\0\xCD\x01' + header(False) + APPLICATION + 2 * NULL, 2 * NULL + bytes(12), b'a'),
+    ('CreateSessionRequest of an application name that prints escaped', '', b'\x01\0\xCD\x01' + header(False) + 2 * NULL + b'\2', APPLICATION[9:] + 5 * NULL + bytes(12), b'\1'),
     ('CreateSessionRequest of an application name', '', b'\x01\0\xCD\x01' + header(False) + 2 * NULL + b'\2', APPLICATION[9:] + 5 * NULL + bytes(12), b'a'),
     ('CreateSessionResponse of endpoints', '--server', b'\x01\0\xD0\x01' + RESPONSE + bytes(12) + 2 * NULL, 3 * NULL + bytes(4), ENDPOINT + NULL + APPLIED),
     ('ActivateSessionRequest of null certificates', '', b'\x01\0\xD3\x01' + header(False) + 2 * NULL, NULL + bytes(3) + 2 * NULL, 2 * NULL),
@@ -122,8 +131,10 @@ LONG = [
     ('Read of a NodeId', '', READ + b'\1\0\0\0\3\0\0', b'\x0D\0\0\0' + NULL + bytes(2) + NULL, b'a'),
     ('Read of a NodeId of bytes', '', READ + b'\1\0\0\0\5\0\0', b'\x0D\0\0\0' + NULL + bytes(2) + NULL, b'a'),
     ('Read of an index range that prints escaped', '', READ + b'\1\0\0\0\0\1\x0D\0\0\0', bytes(2) + NULL, b'\1'),
+    ('Read of a name that prints escaped', '', READ + b'\1\0\0\0\0\1\x0D\0\0\0' + NULL + bytes(2), b'', b'\1'),
     ('Read of a name', '', READ + b'\1\0\0\0\0\1\x0D\0\0\0' + NULL + bytes(2), b'', b'a'),
     ('CreateSessionRequest of a nonce', '', b'\x01\0\xCD\x01' + header(False) + APPLICATION + 3 * NULL, NULL + bytes(12), b'a'),
+    ('ReadResponse of a DiagnosticInfo that prints escaped', '--server', b'\x01\0\x7A\x02' + RESPONSE + NULL + b'\1\0\0\0\x10', b'', b'\1'),
     ('ReadResponse of a DiagnosticInfo', '--server', b'\x01\0\x7A\x02' + RESPONSE + NULL + b'\1\0\0\0\x10', b'', b'a'),
     ('ReadResponse that is cut off, with a StringTable', '--server', b'\x01\0\x7A\x02' + RESPONSE[:17], bytes(3), NULL),
     ('OpenSecureChannelRequest of a nonce', '', OPEN_REQUEST + header(False) + bytes(12), bytes(4), b'a'),
@@ -131,5 +142,10 @@ LONG = [
     ('OpenSecureChannelResponse with a StringTable of null Strings', '--server', OPEN_RESPONSE + RESPONSE[:17], bytes(27) + NULL, NULL),
     ('Write of an array of null Variants', '', WRITE + b'\1\0\0\0' + item(TEXT, b'\1\x98'), b'', b'\0'),
 ]
-# Of these `dissect --fields --plain` makes the text of a field whole: the digits of an ExtensionObject.
-WHOLE_WITH_PLAIN = ('ActivateSessionRequest of an identity', 'ServiceFault of an additional header')
+# The same of an identity token, with what comes before its text and behind it in the body of its ExtensionObject.
+LONG += [
+    ('ActivateSessionRequest of the name of a user', '', TOKEN + b'\x44\x01\1', 2 * NULL, b'\1', b'', NULL, 2 * NULL),
+    ('ActivateSessionRequest of the password of a user', '', TOKEN + b'\x44\x01\1', 2 * NULL, b'a', b'', 2 * NULL, NULL),
+    ('ActivateSessionRequest of a certificate', '', TOKEN + b'\x47\x01\1', 2 * NULL, b'a', b'', NULL, b''),
+    ('ActivateSessionRequest of a token and a byte', '', TOKEN + b'\x47\x01\1', 2 * NULL, b'a', b'', NULL, b'\0'),
+]
