@@ -50,7 +50,7 @@ OTHERS = {("ua_channel", "Line for MemoryLine")}
 # The kinds of message, with what each row of one begins with: `Read(ReadRequest) = 631,` in the list of kinds.
 KINDS = {"request": "crates/ua_services/src/request.rt", "response": "crates/ua_services/src/response.rt"}
 KIND = re.compile(r"^\s+(\w+)\((\w+)\) = \d+,$", re.M)
-TABLES = {name: f"crates/test_{name}/stdout" for name in ("values", "streams", "program")} | {"ua": "rows/program.rows"}
+TABLES = {name: f"crates/test_{name}/stdout" for name in ("values", "streams")} | {"ua": "rows/program.rows"}
 
 
 class Sources:

@@ -1,7 +1,7 @@
 //! Answers rows about streams of bytes: frames that come in fragments, both ends of a channel, the
-//! dissector, a server, a client over a line, and both ends of a connection. Each line of the input
-//! is printed again with its response after it. A line that begins with `#`, or is empty, is
-//! printed as it is.
+//! dissector, a server, a client over a line, and both ends of a connection; and about parts of the
+//! program `ua` that no run of it shows. Each line of the input is printed again with its response
+//! after it. A line that begins with `#`, or is empty, is printed as it is.
 //!
 //! `stdout` beside this folder is the table of rows and answers, written by hand from the tables of
 //! OPC 10000-4 and OPC 10000-6; `stdin` is its left column. The program sees no answer but its own.
@@ -10,12 +10,14 @@
 //! turn, and what came of it.
 #![tactic(auto)]
 
+mod asked;
 mod assembling;
 mod bodies;
 mod calling;
 mod client;
 mod dissection;
 mod ends;
+mod faults;
 mod frames;
 mod given;
 mod input;
@@ -31,6 +33,7 @@ mod sweeps;
 mod taking;
 mod talks;
 mod told;
+mod transports;
 mod uses;
 mod words;
 

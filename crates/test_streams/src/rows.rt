@@ -10,7 +10,10 @@ use crate::sharing::Sharing;
 use crate::taking::take_pieces;
 use crate::told::Told;
 use crate::words::{first_number, front, limits_of, text_of};
-use crate::{bodies, calling, client, ends, frames, parts, served, server, talks, uses};
+use crate::{
+    asked, bodies, calling, client, ends, faults, frames, parts, served, server, talks, transports,
+    uses,
+};
 use std::alloc::Global;
 use ua_builtin::Wire;
 use ua_channel::{ClientChannel, ServerChannel};
@@ -107,6 +110,12 @@ impl Rows {
             "dissect-all" => tell_all(&self.given, words, told),
             "write-and-read" => uses::tell(&self.given, &mut self.course, words, told),
             "talk" => talks::tell(&self.given, &mut self.course, words, told),
+            "stream" => transports::tell_stream(words, told),
+            "gathering" => transports::tell_gathering(words, told),
+            "clock" => transports::tell_clock(words, told),
+            "client-fault" => faults::tell_client(words, told),
+            "loop-fault" => faults::tell_script(words, told),
+            "asked" => asked::tell(words, told),
             _ => self.begin_or_step(kind, words, told),
         }
     }

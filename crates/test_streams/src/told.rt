@@ -102,6 +102,19 @@ impl Told {
         }
     }
 
+    /// Adds the name of a field, and its value as it is printed.
+    pub fn field<T: Display>(&mut self, name: &str, value: &T) {
+        self.word(name);
+        self.shown(value);
+    }
+
+    /// Adds a word where a flag is set.
+    pub fn flag(&mut self, word: &str, is_set: bool) {
+        if is_set {
+            self.word(word);
+        }
+    }
+
     /// Adds a value as it is named in the program.
     pub fn named<T: Debug>(&mut self, value: &T) {
         match format!(in self.alloc; "{value:?}") {
