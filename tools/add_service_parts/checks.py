@@ -10,7 +10,7 @@ from add_service_parts.steps import write_service
 from add_service_parts.texts import DEFINITIONS, FIELDS, OPENING, ROWS, SERVICES, STRUCTURES, Refused, code, named, plain, read, under, uses
 
 # The crates that have files written from schema/.
-WRITTEN = (OPENING, STRUCTURES, FIELDS, ROWS)
+WRITTEN = (OPENING, STRUCTURES, FIELDS)
 # A kind, and the crates in which schema/kinds.lines has all that names it, but for what makes requests, each in a form of its own.
 PLAIN, BY_KIND = "CloseSession", (SERVICES, FIELDS, "crates/ua_pair", ROWS)
 MAKERS = tuple(f"{SERVICES}/{path}" for path in ("src/session_requests.rt", "specs/SessionRequests.antt", "proofs/Asked.antt", "proofs/Words.antt", "proofs/session_requests/"))

@@ -118,11 +118,6 @@ def lemma_of(s: Structure, k: Schema) -> str:
     return f"pub sound_{s.word} : Sound {s.word}\nunfolding {s.word}\nsound_{s.word} = sound_struct _ _ (λ v. refl) (λ p. refl) {body}\n"
 
 
-def is_part(k: Schema, kind: str) -> bool:
-    """Whether a field of this type has lines of its own below its name."""
-    return k.word("tree", kind).startswith("structure ")
-
-
 def lines_of(s: Structure) -> str:
     """Its fields as lines."""
     return f"""impl Lines for {s.name} {{
@@ -189,15 +184,6 @@ def entries_of(s: Structure, k: Schema) -> str:
 unfoldable pub {s.word}_entries : {s.name} → Fields
 {s.word}_entries m = named (
     """ + "\n    ∷ ".join(trees + ["[])"]) + "\n"
-
-
-def shown_of(s: Structure, k: Schema) -> str:
-    """Its `impl Shown`, for the rows."""
-    shown = ""
-    for name, kind in s.fields:
-        call = f"structure{'s' if kind.endswith('[]') else ''}" if is_part(k, kind.removesuffix("[]")) else "field"
-        shown += f'        fields.{call}("{name}", &self.{name});\n'
-    return f"impl Shown for {s.name} {{\n    fn show(&self, fields: &mut Fields) {{\n{shown}    }}\n}}\n"
 
 
 def cells_of(s: Structure) -> list[str]:

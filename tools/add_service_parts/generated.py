@@ -8,14 +8,12 @@ import subprocess
 import tempfile
 from typing import Iterable
 
-from add_service_parts.forms import (entries_of, format_of, lemma_of, lines_of, printed_answer_of, printed_of, shown_of, skip_of,
-                                     wire_of)
+from add_service_parts.forms import entries_of, format_of, lemma_of, lines_of, printed_answer_of, printed_of, skip_of, wire_of
 from add_service_parts.schema import File, Schema, Structure, title_case
-from add_service_parts.texts import FIELDS, OPENING, ROWS, STRUCTURES, text_of
+from add_service_parts.texts import FIELDS, OPENING, STRUCTURES, text_of
 from add_service_parts.words import COMMON, SOUND_FILE, TREE_FILE
 from break_lines import settled
 
-SHOWN = f"{ROWS}/src/structures.rt"
 # The crates from the lowest up, in which order imports of specs/ and proofs/ stand.
 CRATES = ("std", "ua_wire", "ua_builtin", "ua_diagnostic", "ua_variant", "ua_opening", "ua_structures", "ua_fields")
 
@@ -139,15 +137,9 @@ def tree_file(file: File, k: Schema) -> str:
     return head(file, "--", f"The fields of the structures of {file.title}.") + imports(names) + "\n" + "\n".join(entries_of(s, k) for s in found)
 
 
-def shown_file(k: Schema) -> str:
-    """All structures, field by field, for the rows."""
-    names = [("Fields", "crate::structure_fields"), ("Shown", "crate::structure_fields")] + [(it, "ua_services") for it in k.structures]
-    return head(None, "//!", "The structures of messages, field by field.") + "\n" + uses(names) + "\n" + "\n".join(shown_of(s, k) for s in k.structures.values())
-
-
 def generated(k: Schema) -> dict[str, str]:
     """Each file that is written from schema/, before it is laid out."""
-    found = {SHOWN: shown_file(k)}
+    found: dict[str, str] = {}
     for file in k.files:
         spec = title_case(file.module)
         found |= {f"{file.crate}/src/{file.module}_wire.rt": wire_file(file, k), f"{file.crate}/src/{file.module}_skip.rt": skip_file(file, k)}

@@ -1,10 +1,10 @@
 //! The messages of the secure channel, and the identity of a user.
 
 use crate::fault::Fault;
-use crate::messages::{Message, message_text};
+use crate::messages::{Message, body_text};
 use crate::octets::octets_of;
-use crate::shown::digits;
-use crate::structure_fields::{Fields, Shown};
+use crate::responses::response_text;
+use crate::shown::{digits, encoded};
 use crate::values::read;
 use std::alloc::Global;
 use ua_builtin::{ExtensionObject, Octets, Wire, WriteFault};
@@ -36,16 +36,16 @@ impl Message for CloseRequest {
 pub fn open_request(alloc: Global, words: &str) -> Result<String, Fault> {
     let octets = octets_of(alloc, words)?;
     let request = read_open_request(alloc, &mut Octets::new(octets.as_slice()))?;
-    message_text(alloc, request, octets.as_slice())
+    body_text(alloc, request, octets.as_slice())
 }
 
 /// What is printed of the answer to an OpenSecureChannel request.
 pub fn open_answer(alloc: Global, words: &str) -> Result<String, Fault> {
     let octets = octets_of(alloc, words)?;
     match read_open_response(alloc, &mut Octets::new(octets.as_slice()))? {
-        OpenAnswer::Open(response) => message_text(alloc, response, octets.as_slice()),
+        OpenAnswer::Open(response) => body_text(alloc, response, octets.as_slice()),
         OpenAnswer::Fault(fault) => {
-            message_text(alloc, Response::ServiceFault(fault), octets.as_slice())
+            response_text(alloc, Response::ServiceFault(fault), octets.as_slice())
         }
     }
 }
@@ -57,10 +57,11 @@ pub fn close_request(alloc: Global, words: &str) -> Result<String, Fault> {
         return Err(Fault::NoValue);
     };
     let (request, _) = read::<CloseRequest>(alloc, behind)?;
-    message_text(alloc, request, octets.as_slice())
+    body_text(alloc, request, octets.as_slice())
 }
 
-/// What is printed of the identity in an object: its fields, and the object that is written for it.
+/// What is printed of the identity in an object: the bytes of its policy, and the object that is
+/// written for it.
 pub fn identity(alloc: Global, words: &str) -> Result<String, Fault> {
     let octets = octets_of(alloc, words)?;
     let (object, _) = read::<ExtensionObject>(alloc, octets.as_slice())?;
@@ -70,13 +71,12 @@ pub fn identity(alloc: Global, words: &str) -> Result<String, Fault> {
 }
 
 fn identity_text(alloc: Global, token: AnonymousIdentityToken) -> Result<String, Fault> {
-    let mut fields = Fields::new(alloc);
-    token.show(&mut fields);
-    let text = fields.into_text()?;
+    let policy = encoded(alloc, &token.policy_id);
     let object = write_identity(alloc, &token);
     drop(token);
     let written = object_text(alloc, object?)?;
-    Ok(format!(in alloc; "{text} written {written}")?)
+    let policy = policy?;
+    Ok(format!(in alloc; "{policy} written {written}")?)
 }
 
 fn object_text(alloc: Global, object: ExtensionObject) -> Result<String, Fault> {

@@ -26,8 +26,6 @@ mod responses;
 mod scripts;
 mod session_requests;
 mod shown;
-mod structure_fields;
-mod structures;
 mod texts;
 mod trees;
 mod uses;

@@ -1,24 +1,15 @@
-//! Requests, field by field.
+//! Requests.
 
 use crate::fault::Fault;
-use crate::messages::{Message, body_text, message_text};
+use crate::messages::{Message, body_text};
 use crate::octets::octets_of;
-use crate::structure_fields::{Fields, Shown};
 use std::alloc::Global;
 use ua_builtin::{DateTime, Identifier, NodeId, Octets, UaString, WriteFault};
 use ua_services::{
     ReadRequest, ReadValueId, Request, RequestFault, RequestHeader, RequestKind, WriteRequest,
-    WriteValue, by_kind, read_request, requests, skip_request, write_request,
+    WriteValue, read_request, requests, skip_request, write_request,
 };
 use ua_variant::{DataValue, HeldVariant, Variant};
-
-impl Shown for Request {
-    fn show(&self, fields: &mut Fields) {
-        fields.word(kind_name(self.kind()));
-        fields.field("handle", &self.header().request_handle);
-        requests!(by_kind, self, message, _number => message.show(fields))
-    }
-}
 
 impl Message for Request {
     fn add_to(&self, out: &mut Vec<u8>) -> Result<(), WriteFault> {
@@ -42,8 +33,8 @@ pub fn kind_name(kind: RequestKind) -> &'static str {
     requests!(service_of, kind)
 }
 
-/// What is printed of a request: its kind, its handle, its fields, and what is written for it; or
-/// its fault. Passing over it has to result in the same, else just what that results in is printed.
+/// What is printed of a request: its kind, its handle, and what is written for it; or its fault.
+/// Passing over it has to result in the same, else just what that results in is printed.
 pub fn request(alloc: Global, words: &str) -> Result<String, Fault> {
     let octets = octets_of(alloc, words)?;
     let skipped = skip_request(alloc, &mut Octets::new(octets.as_slice()));
@@ -52,9 +43,16 @@ pub fn request(alloc: Global, words: &str) -> Result<String, Fault> {
         return skipped_text(alloc, skipped);
     }
     match read {
-        Ok(request) => message_text(alloc, request, octets.as_slice()),
+        Ok(request) => request_text(alloc, request, octets.as_slice()),
         Err(fault) => fault_text(alloc, fault),
     }
+}
+
+fn request_text(alloc: Global, request: Request, octets: &[u8]) -> Result<String, Fault> {
+    let name = kind_name(request.kind());
+    let handle = request.header().request_handle;
+    let written = body_text(alloc, request, octets)?;
+    Ok(format!(in alloc; "{name} handle {handle} {written}")?)
 }
 
 /// Whether passing over a request came to the same as reading it.
