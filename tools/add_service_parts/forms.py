@@ -57,23 +57,27 @@ def append_of(s: Structure) -> str:
 def wire_of(s: Structure, k: Schema) -> str:
     """Its `impl Wire`."""
     lemma = f"{s.spec}Lawful::lawful_{s.word}" if s.by("lawful by hand") else f"{s.spec}Sound::sound_{s.word}"
-    return f"""#[tactic(auto, unfolding(crate::specs::{s.spec}::{s.word}), using(crate::proofs::{lemma}))]
-impl Wire for {s.name} {{
+    unfolding = f"unfolding(crate::specs::{s.spec}::{s.word})"
+    return f"""impl Wire for {s.name} {{
     ghost use Rattle.{s.library}.specs.{s.spec}.{{{s.word}}};
 
     ghost format = {{ {s.word} }};
 
     #[inline]
+    #[tactic(auto, {unfolding}, using(crate::proofs::{lemma}))]
     fn lawful() {{}}
 
+    #[tactic(auto, {unfolding})]
     fn read_value<S: Source>(alloc: Global, src: &mut S, depth: u32) -> Result<Self, ReadFault> {{
         {read_of(s, k)}
     }}
 
+    #[tactic(auto, {unfolding})]
     fn is_encodable(&self) -> bool {{
         {filled("are_encodable!(self => ", s.names(), ")")}
     }}
 
+    #[tactic(auto, {unfolding})]
     fn append(&self, out: &mut Vec<u8>) -> Result<(), AllocError> {{
         {append_of(s)}
     }}

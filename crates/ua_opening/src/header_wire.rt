@@ -7,15 +7,16 @@ use std::alloc::{AllocError, Global};
 use ua_builtin::{ReadFault, Source, Wire};
 use ua_wire::{append_three, append_two};
 
-#[tactic(auto, unfolding(crate::specs::Header::request_header), using(crate::proofs::HeaderSound::sound_request_header))]
 impl Wire for RequestHeader {
     ghost use Rattle.ua_opening.specs.Header.{request_header};
 
     ghost format = { request_header };
 
     #[inline]
+    #[tactic(auto, unfolding(crate::specs::Header::request_header), using(crate::proofs::HeaderSound::sound_request_header))]
     fn lawful() {}
 
+    #[tactic(auto, unfolding(crate::specs::Header::request_header))]
     fn read_value<S: Source>(alloc: Global, src: &mut S, depth: u32) -> Result<Self, ReadFault> {
         let mut header = RequestHeader::empty();
         match header.read_into(alloc, src, depth) {
@@ -27,6 +28,7 @@ impl Wire for RequestHeader {
         }
     }
 
+    #[tactic(auto, unfolding(crate::specs::Header::request_header))]
     fn is_encodable(&self) -> bool {
         are_encodable!(self =>
             authentication_token, timestamp, request_handle, return_diagnostics, audit_entry_id,
@@ -34,6 +36,7 @@ impl Wire for RequestHeader {
         )
     }
 
+    #[tactic(auto, unfolding(crate::specs::Header::request_header))]
     fn append(&self, out: &mut Vec<u8>) -> Result<(), AllocError> {
         append_fields!(self, out =>
             authentication_token, timestamp, request_handle, return_diagnostics, audit_entry_id,
@@ -42,15 +45,16 @@ impl Wire for RequestHeader {
     }
 }
 
-#[tactic(auto, unfolding(crate::specs::Header::response_header), using(crate::proofs::HeaderSound::sound_response_header))]
 impl Wire for ResponseHeader {
     ghost use Rattle.ua_opening.specs.Header.{response_header};
 
     ghost format = { response_header };
 
     #[inline]
+    #[tactic(auto, unfolding(crate::specs::Header::response_header), using(crate::proofs::HeaderSound::sound_response_header))]
     fn lawful() {}
 
+    #[tactic(auto, unfolding(crate::specs::Header::response_header))]
     fn read_value<S: Source>(alloc: Global, src: &mut S, depth: u32) -> Result<Self, ReadFault> {
         let mut header = ResponseHeader::empty();
         match header.read_into(alloc, src, depth) {
@@ -62,6 +66,7 @@ impl Wire for ResponseHeader {
         }
     }
 
+    #[tactic(auto, unfolding(crate::specs::Header::response_header))]
     fn is_encodable(&self) -> bool {
         are_encodable!(self =>
             timestamp, request_handle, service_result, service_diagnostics, string_table,
@@ -69,6 +74,7 @@ impl Wire for ResponseHeader {
         )
     }
 
+    #[tactic(auto, unfolding(crate::specs::Header::response_header))]
     fn append(&self, out: &mut Vec<u8>) -> Result<(), AllocError> {
         append_fields!(self, out =>
             timestamp, request_handle, service_result, service_diagnostics, string_table,
@@ -77,23 +83,26 @@ impl Wire for ResponseHeader {
     }
 }
 
-#[tactic(auto, unfolding(crate::specs::Header::service_fault), using(crate::proofs::HeaderSound::sound_service_fault))]
 impl Wire for ServiceFault {
     ghost use Rattle.ua_opening.specs.Header.{service_fault};
 
     ghost format = { service_fault };
 
     #[inline]
+    #[tactic(auto, unfolding(crate::specs::Header::service_fault), using(crate::proofs::HeaderSound::sound_service_fault))]
     fn lawful() {}
 
+    #[tactic(auto, unfolding(crate::specs::Header::service_fault))]
     fn read_value<S: Source>(alloc: Global, src: &mut S, depth: u32) -> Result<Self, ReadFault> {
         read_fields!(alloc, src, depth => ServiceFault { response_header })
     }
 
+    #[tactic(auto, unfolding(crate::specs::Header::service_fault))]
     fn is_encodable(&self) -> bool {
         are_encodable!(self => response_header)
     }
 
+    #[tactic(auto, unfolding(crate::specs::Header::service_fault))]
     fn append(&self, out: &mut Vec<u8>) -> Result<(), AllocError> {
         append_fields!(self, out => response_header)
     }

@@ -7,15 +7,16 @@ use std::alloc::{AllocError, Global};
 use ua_builtin::{ReadFault, Source, Wire};
 use ua_wire::{append_three, append_two};
 
-#[tactic(auto, unfolding(crate::specs::SecureChannel::open_request), using(crate::proofs::SecureChannelLawful::lawful_open_request))]
 impl Wire for OpenRequest {
     ghost use Rattle.ua_opening.specs.SecureChannel.{open_request};
 
     ghost format = { open_request };
 
     #[inline]
+    #[tactic(auto, unfolding(crate::specs::SecureChannel::open_request), using(crate::proofs::SecureChannelLawful::lawful_open_request))]
     fn lawful() {}
 
+    #[tactic(auto, unfolding(crate::specs::SecureChannel::open_request))]
     fn read_value<S: Source>(alloc: Global, src: &mut S, depth: u32) -> Result<Self, ReadFault> {
         read_fields!(alloc, src, depth => OpenRequest {
             request_header, client_protocol_version, request_type, security_mode, client_nonce,
@@ -23,6 +24,7 @@ impl Wire for OpenRequest {
         })
     }
 
+    #[tactic(auto, unfolding(crate::specs::SecureChannel::open_request))]
     fn is_encodable(&self) -> bool {
         are_encodable!(self =>
             request_header, client_protocol_version, request_type, security_mode, client_nonce,
@@ -30,6 +32,7 @@ impl Wire for OpenRequest {
         )
     }
 
+    #[tactic(auto, unfolding(crate::specs::SecureChannel::open_request))]
     fn append(&self, out: &mut Vec<u8>) -> Result<(), AllocError> {
         append_fields!(self, out =>
             request_header, client_protocol_version, request_type, security_mode, client_nonce,
@@ -38,15 +41,16 @@ impl Wire for OpenRequest {
     }
 }
 
-#[tactic(auto, unfolding(crate::specs::SecureChannel::open_response), using(crate::proofs::SecureChannelLawful::lawful_open_response))]
 impl Wire for OpenResponse {
     ghost use Rattle.ua_opening.specs.SecureChannel.{open_response};
 
     ghost format = { open_response };
 
     #[inline]
+    #[tactic(auto, unfolding(crate::specs::SecureChannel::open_response), using(crate::proofs::SecureChannelLawful::lawful_open_response))]
     fn lawful() {}
 
+    #[tactic(auto, unfolding(crate::specs::SecureChannel::open_response))]
     fn read_value<S: Source>(alloc: Global, src: &mut S, depth: u32) -> Result<Self, ReadFault> {
         read_fields!(alloc, src, depth => OpenResponse {
             response_header, server_protocol_version, channel_id, token_id, created_at,
@@ -54,6 +58,7 @@ impl Wire for OpenResponse {
         })
     }
 
+    #[tactic(auto, unfolding(crate::specs::SecureChannel::open_response))]
     fn is_encodable(&self) -> bool {
         are_encodable!(self =>
             response_header, server_protocol_version, channel_id, token_id, created_at,
@@ -61,6 +66,7 @@ impl Wire for OpenResponse {
         )
     }
 
+    #[tactic(auto, unfolding(crate::specs::SecureChannel::open_response))]
     fn append(&self, out: &mut Vec<u8>) -> Result<(), AllocError> {
         append_fields!(self, out =>
             response_header, server_protocol_version, channel_id, token_id, created_at,
@@ -69,23 +75,26 @@ impl Wire for OpenResponse {
     }
 }
 
-#[tactic(auto, unfolding(crate::specs::SecureChannel::close_request), using(crate::proofs::SecureChannelLawful::lawful_close_request))]
 impl Wire for CloseRequest {
     ghost use Rattle.ua_opening.specs.SecureChannel.{close_request};
 
     ghost format = { close_request };
 
     #[inline]
+    #[tactic(auto, unfolding(crate::specs::SecureChannel::close_request), using(crate::proofs::SecureChannelLawful::lawful_close_request))]
     fn lawful() {}
 
+    #[tactic(auto, unfolding(crate::specs::SecureChannel::close_request))]
     fn read_value<S: Source>(alloc: Global, src: &mut S, depth: u32) -> Result<Self, ReadFault> {
         read_fields!(alloc, src, depth => CloseRequest { request_header })
     }
 
+    #[tactic(auto, unfolding(crate::specs::SecureChannel::close_request))]
     fn is_encodable(&self) -> bool {
         are_encodable!(self => request_header)
     }
 
+    #[tactic(auto, unfolding(crate::specs::SecureChannel::close_request))]
     fn append(&self, out: &mut Vec<u8>) -> Result<(), AllocError> {
         append_fields!(self, out => request_header)
     }

@@ -10,15 +10,16 @@ use ua_builtin::{ReadFault, Source, Wire};
 use ua_opening::{append_fields, are_encodable, read_fields};
 use ua_wire::{append_three, append_two};
 
-#[tactic(auto, unfolding(crate::specs::Discovery::application_description), using(crate::proofs::DiscoverySound::sound_application_description))]
 impl Wire for ApplicationDescription {
     ghost use Rattle.ua_structures.specs.Discovery.{application_description};
 
     ghost format = { application_description };
 
     #[inline]
+    #[tactic(auto, unfolding(crate::specs::Discovery::application_description), using(crate::proofs::DiscoverySound::sound_application_description))]
     fn lawful() {}
 
+    #[tactic(auto, unfolding(crate::specs::Discovery::application_description))]
     fn read_value<S: Source>(alloc: Global, src: &mut S, depth: u32) -> Result<Self, ReadFault> {
         read_fields!(alloc, src, depth => ApplicationDescription {
             application_uri, product_uri, application_name, application_type, gateway_server_uri,
@@ -26,6 +27,7 @@ impl Wire for ApplicationDescription {
         })
     }
 
+    #[tactic(auto, unfolding(crate::specs::Discovery::application_description))]
     fn is_encodable(&self) -> bool {
         are_encodable!(self =>
             application_uri, product_uri, application_name, application_type, gateway_server_uri,
@@ -33,6 +35,7 @@ impl Wire for ApplicationDescription {
         )
     }
 
+    #[tactic(auto, unfolding(crate::specs::Discovery::application_description))]
     fn append(&self, out: &mut Vec<u8>) -> Result<(), AllocError> {
         append_fields!(self, out =>
             application_uri, product_uri, application_name, application_type, gateway_server_uri,
@@ -41,27 +44,30 @@ impl Wire for ApplicationDescription {
     }
 }
 
-#[tactic(auto, unfolding(crate::specs::Discovery::user_token_policy), using(crate::proofs::DiscoverySound::sound_user_token_policy))]
 impl Wire for UserTokenPolicy {
     ghost use Rattle.ua_structures.specs.Discovery.{user_token_policy};
 
     ghost format = { user_token_policy };
 
     #[inline]
+    #[tactic(auto, unfolding(crate::specs::Discovery::user_token_policy), using(crate::proofs::DiscoverySound::sound_user_token_policy))]
     fn lawful() {}
 
+    #[tactic(auto, unfolding(crate::specs::Discovery::user_token_policy))]
     fn read_value<S: Source>(alloc: Global, src: &mut S, depth: u32) -> Result<Self, ReadFault> {
         read_fields!(alloc, src, depth => UserTokenPolicy {
             policy_id, token_type, issued_token_type, issuer_endpoint_url, security_policy_uri
         })
     }
 
+    #[tactic(auto, unfolding(crate::specs::Discovery::user_token_policy))]
     fn is_encodable(&self) -> bool {
         are_encodable!(self =>
             policy_id, token_type, issued_token_type, issuer_endpoint_url, security_policy_uri
         )
     }
 
+    #[tactic(auto, unfolding(crate::specs::Discovery::user_token_policy))]
     fn append(&self, out: &mut Vec<u8>) -> Result<(), AllocError> {
         append_fields!(self, out =>
             policy_id, token_type, issued_token_type, issuer_endpoint_url, security_policy_uri
@@ -69,15 +75,16 @@ impl Wire for UserTokenPolicy {
     }
 }
 
-#[tactic(auto, unfolding(crate::specs::Discovery::endpoint_description), using(crate::proofs::DiscoverySound::sound_endpoint_description))]
 impl Wire for EndpointDescription {
     ghost use Rattle.ua_structures.specs.Discovery.{endpoint_description};
 
     ghost format = { endpoint_description };
 
     #[inline]
+    #[tactic(auto, unfolding(crate::specs::Discovery::endpoint_description), using(crate::proofs::DiscoverySound::sound_endpoint_description))]
     fn lawful() {}
 
+    #[tactic(auto, unfolding(crate::specs::Discovery::endpoint_description))]
     fn read_value<S: Source>(alloc: Global, src: &mut S, depth: u32) -> Result<Self, ReadFault> {
         read_fields!(alloc, src, depth => EndpointDescription {
             endpoint_url, server, server_certificate, security_mode, security_policy_uri,
@@ -85,6 +92,7 @@ impl Wire for EndpointDescription {
         })
     }
 
+    #[tactic(auto, unfolding(crate::specs::Discovery::endpoint_description))]
     fn is_encodable(&self) -> bool {
         are_encodable!(self =>
             endpoint_url, server, server_certificate, security_mode, security_policy_uri,
@@ -92,6 +100,7 @@ impl Wire for EndpointDescription {
         )
     }
 
+    #[tactic(auto, unfolding(crate::specs::Discovery::endpoint_description))]
     fn append(&self, out: &mut Vec<u8>) -> Result<(), AllocError> {
         append_fields!(self, out =>
             endpoint_url, server, server_certificate, security_mode, security_policy_uri,
@@ -100,47 +109,53 @@ impl Wire for EndpointDescription {
     }
 }
 
-#[tactic(auto, unfolding(crate::specs::Discovery::get_endpoints_request), using(crate::proofs::DiscoverySound::sound_get_endpoints_request))]
 impl Wire for GetEndpointsRequest {
     ghost use Rattle.ua_structures.specs.Discovery.{get_endpoints_request};
 
     ghost format = { get_endpoints_request };
 
     #[inline]
+    #[tactic(auto, unfolding(crate::specs::Discovery::get_endpoints_request), using(crate::proofs::DiscoverySound::sound_get_endpoints_request))]
     fn lawful() {}
 
+    #[tactic(auto, unfolding(crate::specs::Discovery::get_endpoints_request))]
     fn read_value<S: Source>(alloc: Global, src: &mut S, depth: u32) -> Result<Self, ReadFault> {
         read_fields!(alloc, src, depth => GetEndpointsRequest {
             request_header, endpoint_url, locale_ids, profile_uris
         })
     }
 
+    #[tactic(auto, unfolding(crate::specs::Discovery::get_endpoints_request))]
     fn is_encodable(&self) -> bool {
         are_encodable!(self => request_header, endpoint_url, locale_ids, profile_uris)
     }
 
+    #[tactic(auto, unfolding(crate::specs::Discovery::get_endpoints_request))]
     fn append(&self, out: &mut Vec<u8>) -> Result<(), AllocError> {
         append_fields!(self, out => request_header, endpoint_url, locale_ids, profile_uris)
     }
 }
 
-#[tactic(auto, unfolding(crate::specs::Discovery::get_endpoints_response), using(crate::proofs::DiscoverySound::sound_get_endpoints_response))]
 impl Wire for GetEndpointsResponse {
     ghost use Rattle.ua_structures.specs.Discovery.{get_endpoints_response};
 
     ghost format = { get_endpoints_response };
 
     #[inline]
+    #[tactic(auto, unfolding(crate::specs::Discovery::get_endpoints_response), using(crate::proofs::DiscoverySound::sound_get_endpoints_response))]
     fn lawful() {}
 
+    #[tactic(auto, unfolding(crate::specs::Discovery::get_endpoints_response))]
     fn read_value<S: Source>(alloc: Global, src: &mut S, depth: u32) -> Result<Self, ReadFault> {
         read_fields!(alloc, src, depth => GetEndpointsResponse { response_header, endpoints })
     }
 
+    #[tactic(auto, unfolding(crate::specs::Discovery::get_endpoints_response))]
     fn is_encodable(&self) -> bool {
         are_encodable!(self => response_header, endpoints)
     }
 
+    #[tactic(auto, unfolding(crate::specs::Discovery::get_endpoints_response))]
     fn append(&self, out: &mut Vec<u8>) -> Result<(), AllocError> {
         append_fields!(self, out => response_header, endpoints)
     }

@@ -11,81 +11,91 @@ use ua_builtin::{ReadFault, Source, Wire};
 use ua_opening::{append_fields, are_encodable, read_fields};
 use ua_wire::{append_three, append_two};
 
-#[tactic(auto, unfolding(crate::specs::Session::signed_software_certificate), using(crate::proofs::SessionSound::sound_signed_software_certificate))]
 impl Wire for SignedSoftwareCertificate {
     ghost use Rattle.ua_structures.specs.Session.{signed_software_certificate};
 
     ghost format = { signed_software_certificate };
 
     #[inline]
+    #[tactic(auto, unfolding(crate::specs::Session::signed_software_certificate), using(crate::proofs::SessionSound::sound_signed_software_certificate))]
     fn lawful() {}
 
+    #[tactic(auto, unfolding(crate::specs::Session::signed_software_certificate))]
     fn read_value<S: Source>(alloc: Global, src: &mut S, depth: u32) -> Result<Self, ReadFault> {
         read_fields!(alloc, src, depth => SignedSoftwareCertificate { certificate_data, signature })
     }
 
+    #[tactic(auto, unfolding(crate::specs::Session::signed_software_certificate))]
     fn is_encodable(&self) -> bool {
         are_encodable!(self => certificate_data, signature)
     }
 
+    #[tactic(auto, unfolding(crate::specs::Session::signed_software_certificate))]
     fn append(&self, out: &mut Vec<u8>) -> Result<(), AllocError> {
         append_fields!(self, out => certificate_data, signature)
     }
 }
 
-#[tactic(auto, unfolding(crate::specs::Session::signature_data), using(crate::proofs::SessionSound::sound_signature_data))]
 impl Wire for SignatureData {
     ghost use Rattle.ua_structures.specs.Session.{signature_data};
 
     ghost format = { signature_data };
 
     #[inline]
+    #[tactic(auto, unfolding(crate::specs::Session::signature_data), using(crate::proofs::SessionSound::sound_signature_data))]
     fn lawful() {}
 
+    #[tactic(auto, unfolding(crate::specs::Session::signature_data))]
     fn read_value<S: Source>(alloc: Global, src: &mut S, depth: u32) -> Result<Self, ReadFault> {
         read_fields!(alloc, src, depth => SignatureData { algorithm, signature })
     }
 
+    #[tactic(auto, unfolding(crate::specs::Session::signature_data))]
     fn is_encodable(&self) -> bool {
         are_encodable!(self => algorithm, signature)
     }
 
+    #[tactic(auto, unfolding(crate::specs::Session::signature_data))]
     fn append(&self, out: &mut Vec<u8>) -> Result<(), AllocError> {
         append_fields!(self, out => algorithm, signature)
     }
 }
 
-#[tactic(auto, unfolding(crate::specs::Session::anonymous_identity_token), using(crate::proofs::SessionLawful::lawful_anonymous_identity_token))]
 impl Wire for AnonymousIdentityToken {
     ghost use Rattle.ua_structures.specs.Session.{anonymous_identity_token};
 
     ghost format = { anonymous_identity_token };
 
     #[inline]
+    #[tactic(auto, unfolding(crate::specs::Session::anonymous_identity_token), using(crate::proofs::SessionLawful::lawful_anonymous_identity_token))]
     fn lawful() {}
 
+    #[tactic(auto, unfolding(crate::specs::Session::anonymous_identity_token))]
     fn read_value<S: Source>(alloc: Global, src: &mut S, depth: u32) -> Result<Self, ReadFault> {
         read_fields!(alloc, src, depth => AnonymousIdentityToken { policy_id })
     }
 
+    #[tactic(auto, unfolding(crate::specs::Session::anonymous_identity_token))]
     fn is_encodable(&self) -> bool {
         are_encodable!(self => policy_id)
     }
 
+    #[tactic(auto, unfolding(crate::specs::Session::anonymous_identity_token))]
     fn append(&self, out: &mut Vec<u8>) -> Result<(), AllocError> {
         append_fields!(self, out => policy_id)
     }
 }
 
-#[tactic(auto, unfolding(crate::specs::Session::create_session_request), using(crate::proofs::SessionSound::sound_create_session_request))]
 impl Wire for CreateSessionRequest {
     ghost use Rattle.ua_structures.specs.Session.{create_session_request};
 
     ghost format = { create_session_request };
 
     #[inline]
+    #[tactic(auto, unfolding(crate::specs::Session::create_session_request), using(crate::proofs::SessionSound::sound_create_session_request))]
     fn lawful() {}
 
+    #[tactic(auto, unfolding(crate::specs::Session::create_session_request))]
     fn read_value<S: Source>(alloc: Global, src: &mut S, depth: u32) -> Result<Self, ReadFault> {
         read_fields!(alloc, src, depth => CreateSessionRequest {
             request_header, client_description, server_uri, endpoint_url, session_name,
@@ -93,6 +103,7 @@ impl Wire for CreateSessionRequest {
         })
     }
 
+    #[tactic(auto, unfolding(crate::specs::Session::create_session_request))]
     fn is_encodable(&self) -> bool {
         are_encodable!(self =>
             request_header, client_description, server_uri, endpoint_url, session_name,
@@ -100,6 +111,7 @@ impl Wire for CreateSessionRequest {
         )
     }
 
+    #[tactic(auto, unfolding(crate::specs::Session::create_session_request))]
     fn append(&self, out: &mut Vec<u8>) -> Result<(), AllocError> {
         append_fields!(self, out =>
             request_header, client_description, server_uri, endpoint_url, session_name,
@@ -108,15 +120,16 @@ impl Wire for CreateSessionRequest {
     }
 }
 
-#[tactic(auto, unfolding(crate::specs::Session::create_session_response), using(crate::proofs::SessionSound::sound_create_session_response))]
 impl Wire for CreateSessionResponse {
     ghost use Rattle.ua_structures.specs.Session.{create_session_response};
 
     ghost format = { create_session_response };
 
     #[inline]
+    #[tactic(auto, unfolding(crate::specs::Session::create_session_response), using(crate::proofs::SessionSound::sound_create_session_response))]
     fn lawful() {}
 
+    #[tactic(auto, unfolding(crate::specs::Session::create_session_response))]
     fn read_value<S: Source>(alloc: Global, src: &mut S, depth: u32) -> Result<Self, ReadFault> {
         read_fields!(alloc, src, depth => CreateSessionResponse {
             response_header, session_id, authentication_token, revised_session_timeout,
@@ -125,6 +138,7 @@ impl Wire for CreateSessionResponse {
         })
     }
 
+    #[tactic(auto, unfolding(crate::specs::Session::create_session_response))]
     fn is_encodable(&self) -> bool {
         are_encodable!(self =>
             response_header, session_id, authentication_token, revised_session_timeout,
@@ -133,6 +147,7 @@ impl Wire for CreateSessionResponse {
         )
     }
 
+    #[tactic(auto, unfolding(crate::specs::Session::create_session_response))]
     fn append(&self, out: &mut Vec<u8>) -> Result<(), AllocError> {
         append_fields!(self, out =>
             response_header, session_id, authentication_token, revised_session_timeout,
@@ -142,15 +157,16 @@ impl Wire for CreateSessionResponse {
     }
 }
 
-#[tactic(auto, unfolding(crate::specs::Session::activate_session_request), using(crate::proofs::SessionSound::sound_activate_session_request))]
 impl Wire for ActivateSessionRequest {
     ghost use Rattle.ua_structures.specs.Session.{activate_session_request};
 
     ghost format = { activate_session_request };
 
     #[inline]
+    #[tactic(auto, unfolding(crate::specs::Session::activate_session_request), using(crate::proofs::SessionSound::sound_activate_session_request))]
     fn lawful() {}
 
+    #[tactic(auto, unfolding(crate::specs::Session::activate_session_request))]
     fn read_value<S: Source>(alloc: Global, src: &mut S, depth: u32) -> Result<Self, ReadFault> {
         read_fields!(alloc, src, depth => ActivateSessionRequest {
             request_header, client_signature, client_software_certificates, locale_ids,
@@ -158,6 +174,7 @@ impl Wire for ActivateSessionRequest {
         })
     }
 
+    #[tactic(auto, unfolding(crate::specs::Session::activate_session_request))]
     fn is_encodable(&self) -> bool {
         are_encodable!(self =>
             request_header, client_signature, client_software_certificates, locale_ids,
@@ -165,6 +182,7 @@ impl Wire for ActivateSessionRequest {
         )
     }
 
+    #[tactic(auto, unfolding(crate::specs::Session::activate_session_request))]
     fn append(&self, out: &mut Vec<u8>) -> Result<(), AllocError> {
         append_fields!(self, out =>
             request_header, client_signature, client_software_certificates, locale_ids,
@@ -173,71 +191,80 @@ impl Wire for ActivateSessionRequest {
     }
 }
 
-#[tactic(auto, unfolding(crate::specs::Session::activate_session_response), using(crate::proofs::SessionSound::sound_activate_session_response))]
 impl Wire for ActivateSessionResponse {
     ghost use Rattle.ua_structures.specs.Session.{activate_session_response};
 
     ghost format = { activate_session_response };
 
     #[inline]
+    #[tactic(auto, unfolding(crate::specs::Session::activate_session_response), using(crate::proofs::SessionSound::sound_activate_session_response))]
     fn lawful() {}
 
+    #[tactic(auto, unfolding(crate::specs::Session::activate_session_response))]
     fn read_value<S: Source>(alloc: Global, src: &mut S, depth: u32) -> Result<Self, ReadFault> {
         read_fields!(alloc, src, depth => ActivateSessionResponse {
             response_header, server_nonce, results, diagnostic_infos
         })
     }
 
+    #[tactic(auto, unfolding(crate::specs::Session::activate_session_response))]
     fn is_encodable(&self) -> bool {
         are_encodable!(self => response_header, server_nonce, results, diagnostic_infos)
     }
 
+    #[tactic(auto, unfolding(crate::specs::Session::activate_session_response))]
     fn append(&self, out: &mut Vec<u8>) -> Result<(), AllocError> {
         append_fields!(self, out => response_header, server_nonce, results, diagnostic_infos)
     }
 }
 
-#[tactic(auto, unfolding(crate::specs::Session::close_session_request), using(crate::proofs::SessionSound::sound_close_session_request))]
 impl Wire for CloseSessionRequest {
     ghost use Rattle.ua_structures.specs.Session.{close_session_request};
 
     ghost format = { close_session_request };
 
     #[inline]
+    #[tactic(auto, unfolding(crate::specs::Session::close_session_request), using(crate::proofs::SessionSound::sound_close_session_request))]
     fn lawful() {}
 
+    #[tactic(auto, unfolding(crate::specs::Session::close_session_request))]
     fn read_value<S: Source>(alloc: Global, src: &mut S, depth: u32) -> Result<Self, ReadFault> {
         read_fields!(alloc, src, depth => CloseSessionRequest {
             request_header, delete_subscriptions
         })
     }
 
+    #[tactic(auto, unfolding(crate::specs::Session::close_session_request))]
     fn is_encodable(&self) -> bool {
         are_encodable!(self => request_header, delete_subscriptions)
     }
 
+    #[tactic(auto, unfolding(crate::specs::Session::close_session_request))]
     fn append(&self, out: &mut Vec<u8>) -> Result<(), AllocError> {
         append_fields!(self, out => request_header, delete_subscriptions)
     }
 }
 
-#[tactic(auto, unfolding(crate::specs::Session::close_session_response), using(crate::proofs::SessionSound::sound_close_session_response))]
 impl Wire for CloseSessionResponse {
     ghost use Rattle.ua_structures.specs.Session.{close_session_response};
 
     ghost format = { close_session_response };
 
     #[inline]
+    #[tactic(auto, unfolding(crate::specs::Session::close_session_response), using(crate::proofs::SessionSound::sound_close_session_response))]
     fn lawful() {}
 
+    #[tactic(auto, unfolding(crate::specs::Session::close_session_response))]
     fn read_value<S: Source>(alloc: Global, src: &mut S, depth: u32) -> Result<Self, ReadFault> {
         read_fields!(alloc, src, depth => CloseSessionResponse { response_header })
     }
 
+    #[tactic(auto, unfolding(crate::specs::Session::close_session_response))]
     fn is_encodable(&self) -> bool {
         are_encodable!(self => response_header)
     }
 
+    #[tactic(auto, unfolding(crate::specs::Session::close_session_response))]
     fn append(&self, out: &mut Vec<u8>) -> Result<(), AllocError> {
         append_fields!(self, out => response_header)
     }
