@@ -86,9 +86,12 @@ def wire_of(s: Structure, k: Schema) -> str:
 
 
 def skip_of(s: Structure, k: Schema) -> str:
-    """Its `impl Skip`: field by field."""
-    calls = [f"{call}(alloc, src, depth)" for call in k.all("skip", s)] + ["Ok(())"] * (s.fields[-1][1] == "RequestHeader")
-    skipped = "?;\n        ".join(calls)
+    """Its `impl Skip`: field by field, those after the last that has no `impl Skip` as nested pairs."""
+    calls, types = k.all("skip", s), k.all("rust", s)
+    pairs = max((n + 1 for n, call in enumerate(calls) if not call.endswith("::skip_value")), default=0)
+    if len(types) > pairs + 1:
+        calls = calls[:pairs] + [f"<{nested(types[pairs:])}>::skip_value"]
+    skipped = "?;\n        ".join([f"{call}(alloc, src, depth)" for call in calls] + ["Ok(())"] * (s.fields[-1][1] == "RequestHeader"))
     return f"""impl Skip for {s.name} {{
     #[tactic(auto, unfolding(crate::specs::{s.spec}::{s.word}))]
     fn skip_value<S: Source>(alloc: Global, src: &mut S, depth: u32) -> Result<(), ReadFault> {{

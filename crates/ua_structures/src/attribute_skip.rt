@@ -13,10 +13,7 @@ use ua_variant::{DataValue, DiagnosticInfo};
 impl Skip for ReadValueId {
     #[tactic(auto, unfolding(crate::specs::Attribute::read_value_id))]
     fn skip_value<S: Source>(alloc: Global, src: &mut S, depth: u32) -> Result<(), ReadFault> {
-        NodeId::skip_value(alloc, src, depth)?;
-        u32::skip_value(alloc, src, depth)?;
-        UaString::skip_value(alloc, src, depth)?;
-        QualifiedName::skip_value(alloc, src, depth)
+        <(NodeId, (u32, (UaString, QualifiedName)))>::skip_value(alloc, src, depth)
     }
 }
 
@@ -24,28 +21,24 @@ impl Skip for ReadRequest {
     #[tactic(auto, unfolding(crate::specs::Attribute::read_request))]
     fn skip_value<S: Source>(alloc: Global, src: &mut S, depth: u32) -> Result<(), ReadFault> {
         RequestHeader::skip_for_handle(alloc, src, depth)?;
-        DoubleBits::skip_value(alloc, src, depth)?;
-        i32::skip_value(alloc, src, depth)?;
-        UaArray::<ReadValueId>::skip_value(alloc, src, depth)
+        <(DoubleBits, (i32, UaArray<ReadValueId>))>::skip_value(alloc, src, depth)
     }
 }
 
 impl Skip for ReadResponse {
     #[tactic(auto, unfolding(crate::specs::Attribute::read_response))]
     fn skip_value<S: Source>(alloc: Global, src: &mut S, depth: u32) -> Result<(), ReadFault> {
-        ResponseHeader::skip_value(alloc, src, depth)?;
-        UaArray::<DataValue>::skip_value(alloc, src, depth)?;
-        UaArray::<DiagnosticInfo>::skip_value(alloc, src, depth)
+        <(
+            ResponseHeader,
+            (UaArray<DataValue>, UaArray<DiagnosticInfo>),
+        )>::skip_value(alloc, src, depth)
     }
 }
 
 impl Skip for WriteValue {
     #[tactic(auto, unfolding(crate::specs::Attribute::write_value))]
     fn skip_value<S: Source>(alloc: Global, src: &mut S, depth: u32) -> Result<(), ReadFault> {
-        NodeId::skip_value(alloc, src, depth)?;
-        u32::skip_value(alloc, src, depth)?;
-        UaString::skip_value(alloc, src, depth)?;
-        DataValue::skip_value(alloc, src, depth)
+        <(NodeId, (u32, (UaString, DataValue)))>::skip_value(alloc, src, depth)
     }
 }
 

@@ -16,35 +16,30 @@ impl Skip for ApplicationDescription {
         UaString::skip_value(alloc, src, depth)?;
         UaString::skip_value(alloc, src, depth)?;
         skip_one::<LocalizedText, S>(alloc, src, depth)?;
-        i32::skip_value(alloc, src, depth)?;
-        UaString::skip_value(alloc, src, depth)?;
-        UaString::skip_value(alloc, src, depth)?;
-        UaArray::<UaString>::skip_value(alloc, src, depth)
+        <(i32, (UaString, (UaString, UaArray<UaString>)))>::skip_value(alloc, src, depth)
     }
 }
 
 impl Skip for UserTokenPolicy {
     #[tactic(auto, unfolding(crate::specs::Discovery::user_token_policy))]
     fn skip_value<S: Source>(alloc: Global, src: &mut S, depth: u32) -> Result<(), ReadFault> {
-        UaString::skip_value(alloc, src, depth)?;
-        i32::skip_value(alloc, src, depth)?;
-        UaString::skip_value(alloc, src, depth)?;
-        UaString::skip_value(alloc, src, depth)?;
-        UaString::skip_value(alloc, src, depth)
+        <(UaString, (i32, (UaString, (UaString, UaString))))>::skip_value(alloc, src, depth)
     }
 }
 
 impl Skip for EndpointDescription {
     #[tactic(auto, unfolding(crate::specs::Discovery::endpoint_description))]
     fn skip_value<S: Source>(alloc: Global, src: &mut S, depth: u32) -> Result<(), ReadFault> {
-        UaString::skip_value(alloc, src, depth)?;
-        ApplicationDescription::skip_value(alloc, src, depth)?;
-        UaBytes::skip_value(alloc, src, depth)?;
-        i32::skip_value(alloc, src, depth)?;
-        UaString::skip_value(alloc, src, depth)?;
-        UaArray::<UserTokenPolicy>::skip_value(alloc, src, depth)?;
-        UaString::skip_value(alloc, src, depth)?;
-        u8::skip_value(alloc, src, depth)
+        <(
+            UaString,
+            (
+                ApplicationDescription,
+                (
+                    UaBytes,
+                    (i32, (UaString, (UaArray<UserTokenPolicy>, (UaString, u8)))),
+                ),
+            ),
+        )>::skip_value(alloc, src, depth)
     }
 }
 
@@ -52,16 +47,13 @@ impl Skip for GetEndpointsRequest {
     #[tactic(auto, unfolding(crate::specs::Discovery::get_endpoints_request))]
     fn skip_value<S: Source>(alloc: Global, src: &mut S, depth: u32) -> Result<(), ReadFault> {
         RequestHeader::skip_for_handle(alloc, src, depth)?;
-        UaString::skip_value(alloc, src, depth)?;
-        UaArray::<UaString>::skip_value(alloc, src, depth)?;
-        UaArray::<UaString>::skip_value(alloc, src, depth)
+        <(UaString, (UaArray<UaString>, UaArray<UaString>))>::skip_value(alloc, src, depth)
     }
 }
 
 impl Skip for GetEndpointsResponse {
     #[tactic(auto, unfolding(crate::specs::Discovery::get_endpoints_response))]
     fn skip_value<S: Source>(alloc: Global, src: &mut S, depth: u32) -> Result<(), ReadFault> {
-        ResponseHeader::skip_value(alloc, src, depth)?;
-        UaArray::<EndpointDescription>::skip_value(alloc, src, depth)
+        <(ResponseHeader, UaArray<EndpointDescription>)>::skip_value(alloc, src, depth)
     }
 }

@@ -16,16 +16,14 @@ use ua_variant::DiagnosticInfo;
 impl Skip for SignedSoftwareCertificate {
     #[tactic(auto, unfolding(crate::specs::Session::signed_software_certificate))]
     fn skip_value<S: Source>(alloc: Global, src: &mut S, depth: u32) -> Result<(), ReadFault> {
-        UaBytes::skip_value(alloc, src, depth)?;
-        UaBytes::skip_value(alloc, src, depth)
+        <(UaBytes, UaBytes)>::skip_value(alloc, src, depth)
     }
 }
 
 impl Skip for SignatureData {
     #[tactic(auto, unfolding(crate::specs::Session::signature_data))]
     fn skip_value<S: Source>(alloc: Global, src: &mut S, depth: u32) -> Result<(), ReadFault> {
-        UaString::skip_value(alloc, src, depth)?;
-        UaBytes::skip_value(alloc, src, depth)
+        <(UaString, UaBytes)>::skip_value(alloc, src, depth)
     }
 }
 
@@ -40,30 +38,44 @@ impl Skip for CreateSessionRequest {
     #[tactic(auto, unfolding(crate::specs::Session::create_session_request))]
     fn skip_value<S: Source>(alloc: Global, src: &mut S, depth: u32) -> Result<(), ReadFault> {
         RequestHeader::skip_for_handle(alloc, src, depth)?;
-        ApplicationDescription::skip_value(alloc, src, depth)?;
-        UaString::skip_value(alloc, src, depth)?;
-        UaString::skip_value(alloc, src, depth)?;
-        UaString::skip_value(alloc, src, depth)?;
-        UaBytes::skip_value(alloc, src, depth)?;
-        UaBytes::skip_value(alloc, src, depth)?;
-        DoubleBits::skip_value(alloc, src, depth)?;
-        u32::skip_value(alloc, src, depth)
+        <(
+            ApplicationDescription,
+            (
+                UaString,
+                (
+                    UaString,
+                    (UaString, (UaBytes, (UaBytes, (DoubleBits, u32)))),
+                ),
+            ),
+        )>::skip_value(alloc, src, depth)
     }
 }
 
 impl Skip for CreateSessionResponse {
     #[tactic(auto, unfolding(crate::specs::Session::create_session_response))]
     fn skip_value<S: Source>(alloc: Global, src: &mut S, depth: u32) -> Result<(), ReadFault> {
-        ResponseHeader::skip_value(alloc, src, depth)?;
-        NodeId::skip_value(alloc, src, depth)?;
-        NodeId::skip_value(alloc, src, depth)?;
-        DoubleBits::skip_value(alloc, src, depth)?;
-        UaBytes::skip_value(alloc, src, depth)?;
-        UaBytes::skip_value(alloc, src, depth)?;
-        UaArray::<EndpointDescription>::skip_value(alloc, src, depth)?;
-        UaArray::<SignedSoftwareCertificate>::skip_value(alloc, src, depth)?;
-        SignatureData::skip_value(alloc, src, depth)?;
-        u32::skip_value(alloc, src, depth)
+        <(
+            ResponseHeader,
+            (
+                NodeId,
+                (
+                    NodeId,
+                    (
+                        DoubleBits,
+                        (
+                            UaBytes,
+                            (
+                                UaBytes,
+                                (
+                                    UaArray<EndpointDescription>,
+                                    (UaArray<SignedSoftwareCertificate>, (SignatureData, u32)),
+                                ),
+                            ),
+                        ),
+                    ),
+                ),
+            ),
+        )>::skip_value(alloc, src, depth)
     }
 }
 
@@ -71,11 +83,13 @@ impl Skip for ActivateSessionRequest {
     #[tactic(auto, unfolding(crate::specs::Session::activate_session_request))]
     fn skip_value<S: Source>(alloc: Global, src: &mut S, depth: u32) -> Result<(), ReadFault> {
         RequestHeader::skip_for_handle(alloc, src, depth)?;
-        SignatureData::skip_value(alloc, src, depth)?;
-        UaArray::<SignedSoftwareCertificate>::skip_value(alloc, src, depth)?;
-        UaArray::<UaString>::skip_value(alloc, src, depth)?;
-        ExtensionObject::skip_value(alloc, src, depth)?;
-        SignatureData::skip_value(alloc, src, depth)
+        <(
+            SignatureData,
+            (
+                UaArray<SignedSoftwareCertificate>,
+                (UaArray<UaString>, (ExtensionObject, SignatureData)),
+            ),
+        )>::skip_value(alloc, src, depth)
     }
 }
 
