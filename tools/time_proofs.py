@@ -53,6 +53,8 @@ def main(words: list[str]) -> None:
     if not words:
         raise SystemExit(__doc__)
     times = times_of(kept_files(f"{TOP}/crates/{words[0]}/out/incremental"))
+    if not times:
+        raise SystemExit(f"time_proofs: nothing is kept of {words[0]}: call `rt check --jobs 1` in its folder")
     functions: dict[str, list[tuple[float, str]]] = collections.defaultdict(list)
     kinds: collections.Counter[str] = collections.Counter()
     for (function, kind), seconds in times.items():

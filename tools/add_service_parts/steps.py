@@ -17,7 +17,7 @@ LEFT = """left to write:
   ua_server: in specs/ the reasons against it and its response, in specs/Answer.antt the service and its line of `answer`,
     in src/ the handler that the new arm of `respond` calls; a row of the README
   makers of its structures, where they are made in one way (Plain.antt and PlainFits.antt of ua_structures)
-  rows, octet by octet: messages in test_values/stdout, answers and refusals in test_streams/stdout; then in both
+  rows, octet by octet: messages and their fields in test_values/stdout, answers and refusals in test_streams/stdout; then in both
     folders: sed 's/ = .*//' stdout > stdin (tools/check_memory.py fails until each message has one)
   docs/ENCODINGS.md: what numbers mean in the rows of the structures
   docs/DECISIONS.md, the README's first table, CHANGELOG.md"""
