@@ -1,9 +1,8 @@
 -- Arrays of a type whose values all take the same octets, read a block at a time.
 use Rattle.std.proofs.Common.{◌≡◌, ℕ, zero, suc, ◌+◌, ◌-◌, ◌*◌, ◌<◌, true, false, cond, eqb, List, [], ◌∷◌, ◌++◌}
-use Rattle.std.proofs.Common.{length, take, map, Option, Some, None, refl, sym, subst, ap, ◌∙◌, append-nil, arith, length-append}
+use Rattle.std.proofs.Common.{length, map, Option, Some, None, refl, sym, subst, ap, ◌∙◌, append-nil, arith, length-append}
 use Rattle.std.proofs.lemmas.Grind.{common_steps}
 use Rattle.std.proofs.lemmas.List.{map-append}
-use Rattle.std.proofs.Math.Seq.{take-append_seam}
 use Rattle.ua_wire.specs.Exact.{Exact, ◌>>=◌, image_read}
 use Rattle.ua_wire.specs.Number.{IsNumber}
 use Rattle.ua_wire.specs.Boolean.{boolean as boolean_format}
@@ -19,7 +18,7 @@ use Rattle.ua_diagnostic.proofs.Extents.{never_some}
 use Rattle.ua_wire.specs.Format.{GivesBy}
 use Rattle.ua_wire.specs.declared.fault.ReadFault.{ReadFault}
 use Rattle.ua_wire.specs.declared.fault.ReadFault.TheVariants.{NoValue, OutOfMemory}
-use Rattle.std.specs.Prelude.{Result, Ok, Err}
+use Rattle.std.specs.Prelude.{Err}
 use Rattle.ua_variant.specs.Blocks.{before, with_front, row_behind, leaf_row_at, GoesOn}
 use Rattle.ua_variant.specs.Data.{LeafData, boolean, sbyte, byte, int16, uint16, int32, uint32, int64, uint64, float, double, string, date_time}
 use Rattle.ua_variant.specs.Data.{guid, byte_string, xml_element, node_id, expanded_node_id, status_code, qualified_name, localized_text}
@@ -135,9 +134,6 @@ exact_leaf_row k m h = exact_row 0 k m (leaves_at k) (exact_leaves k h)
 
 -- ---- a block
 
-same_front : (a b c d : List ℕ) → a ++ b ≡ c ++ d → length a ≡ length c → a ≡ c
-same_front a b c d e l = sym (take-append_seam a b) ∙ ap (λ (n : ℕ). take n (a ++ b)) l ∙ ap (take (length c)) e ∙ take-append_seam c d
-
 no_length : (b : List ℕ) → length b ≡ 0 → b ≡ []
 no_length [] h = refl
 no_length (x ∷ b) h = absurd (omega (arith, h))
@@ -152,18 +148,6 @@ block_some k m block rest left ss h l e =
     let none : left ≡ [] = no_length left (omega (arith, w, n, l, ap length s.parts, length-append s.front left)) in
     let whole : block ≡ s.front = s.parts ∙ ap (λ (t : List ℕ). s.front ++ t) none ∙ append-nil s.front in
     ap (λ (t : List ℕ). row_at m (leaves_at k) (t ++ rest)) whole ∙ (exact_leaf_row k m h).complete ss s.front rest s.encoded
-
-block_none : (k m : ℕ) (block rest : List ℕ) → is_packed_kind k ≡ true → length block ≡ m * least_octets k → row_at m (leaves_at k) block ≡ None
-    → row_at m (leaves_at k) (block ++ rest) ≡ None
-block_none k m block rest h l e =
-    never_some (row_at m (leaves_at k) (block ++ rest))
-    (λ x f. let s = (exact_leaf_row k m h).sound (block ++ rest) x.0 x.1 f in
-    let w : length s.front ≡ row_length x.0 * least_octets k = row_width k x.0 s.front h s.encoded.1 in
-    let n : row_length x.0 * least_octets k ≡ m * least_octets k = ap (λ i. i * least_octets k) s.encoded.0 in
-    let same : block ≡ s.front = same_front block rest s.front x.1 s.parts (omega (arith, w, n, l)) in
-    let found : row_at m (leaves_at k) block ≡ Some (x.0, []) = ap (row_at m (leaves_at k)) (same ∙ sym (append-nil s.front))
-    ∙ (exact_leaf_row k m h).complete x.0 s.front [] s.encoded in
-    absurd (let clash = sym e ∙ found in cc))
 
 -- ---- a row in two parts
 
@@ -183,10 +167,6 @@ front_nothing (Some x) = refl
 front_front : (a b : List ScalarData) (r : Option (ScalarsData × List ℕ)) → with_front a (with_front b r) ≡ with_front (a ++ b) r
 front_front a b None = refl
 front_front a b (Some x) = ap (λ y. Some (y, x.1)) (before_before a b x.0)
-
-front_none_is : (a : List ScalarData) (r : Option (ScalarsData × List ℕ)) → with_front a r ≡ None → r ≡ None
-front_none_is a None e = refl
-front_none_is a (Some x) e = absurd cc
 
 -- what stands behind a row of which this much was read
 abbrev on_from : Decoder ScalarData → ℕ → ScalarsData × List ℕ → Option (ScalarsData × List ℕ)
@@ -236,13 +216,6 @@ block_goes_on k n more a b block rest left h l e =
     ∙ front_front a (row_list f.0.0) (row_at more (leaves_at k) rest) ∙ ap (λ (xs : List ScalarData). with_front xs (row_at more (leaves_at k) rest))
     (front_is a b f.0.0 front)
 
--- behind a block that has no such elements, nothing is read
-pub block_stops : (k n more : ℕ) (a : List ScalarData) (block rest : List ℕ) → is_packed_kind k ≡ true → length block ≡ n * least_octets k
-    → row_behind a n (leaves_at k) block ≡ None → row_behind a (n + more) (leaves_at k) (block ++ rest) ≡ None
-block_stops k n more a block rest h l e =
-    ap (with_front a) (row_split (leaves_at k) n more (block ++ rest)
-    ∙ ap (λ o. o >>= on_from (leaves_at k) more) (block_none k n block rest h l (front_none_is a (row_at n (leaves_at k) block) e)))
-
 -- fewer octets than a block's have no such elements
 pub block_short : (k n more : ℕ) (a : List ScalarData) (octets : List ℕ) → is_packed_kind k ≡ true → length octets < n * least_octets k
     → row_behind a (n + more) (leaves_at k) octets ≡ None
@@ -253,15 +226,6 @@ block_short k n more a octets h l =
     let w : length s.front ≡ row_length x.0 * least_octets k = row_width k x.0 s.front h s.encoded.1 in
     let m : row_length x.0 * least_octets k ≡ n * least_octets k = ap (λ i. i * least_octets k) s.encoded.0 in
     absurd (omega (arith, w, m, l, ap length s.parts, length-append s.front x.1)))))
-
--- a block that was taken, and what reading it gave
-pub block_read : {X : Type 0} (k n more : ℕ) (a b : List ScalarData) (block rest old left : List ℕ) (answer : Result X ReadFault) → is_packed_kind k ≡ true
-    → length block ≡ n * least_octets k → old ≡ block ++ rest
-    → GivesBy (λ _. row b) (row_behind a n (leaves_at k)) block left answer
-    → GoesOn (row_behind a (n + more) (leaves_at k) old) (row_behind b more (leaves_at k) rest) answer
-block_read k n more a b block rest old left (Ok v) h l is e = ap (row_behind a (n + more) (leaves_at k)) is ∙ block_goes_on k n more a b block rest left h l e
-block_read k n more a b block rest old left (Err NoValue) h l is e = ap (row_behind a (n + more) (leaves_at k)) is ∙ block_stops k n more a block rest h l e
-block_read k n more a b block rest old left (Err OutOfMemory) h l is e = tt
 
 -- ---- faults
 
@@ -288,11 +252,6 @@ pub leaf_step : {X : Type 0} (f : X → LeafData) (p : Decoder ScalarData) (all 
 leaf_step {X} f p all xs x count counter old new whole lt is read so_far =
     row_step p (map leaf (map f all)) (map leaf (map f xs)) (leaf (f x)) count counter old new whole lt (ap (λ (ys : List X). map leaf (map f ys)) is
     ∙ leaves_push f xs x) read so_far
-
--- no element where one is owed
-pub leaf_stops : (p : Decoder ScalarData) (a : List ScalarData) (count counter : ℕ) (old : List ℕ) (whole : Option (ScalarsData × List ℕ)) → counter < count
-    → p old ≡ None → row_behind a (count - counter) p old ≡ whole → whole ≡ None
-leaf_stops p a count counter old whole lt none so_far = sym so_far ∙ row_stops p a (count - counter) (count - (counter + 1)) old (omega arith) none
 
 -- the last element
 pub leaf_ends : (p : Decoder ScalarData) (a : List ScalarData) (rest : ℕ) (old : List ℕ) (whole : Option (ScalarsData × List ℕ)) → rest ≡ 0

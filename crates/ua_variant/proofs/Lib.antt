@@ -19,4 +19,4 @@ mod Written
 mod OntoRead
 mod PackedRows
 mod RowsSkipped
-mod NumbersRead
+mod ValuesRead

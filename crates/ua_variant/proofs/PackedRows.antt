@@ -2,9 +2,7 @@
 use Rattle.std.proofs.Common.{◌≡◌, ◌≢◌, ℕ, ◌+◌, ◌<◌, Bool, true, false, ◌&&◌, eqb, List, [], ◌∷◌, ◌++◌}
 use Rattle.std.proofs.Common.{length, get_or, take, drop, map, refl, sym, ap, ◌∙◌, append_assoc, arith}
 use Rattle.std.proofs.lemmas.List.{take_more, take-map, drop-map}
-use Rattle.std.specs.Prelude.{Result, Ok, Err, OnErr}
-use Rattle.ua_builtin.specs.Format.{Extends}
-use Rattle.std.proofs.lemmas.List.Recursion.{and_push, and_fails_at, and_at}
+use Rattle.std.proofs.lemmas.List.Recursion.{and_push, and_fails_at}
 use Rattle.ua_variant.specs.Canonical.{row_canonical}
 use Rattle.ua_variant.specs.Data.{LeafData, ScalarData, leaf}
 use Rattle.ua_variant.specs.Encodable.{row_length, scalars_fit}
@@ -12,7 +10,7 @@ use Rattle.ua_variant.specs.Leaf.{leaf_canonical, leaf_encodable, leaf_kind}
 use Rattle.ua_variant.specs.Measure.{scalars_count, scalars_depth}
 use Rattle.ua_variant.specs.View.{row}
 use Rattle.ua_variant.proofs.BlocksRead.{leaves_push}
-use Rattle.ua_variant.proofs.Fits.{and_false, and_second, other_kind}
+use Rattle.ua_variant.proofs.Fits.{and_false, other_kind}
 use Rattle.ua_variant.proofs.Written.{row_push}
 
 -- ---- measures
@@ -68,13 +66,6 @@ other_leaf k l own is h = ap (λ b. b && leaf_encodable l) (ap (λ i. eqb i k) i
 pub unfit_leaf : (k : ℕ) (l : LeafData) → leaf_encodable l ≡ false → leaf_fits k l ≡ false
 unfit_leaf k l h = and_false (eqb (leaf_kind l) k) (leaf_encodable l) h
 
--- each of a row that fits can be written
-pub leaf_fits_at : {X : Type 0} (f : X → LeafData) (k : ℕ) (xs : List X) (i : ℕ) (x : X) → i < length xs → x ≡ get_or xs i x
-    → scalars_fit k (row (map leaf (map f xs))) ≡ true → leaf_encodable (f x) ≡ true
-leaf_fits_at {X} f k xs i x h is good =
-    and_second (eqb (leaf_kind (f x)) k) (leaf_encodable (f x)) (ap (λ y. leaf_fits k (f y)) is
-    ∙ and_at (λ (ys : List X). scalars_fit k (row (map leaf (map f ys)))) (λ y. leaf_fits k (f y)) refl (λ _ _. refl) xs i x h good)
-
 -- ---- what is written
 
 pub leaves_after : {X : Type 0} (f : X → LeafData) (old : List ℕ) (xs : List X) (i : ℕ) (x : X) → i < length xs → x ≡ get_or xs i x
@@ -86,7 +77,3 @@ leaves_after {X} f old xs i x h is =
     ∙ ap (λ ys. row_canonical (row ys)) (leaves_push f (take i xs) (get_or xs i x)) ∙ row_push (map leaf (map f (take i xs))) (leaf (f (get_or xs i x)))))
 
 -- ---- what was added before a fault
-
-pub extends_behind : {T E : Type 0} (old mid new more : List ℕ) (answer : Result T E) → mid ≡ old ++ more → Extends mid new → OnErr answer (Extends old new)
-extends_behind old mid new more (Ok x) e h = tt
-extends_behind old mid new more (Err x) e h = record { more = more ++ h.more; parts = h.parts ∙ ap (λ t. t ++ h.more) e ∙ append_assoc old more h.more }

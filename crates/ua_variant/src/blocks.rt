@@ -11,15 +11,10 @@ ghost use Rattle.ua_variant.specs.Least.{least_octets as least_of};
 ghost use Rattle.ua_variant.specs.Packed.{is_packed_kind, packed_leaves};
 ghost use Rattle.ua_variant.specs.View.{row};
 
-use crate::leaf::read_leaf_as;
-use crate::least::least_octets;
-use crate::numbers::{Group, MANY};
+use crate::fixed_width::{BLOCK, FixedWidth, push_values};
 use crate::packed::{Pack, Packed};
 use std::alloc::Global;
-use ua_builtin::{DateTime, DoubleBits, FloatBits, Guid, Octets, ReadFault, Source, StatusCode};
-
-/// How many bytes are taken at a time. Each packed type takes a part of them without a rest.
-const BLOCK: usize = 512;
+use ua_builtin::{DateTime, DoubleBits, FloatBits, Guid, ReadFault, Source, StatusCode};
 
 /// Whether arrays of the type id are packed.
 #[inline]
@@ -45,23 +40,23 @@ pub fn read_packed<S: Source>(
         1 => read_items::<bool, S>(alloc, src, kind, count),
         2 => read_items::<i8, S>(alloc, src, kind, count),
         3 => read_items::<u8, S>(alloc, src, kind, count),
-        4 => read_many::<i16, S>(alloc, src, kind, count),
-        5 => read_many::<u16, S>(alloc, src, kind, count),
-        6 => read_many::<i32, S>(alloc, src, kind, count),
-        7 => read_many::<u32, S>(alloc, src, kind, count),
-        8 => read_many::<i64, S>(alloc, src, kind, count),
-        9 => read_many::<u64, S>(alloc, src, kind, count),
-        10 => read_many::<FloatBits, S>(alloc, src, kind, count),
-        11 => read_many::<DoubleBits, S>(alloc, src, kind, count),
-        13 => read_many::<DateTime, S>(alloc, src, kind, count),
+        4 => read_items::<i16, S>(alloc, src, kind, count),
+        5 => read_items::<u16, S>(alloc, src, kind, count),
+        6 => read_items::<i32, S>(alloc, src, kind, count),
+        7 => read_items::<u32, S>(alloc, src, kind, count),
+        8 => read_items::<i64, S>(alloc, src, kind, count),
+        9 => read_items::<u64, S>(alloc, src, kind, count),
+        10 => read_items::<FloatBits, S>(alloc, src, kind, count),
+        11 => read_items::<DoubleBits, S>(alloc, src, kind, count),
+        13 => read_items::<DateTime, S>(alloc, src, kind, count),
         14 => read_items::<Guid, S>(alloc, src, kind, count),
-        _ => read_many::<StatusCode, S>(alloc, src, kind, count),
+        _ => read_items::<StatusCode, S>(alloc, src, kind, count),
     }
 }
 
 /// Reads so many elements of a type, whose type id is the one given, into exactly the room for
 /// them.
-fn read_items<T: Pack, S: Source>(
+fn read_items<T: FixedWidth, S: Source>(
     alloc: Global,
     src: &mut S,
     kind: u8,
@@ -73,7 +68,7 @@ fn read_items<T: Pack, S: Source>(
         (S.octets src.old) (S.octets src.new) result }
     ensures behind { StaysBehind (S.octets src.old) (S.octets src.new) }
 {
-    let width = least_octets(kind);
+    let width = T::width();
     let most = BLOCK / width;
     let count = count as usize;
     let mut block = [0; BLOCK];
@@ -81,42 +76,17 @@ fn read_items<T: Pack, S: Source>(
     let mut done = 0;
     while done < count {
         let n = (count - done).min(most);
-        read_block::<T, S>(alloc, src, &mut block[..n * width], n, &mut items)?;
-        done += n;
-    }
-    Ok(T::pack(items))
-}
-
-/// Reads so many numbers, whose type id is the one given, into exactly the room for them.
-fn read_many<T: Group, S: Source>(
-    alloc: Global,
-    src: &mut S,
-    kind: u8,
-    count: u32,
-) -> Result<Packed, ReadFault>
-    requires own { kind ≡ T.kind }
-    requires packed { is_packed_kind kind ≡ true }
-    ensures exact { GivesBy (λ p. row (map leaf (packed_leaves p))) (row_at count (image_read leaf (leaf_at kind)))
-        (S.octets src.old) (S.octets src.new) result }
-    ensures behind { StaysBehind (S.octets src.old) (S.octets src.new) }
-{
-    let count = count as usize;
-    let mut block = [0; BLOCK];
-    let mut items = Vec::with_capacity(alloc, count)?;
-    let mut done = 0;
-    while done < count {
-        let n = (count - done).min(MANY);
-        let part = &mut block[..n * T::width()];
+        let part = &mut block[..n * width];
         read_part(src, part, n, &mut items)?;
         done += n;
     }
     Ok(T::pack(items))
 }
 
-/// Takes a block of bytes, which are so many numbers, and puts these after the elements that there
+/// Takes a block of bytes, which are so many values, and puts these after the elements that there
 /// are.
 #[inline]
-fn read_part<T: Group, S: Source>(
+fn read_part<T: FixedWidth, S: Source>(
     src: &mut S,
     block: &mut [u8],
     count: usize,
@@ -124,7 +94,7 @@ fn read_part<T: Group, S: Source>(
 ) -> Result<(), ReadFault>
     requires packed { is_packed_kind T.kind ≡ true }
     requires whole { length block.old ≡ count * least_of T.kind }
-    requires few { count ≤ 64 }
+    requires few { count ≤ 512 }
     ensures exact { (more : ℕ) → GoesOn
         (row_behind (map leaf (map T.as_leaf items.old.items)) (count + more) (image_read leaf (leaf_at T.kind))
         (S.octets src.old))
@@ -135,49 +105,6 @@ fn read_part<T: Group, S: Source>(
     if !src.take_into(block) {
         return Err(ReadFault::NoValue);
     }
-    T::extend(block, count, items)?;
-    Ok(())
-}
-
-/// Takes a block of bytes, and reads so many elements of it after the existing ones.
-#[inline]
-fn read_block<T: Pack, S: Source>(
-    alloc: Global,
-    src: &mut S,
-    block: &mut [u8],
-    count: usize,
-    items: &mut Vec<T>,
-) -> Result<(), ReadFault>
-    requires packed { is_packed_kind T.kind ≡ true }
-    requires whole { length block.old ≡ count * least_of T.kind }
-    ensures exact { (more : ℕ) → GoesOn
-        (row_behind (map leaf (map T.as_leaf items.old.items)) (count + more) (image_read leaf (leaf_at T.kind))
-        (S.octets src.old))
-        (row_behind (map leaf (map T.as_leaf items.new.items)) more (image_read leaf (leaf_at T.kind))
-        (S.octets src.new)) result }
-    ensures behind { StaysBehind (S.octets src.old) (S.octets src.new) }
-{
-    if !src.take_into(block) {
-        return Err(ReadFault::NoValue);
-    }
-    read_each(alloc, &mut Octets::new(block), count, items)
-}
-
-/// Reads so many elements after the existing ones.
-#[inline]
-fn read_each<T: Pack>(
-    alloc: Global,
-    src: &mut Octets<'_>,
-    count: usize,
-    items: &mut Vec<T>,
-) -> Result<(), ReadFault>
-    ensures { GivesBy (λ _. row (map leaf (map T.as_leaf items.new.items)))
-        (row_behind (map leaf (map T.as_leaf items.old.items)) count (image_read leaf (leaf_at T.kind))) src.old src.new
-        result }
-{
-    for _ in 0..count {
-        let item = read_leaf_as::<T, Octets<'_>>(alloc, src)?;
-        items.push(item)?;
-    }
+    push_values(block, count, items)?;
     Ok(())
 }

@@ -9,9 +9,8 @@ ghost use Rattle.ua_variant.specs.Encodable.{scalars_fit};
 ghost use Rattle.ua_variant.specs.Packed.{packed_kind, packed_leaves};
 ghost use Rattle.ua_variant.specs.View.{row, scalar_of};
 
+use crate::fixed_width::{BLOCK, FixedWidth, write_values};
 use crate::leaf::HeldLeaf;
-use crate::least::least_octets;
-use crate::numbers::{MANY, Number, write_numbers};
 use crate::values::Scalar;
 use std::alloc::{AllocError, Global};
 use ua_builtin::{DateTime, DoubleBits, FloatBits, Guid, StatusCode};
@@ -179,29 +178,28 @@ impl Packed {
         }
     }
 
-    /// Appends the canonical encodings of the elements, which are of the type id, at the end.
+    /// Appends the canonical encodings of the elements at the end.
     #[inline(never)]
-    pub(crate) fn append(&self, kind: u8, out: &mut Vec<u8>) -> Result<(), AllocError>
-        requires { scalars_fit kind (row (map leaf (packed_leaves self.now))) ≡ true }
+    pub(crate) fn append(&self, out: &mut Vec<u8>) -> Result<(), AllocError>
         ensures ok { OnOk result
             (out.new.items ≡ out.old.items ++ row_canonical (row (map leaf (packed_leaves self.now)))) }
         ensures err { OnErr result (Extends out.old.items out.new.items) }
     {
         match self {
-            Packed::Booleans(items) => append_items(items, kind, out),
-            Packed::SBytes(items) => append_items(items, kind, out),
-            Packed::Bytes(items) => append_items(items, kind, out),
-            Packed::Int16s(items) => append_numbers(items, out),
-            Packed::UInt16s(items) => append_numbers(items, out),
-            Packed::Int32s(items) => append_numbers(items, out),
-            Packed::UInt32s(items) => append_numbers(items, out),
-            Packed::Int64s(items) => append_numbers(items, out),
-            Packed::UInt64s(items) => append_numbers(items, out),
-            Packed::Floats(items) => append_numbers(items, out),
-            Packed::Doubles(items) => append_numbers(items, out),
-            Packed::DateTimes(items) => append_numbers(items, out),
-            Packed::Guids(items) => append_items(items, kind, out),
-            Packed::StatusCodes(items) => append_numbers(items, out),
+            Packed::Booleans(items) => append_items(items, out),
+            Packed::SBytes(items) => append_items(items, out),
+            Packed::Bytes(items) => append_items(items, out),
+            Packed::Int16s(items) => append_items(items, out),
+            Packed::UInt16s(items) => append_items(items, out),
+            Packed::Int32s(items) => append_items(items, out),
+            Packed::UInt32s(items) => append_items(items, out),
+            Packed::Int64s(items) => append_items(items, out),
+            Packed::UInt64s(items) => append_items(items, out),
+            Packed::Floats(items) => append_items(items, out),
+            Packed::Doubles(items) => append_items(items, out),
+            Packed::DateTimes(items) => append_items(items, out),
+            Packed::Guids(items) => append_items(items, out),
+            Packed::StatusCodes(items) => append_items(items, out),
         }
     }
 }
@@ -248,36 +246,20 @@ fn items_fit<T: Pack>(items: &[T], own: u8, kind: u8) -> bool
 }
 
 /// Appends the canonical encodings of the elements at the end.
-fn append_items<T: Pack>(items: &[T], kind: u8, out: &mut Vec<u8>) -> Result<(), AllocError>
-    requires { scalars_fit kind (row (map leaf (map T.as_leaf items.now))) ≡ true }
+fn append_items<T: FixedWidth>(items: &[T], out: &mut Vec<u8>) -> Result<(), AllocError>
     ensures ok { OnOk result
         (out.new.items ≡ out.old.items ++ row_canonical (row (map leaf (map T.as_leaf items.now)))) }
     ensures err { OnErr result (Extends out.old.items out.new.items) }
 {
-    T::is_leaf();
-    out.reserve(items.len().saturating_mul(least_octets(kind)))?;
-    for item in items {
-        item.append(out)?;
-    }
-    Ok(())
-}
-
-/// The bytes that are put together before they are added.
-const BLOCK: usize = 512;
-
-/// Appends the canonical encodings of numbers at the end.
-fn append_numbers<T: Number>(items: &[T], out: &mut Vec<u8>) -> Result<(), AllocError>
-    ensures ok { OnOk result
-        (out.new.items ≡ out.old.items ++ row_canonical (row (map leaf (map T.as_leaf items.now)))) }
-    ensures err { OnErr result (Extends out.old.items out.new.items) }
-{
-    out.reserve(items.len().saturating_mul(T::width()))?;
+    let width = T::width();
+    let most = BLOCK / width;
+    out.reserve(items.len().saturating_mul(width))?;
     let mut block = [0; BLOCK];
     let mut done = 0;
     while done < items.len() {
-        let n = (items.len() - done).min(MANY);
-        let part = &mut block[..n * T::width()];
-        write_numbers(&items[done..done + n], part);
+        let n = (items.len() - done).min(most);
+        let part = &mut block[..n * width];
+        write_values(&items[done..done + n], part);
         out.extend_from_slice(part)?;
         done += n;
     }

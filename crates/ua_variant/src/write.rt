@@ -211,7 +211,7 @@ fn append_row(kind: u8, items: &Scalars, out: &mut Vec<u8>) -> Result<(), AllocE
     ensures err { OnErr result (Extends out.old.items out.new.items) }
 {
     let scalars = match items.elements() {
-        Elements::Packed(packed) => return packed.append(kind, out),
+        Elements::Packed(packed) => return packed.append(out),
         Elements::Mixed(scalars) => scalars,
     };
     for s in scalars {

@@ -11,8 +11,8 @@ returns-then-not-take_into-clause-exact g c =
     c.requires.packed
     (subst (λ n. length (g.S.Source.octets c.args.src.now) < n) c.requires.whole c.if-not-take_into.ensures.0)
 
-pub returns-in_err-extend-clause-behind : goal.returns-in_err-extend-clause-behind
-returns-in_err-extend-clause-behind g c = stays_behind _ _ (record { taken = c.take_into.new.out; parts = c.if-not-take_into.ensures })
+pub returns-in_err-push_values-clause-behind : goal.returns-in_err-push_values-clause-behind
+returns-in_err-push_values-clause-behind g c = stays_behind _ _ (record { taken = c.take_into.new.out; parts = c.if-not-take_into.ensures })
 
 pub returns-clause-exact : goal.returns-clause-exact
 returns-clause-exact g c =
@@ -22,8 +22,8 @@ returns-clause-exact g c =
     let block = c.take_into.new.out in
     let same : length block ≡ length c.args.block.now = omega arith in
     λ more. ap (row_behind (map leaf (map f c.args.items.now.items)) (n + more) (leaves_at k)) c.if-not-take_into.ensures
-    ∙ block_goes_on k n more (map leaf (map f c.args.items.now.items)) (map leaf (map f c.extend.new.items.items)) block
-    (g.S.Source.octets c.take_into.new.self) [] c.requires.packed (same ∙ c.requires.whole) c.in_ok-extend.ensures.read
+    ∙ block_goes_on k n more (map leaf (map f c.args.items.now.items)) (map leaf (map f c.push_values.new.items.items)) block
+    (g.S.Source.octets c.take_into.new.self) [] c.requires.packed (same ∙ c.requires.whole) c.in_ok-push_values.ensures.read
 
 pub returns-clause-behind : goal.returns-clause-behind
 returns-clause-behind g c = stays_behind _ _ (record { taken = c.take_into.new.out; parts = c.if-not-take_into.ensures })
