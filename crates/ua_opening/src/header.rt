@@ -146,16 +146,13 @@ impl RequestHeader {
             (S.octets src.old) (S.octets src.new) result }
         ensures behind { StaysBehind (S.octets src.old) (S.octets src.new) }
     {
-        NodeId::skip_value(alloc, src, depth)?;
-        DateTime::skip_value(alloc, src, depth)?;
+        <(NodeId, DateTime)>::skip_value(alloc, src, depth)?;
         let request_handle = u32::read_value(alloc, src, depth)?;
         u32::skip_value(alloc, src, depth)?;
         if take_timeout_alone(alloc, src).is_some() {
             return Ok(request_handle);
         }
-        UaString::skip_value(alloc, src, depth)?;
-        u32::skip_value(alloc, src, depth)?;
-        ExtensionObject::skip_value(alloc, src, depth)?;
+        <(UaString, (u32, ExtensionObject))>::skip_value(alloc, src, depth)?;
         Ok(request_handle)
     }
 }
@@ -321,9 +318,7 @@ impl Skip for ResponseHeader {
             drop(texts);
             return Ok(());
         }
-        DiagnosticInfo::skip_value(alloc, src, depth)?;
-        UaArray::<UaString>::skip_value(alloc, src, depth)?;
-        ExtensionObject::skip_value(alloc, src, depth)
+        <(DiagnosticInfo, (UaArray<UaString>, ExtensionObject))>::skip_value(alloc, src, depth)
     }
 }
 
