@@ -183,37 +183,8 @@ fn read_kept_into<S: Source, T: TakesTypes>(
 }
 
 impl WriteValue {
-    /// Decodes the item at the start of the source, as `read_value` does, but skips a value that
-    /// its node could not take, and puts a null Variant in its place. After an error, discard the
-    /// source.
-    #[inline(always)]
-    #[tactic(auto, unfolding(crate::specs::Attribute::write_value))]
-    pub fn read_thinned<S: Source, T: TakesTypes>(
-        alloc: Global,
-        src: &mut S,
-        depth: u32,
-        types: &T,
-    ) -> Result<WriteValue, ReadFault>
-        requires levels { depth ≤ most_levels }
-        ensures exact { Gives (image_read (thinned (T.takes types.now)) (write_value.decode depth)) (S.octets src.old)
-            (S.octets src.new) result }
-        ensures behind { StaysBehind (S.octets src.old) (S.octets src.new) }
-    {
-        let node_id = NodeId::read_value(alloc, src, depth)?;
-        let attribute_id = u32::read_value(alloc, src, depth)?;
-        let index_range = UaString::read_value(alloc, src, depth)?;
-        let mut value = no_fields();
-        read_kept_into(alloc, src, depth, types, &node_id, &mut value)?;
-        Ok(WriteValue {
-            node_id,
-            attribute_id,
-            index_range,
-            value,
-        })
-    }
-
-    /// Decodes the item at the start of the source, as [`read_thinned`](WriteValue::read_thinned)
-    /// does, to the end of the vector.
+    /// Decodes the item at the start of the source, as `read_value` does, to the end of the vector,
+    /// but skips a value that its node could not take, and puts a null Variant in its place.
     #[inline(always)]
     #[tactic(auto, unfolding(crate::specs::Attribute::write_value))]
     fn read_onto<S: Source, T: TakesTypes>(
@@ -291,10 +262,10 @@ fn read_array<S: Source, T: TakesTypes>(
 }
 
 impl WriteRequest {
-    /// Decodes the Write at the start of the source, as `read_value` does, but keeps of each item
-    /// what [`WriteValue::read_thinned`] keeps (OPC 10000-4, 5.11.4). A value that its node could
-    /// not take is skipped: for an array, no more memory is allocated than one element or part
-    /// needs at a time; a scalar is decoded and dropped. After an error, discard the source.
+    /// Decodes the Write at the start of the source, as `read_value` does, but skips the
+    /// value of an item that its node could not take, and puts a null Variant in its place (OPC
+    /// 10000-4, 5.11.4): for an array, no more memory is allocated than one element or part needs at
+    /// a time; a scalar is decoded and dropped. After an error, discard the source.
     #[tactic(auto, unfolding(crate::specs::Attribute::write_request))]
     pub fn read_thinned<S: Source, T: TakesTypes>(
         alloc: Global,
