@@ -1,7 +1,7 @@
 #!/usr/bin/env python3
 """Breaks long lines of contracts, definitions and proofs: tools/break_lines.py [CRATE ..], or --check.
 
-A line of a .rt file has at most 120 columns, one of an .antt file 160. A clause or a term is broken where few brackets
+A line of a .rt file has at most 120 columns, one of an .antt file 164. A clause or a term is broken where few brackets
 are open, before an operator where that can be; an import of many names becomes several. Code, and attributes, which
 `rt fmt` keeps on one line, stay as they are; it lays out what was broken. --check tells each line that is
 too long, and could be broken; the status is 1 where there is one.
@@ -144,7 +144,7 @@ def comment(line: str, limit: int) -> list[str]:
 
 def lines_of(line: str, is_source: bool) -> list[str]:
     """A line, broken where it is too long and may be broken."""
-    limit, bare = 120 if is_source else 160, line.strip()
+    limit, bare = 120 if is_source else 164, line.strip()
     if len(line) <= limit:
         return [line]
     if re.match(r"(pub )?(ghost )?use ", bare):
