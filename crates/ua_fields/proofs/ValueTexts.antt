@@ -172,6 +172,14 @@ written_same : (fits encodable : Bool) (octets canonical : List ℕ) → encodab
 written_same true encodable octets canonical is h = ap (λ (b : Bool). written_text b canonical) is ∙ ap octets_text (sym (h refl))
 written_same false encodable octets canonical is h = ap (λ (b : Bool). written_text b canonical) is
 
+-- of the text of the value that was read the first part was printed
+pub value_stopped : {A : Type 0} (read : List ℕ → Option (A × List ℕ)) (shown : A → List ℕ) (old next new text : List ℕ) (value : A)
+    (a b : Option (List ℕ)) (ka kb left : List ℕ) (e : PrintFault) → read old ≡ Some (value, next) → text ≡ shown value
+    → PrintsPieces a ka b kb text (Err e) → PrintsValue read shown old new a ka b left (Err (told_fault e))
+value_stopped read shown old next new text value a b ka kb left print.OutOfMemory is same h = λ other rest e.
+    subst (λ v. PrintsFront a ka b (shown v)) (other_is (read old) value other next rest is e) (subst (λ (t : List ℕ). PrintsFront a ka b t) same h)
+value_stopped read shown old next new text value a b ka kb left (print.Output error) is same h = tt
+
 -- a value by its bytes
 pub judged_told : {A : Type 0} (encodable : A → Bool) (canonical : A → List ℕ) (read : List ℕ → Option (A × List ℕ)) (old new octets : List ℕ) (fits : Bool)
     (a b : Option (List ℕ)) (ka kb : List ℕ) → Judges encodable canonical read old new octets (Ok fits) → PrintsLines a ka b kb (written_text fits octets)

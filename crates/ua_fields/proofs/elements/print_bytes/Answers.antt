@@ -1,8 +1,10 @@
-use Rattle.std.proofs.Common.{[]}
+use Rattle.base64.specs.Engines.{standard}
+use Rattle.base64.specs.GeneralPurpose.{encode_of}
+use Rattle.std.proofs.Common.{[], ap, string_bytes}
 use Rattle.std.proofs.lemmas.Result.{err_from_is_err_and}
 use Rattle.ua_builtin.specs.Counted.{counted}
 use Rattle.ua_fields.proofs.PrintedPieces.{none_printed}
-use Rattle.ua_fields.proofs.ValueTexts.{value_unread}
+use Rattle.ua_fields.proofs.ValueTexts.{value_stopped, value_unread}
 use Rattle.ua_texts.specs.Shown.{base64_text}
 use Rattle.ua_fields.proofs.elements.print_bytes.Goals as goal
 
@@ -10,6 +12,13 @@ pub returns-in_err-value : goal.returns-in_err-value
 returns-in_err-value g c =
     let p = err_from_is_err_and c.from_residual.result c.from_residual.ensures.1 in
     rw (p.1, p.2) (value_unread counted.decode base64_text _ [] [] _ _ c.in_err-value.field-0.0 c.in_err-value.ensures.exact)
+
+pub returns-in_err-print_base64-in-Some : goal.returns-in_err-print_base64-in-Some
+returns-in_err-print_base64-in-Some g c =
+    let p = err_from_is_err_and c.from_residual-in_err-print_base64-in-Some.result c.from_residual-in_err-print_base64-in-Some.ensures.1 in
+    rw (p.1, p.2) (value_stopped counted.decode base64_text _ _ [] (encode_of standard c.in-Some.octets.now) c.in_ok-value.value _ _ _
+    (string_bytes c.print_base64.new.text) [] c.in_err-print_base64-in-Some.field-0.0 c.in_ok-value.ensures.exact (ap base64_text c.in-Some.ensures)
+    c.in_err-print_base64-in-Some.ensures)
 
 pub returns-in_err-push_str-in-None : goal.returns-in_err-push_str-in-None
 returns-in_err-push_str-in-None g c =

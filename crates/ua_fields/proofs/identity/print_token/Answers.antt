@@ -2,8 +2,8 @@ use Rattle.std.proofs.Common.{Err, ap, string_bytes, sym, ◌∙◌}
 use Rattle.std.proofs.lemmas.Result.{err_from_is_err_and}
 use Rattle.ua_opening.specs.Message.{body_of}
 use Rattle.ua_fields.specs.Leaves.{object_or_token, token_as}
-use Rattle.ua_fields.specs.Tree.{structure}
-use Rattle.ua_fields.proofs.Identities.{token_broken, token_printed, token_there}
+use Rattle.ua_fields.specs.Tree.{Tree, structure}
+use Rattle.ua_fields.proofs.Identities.{not_whole, told_none, token_broken, token_printed, token_there}
 use Rattle.ua_fields.proofs.Long.{lines_unprinted}
 use Rattle.ua_fields.proofs.identity.print_token.Goals as goal
 
@@ -14,6 +14,15 @@ returns-in_err-is_encoding g c =
     (object_or_token c.args.object.now
     (token_as {A = g.row.F-Values.Denot} c.args.type_name.now (λ v. structure (g.F.PrintedFields.fields c.args.field_names v))
     (body_of g.F.Values.Wire.format c.args.octets.now))) _ _)
+
+pub returns-then-not-branch : goal.returns-then-not-branch
+returns-then-not-branch g c =
+    let tree : g.row.F-Values.Denot → Tree = λ v. structure (g.F.PrintedFields.fields c.args.field_names v) in
+    told_none c.args.place.style c.args.place.margin.now c.args.place.path.now _ _ _ _ c.args.object.now
+    (token_as {A = g.row.F-Values.Denot} c.args.type_name.now tree (body_of g.F.Values.Wire.format c.args.octets.now)) c.print_octets_line.result
+    (not_whole {A = g.row.F-Values.Denot} c.args.type_name.now tree (body_of g.F.Values.Wire.format c.args.octets.now) (sym c.in_ok-is_encoding.ensures
+    ∙ c.if-not-branch.true))
+    c.print_octets_line.ensures
 
 pub returns-in_err-push_line : goal.returns-in_err-push_line
 returns-in_err-push_line g c =

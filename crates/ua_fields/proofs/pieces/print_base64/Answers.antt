@@ -16,5 +16,10 @@ returns-in_err-encode_string g c =
     let p = err_from_is_err_and c.from_residual.result c.from_residual.ensures.1 in
     rw (p.1, p.2) (pieces_broken _ _ _ _ _ _ c.loop-piece.invariant)
 
+pub returns-in_err-encode_string-2 : goal.returns-in_err-encode_string-2
+returns-in_err-encode_string-2 g c =
+    let p = err_from_is_err_and c.from_residual-in_err-encode_string-2.result c.from_residual-in_err-encode_string-2.ensures.1 in
+    rw (p.1, p.2) (pieces_broken _ _ _ _ _ _ c.loop-piece.invariant)
+
 pub returns : goal.returns
 returns g c = pieces_end _ _ _ _ _ _ _ c.loop-piece.invariant c.in_ok-encode_string-2.ensures.ok

@@ -1,5 +1,5 @@
 use Rattle.std.proofs.lemmas.Result.{err_from_is_err_and}
-use Rattle.ua_fields.proofs.PrintedPieces.{digits_split, none_printed, pieces_begun, pieces_end, pieces_on}
+use Rattle.ua_fields.proofs.PrintedPieces.{digits_split, none_printed, pieces_begun, pieces_broken, pieces_end, pieces_on}
 use Rattle.ua_fields.proofs.pieces.print_octets.Goals as goal
 
 pub returns-in_err-push_str : goal.returns-in_err-push_str
@@ -14,6 +14,16 @@ pub loop-piece-preserved : goal.loop-piece-preserved
 loop-piece-preserved g c =
     pieces_on _ _ _ _ _ _ _ _ _ _ _ c.loop-piece.invariant (digits_split c.loop-piece.rest.now 24576 _ _ c.in-Some.ensures.cases)
     c.in_ok-push_digits.ensures c.in_ok-write_full.ensures
+
+pub returns-in_err-push_digits : goal.returns-in_err-push_digits
+returns-in_err-push_digits g c =
+    let p = err_from_is_err_and c.from_residual-in_err-push_digits.result c.from_residual-in_err-push_digits.ensures.1 in
+    rw (p.1, p.2) (pieces_broken _ _ _ _ _ _ c.loop-piece.invariant)
+
+pub returns-in_err-push_digits-2 : goal.returns-in_err-push_digits-2
+returns-in_err-push_digits-2 g c =
+    let p = err_from_is_err_and c.from_residual-in_err-push_digits-2.result c.from_residual-in_err-push_digits-2.ensures.1 in
+    rw (p.1, p.2) (pieces_broken _ _ _ _ _ _ c.loop-piece.invariant)
 
 pub returns : goal.returns
 returns g c = pieces_end _ _ _ _ _ _ _ c.loop-piece.invariant c.in_ok-push_digits-2.ensures

@@ -1,0 +1,21 @@
+use Rattle.std.proofs.Common.{refl, string_bytes}
+use Rattle.ua_fields.proofs.value.push_fields_after.Goals as goal
+
+pub returns : goal.returns
+returns c = (
+  string_bytes c.push_field.new.out,
+  c.in_ok-push_field.ensures,
+  (
+    string_bytes c.push_field-2.new.out,
+    c.in_ok-push_field-2.ensures,
+    (
+      string_bytes c.push_field-3.new.out,
+      c.in_ok-push_field-3.ensures,
+      (
+        string_bytes c.push_field-4.new.out,
+        c.in_ok-push_field-4.ensures,
+        (string_bytes c.push_field-5.new.out, c.in_ok-push_field-5.ensures, refl),
+      ),
+    ),
+  ),
+)
