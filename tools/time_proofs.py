@@ -4,7 +4,9 @@
 First, in the crate's folder, without its out/incremental: `rt check --jobs 1`. It keeps each module when it has checked
 it, so that the time from one file to the next is that of the module. Those of a function are added up; beside it stand
 its modules that took most: `Proof` (its goals), `Lts` (its lifetimes), `Tie`, `Layout`, `Reads`, `Kinds` (its code).
-The last line is the sum of each kind of module. What was kept by an earlier run has no time here.
+The last line is the sum of each kind of module. What was kept by an earlier run has no time here. A check begins anew
+some times, at 5 to 17 seconds, which fall on the module that comes next: look twice at a function that stands alone
+with one dear module.
 """
 from __future__ import annotations
 
