@@ -1,8 +1,8 @@
 -- Arrays of a type whose values all take the same octets, read a block at a time.
-use Rattle.std.proofs.Common.{◌≡◌, ℕ, zero, suc, ◌+◌, ◌-◌, ◌*◌, ◌<◌, true, false, cond, eqb, List, [], ◌∷◌, ◌++◌}
-use Rattle.std.proofs.Common.{length, map, Option, Some, None, refl, sym, subst, ap, ◌∙◌, append-nil, arith, length-append}
+use Rattle.std.proofs.Common.{◌≡◌, ℕ, zero, suc, ◌+◌, ◌-◌, ◌*◌, ◌<◌, ◌≤◌, Bool, MatchBool, true, false, cond, eqb, List, [], ◌∷◌, ◌++◌}
+use Rattle.std.proofs.Common.{length, map, take, drop, Option, Some, None, refl, sym, subst, ap, ◌∙◌, append-nil, arith, length-append}
 use Rattle.std.proofs.lemmas.Grind.{common_steps}
-use Rattle.std.proofs.lemmas.List.{map-append}
+use Rattle.std.proofs.lemmas.List.{map-append, take-append-drop, take-append-le}
 use Rattle.ua_wire.specs.Exact.{Exact, ◌>>=◌, image_read}
 use Rattle.ua_wire.specs.Number.{IsNumber}
 use Rattle.ua_wire.specs.Boolean.{boolean as boolean_format}
@@ -15,7 +15,7 @@ use Rattle.ua_builtin.specs.Guid.{guid as guid_format}
 use Rattle.ua_builtin.specs.Status.{status_code as status_code_format}
 use Rattle.ua_diagnostic.specs.Parts.{Decoder}
 use Rattle.ua_diagnostic.proofs.Extents.{never_some}
-use Rattle.ua_wire.specs.Format.{GivesBy}
+use Rattle.ua_wire.specs.Format.{Extends, GivesBy}
 use Rattle.ua_wire.specs.declared.fault.ReadFault.{ReadFault}
 use Rattle.ua_wire.specs.declared.fault.ReadFault.TheVariants.{NoValue, OutOfMemory}
 use Rattle.std.specs.Prelude.{Err}
@@ -226,6 +226,14 @@ block_short k n more a octets h l =
     let w : length s.front ≡ row_length x.0 * least_octets k = row_width k x.0 s.front h s.encoded.1 in
     let m : row_length x.0 * least_octets k ≡ n * least_octets k = ap (λ i. i * least_octets k) s.encoded.0 in
     absurd (omega (arith, w, m, l, ap length s.parts, length-append s.front x.1)))))
+
+-- what was skipped of a source lies at the front of it
+pub skipped_front : (size : ℕ) (run old new : List ℕ) (done : Bool) → size ≤ length run → Extends run old
+    → MatchBool done ((size ≤ length old) × (new ≡ drop size old)) ((length old < size) × (new ≡ old)) → old ≡ take size run ++ new
+skipped_front size run old new true fits h e =
+    sym (take-append-drop size old) ∙ ap (λ (t : List ℕ). take size t ++ drop size old) h.parts
+    ∙ ap (λ (t : List ℕ). t ++ drop size old) (take-append-le size run h.more fits) ∙ ap (λ (t : List ℕ). take size run ++ t) (sym e.1)
+skipped_front size run old new false fits h e = absurd (omega (arith, e.0, fits, ap length h.parts, length-append run h.more))
 
 -- ---- faults
 

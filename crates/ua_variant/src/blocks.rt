@@ -83,8 +83,8 @@ fn read_items<T: FixedWidth, S: Source>(
     Ok(T::pack(items))
 }
 
-/// Takes a block of bytes, which are so many values, and puts these after the elements that there
-/// are.
+/// Takes as many bytes as a block has, which are so many values, and puts these after the elements
+/// that there are. The block is filled only where the source has the bytes in several places.
 #[inline]
 fn read_part<T: FixedWidth, S: Source>(
     src: &mut S,
@@ -94,7 +94,7 @@ fn read_part<T: FixedWidth, S: Source>(
 ) -> Result<(), ReadFault>
     requires packed { is_packed_kind T.kind ≡ true }
     requires whole { length block.old ≡ count * least_of T.kind }
-    requires few { count ≤ 512 }
+    requires few { count ≤ 1024 }
     ensures exact { (more : ℕ) → GoesOn
         (row_behind (map leaf (map T.as_leaf items.old.items)) (count + more) (image_read leaf (leaf_at T.kind))
         (S.octets src.old))
@@ -102,6 +102,12 @@ fn read_part<T: FixedWidth, S: Source>(
         (S.octets src.new)) result }
     ensures behind { StaysBehind (S.octets src.old) (S.octets src.new) }
 {
+    let run = src.front();
+    if block.len() <= run.len() {
+        push_values(&run[..block.len()], count, items)?;
+        src.skip(block.len());
+        return Ok(());
+    }
     if !src.take_into(block) {
         return Err(ReadFault::NoValue);
     }

@@ -19,7 +19,7 @@ use uuid::Uuid;
 
 /// How many bytes are decoded and encoded at a time. Each packed type takes a part of them without a
 /// rest.
-pub const BLOCK: usize = 512;
+pub const BLOCK: usize = 1024;
 
 /// A packed type: its values are all encoded in the same number of bytes, which are never refused
 /// (OPC 10000-6, 5.2.2.1 to 5.2.2.3, 5.2.2.5, 5.2.2.6 and 5.2.2.11).
@@ -64,7 +64,7 @@ pub fn push_values<T: FixedWidth>(
     count: usize,
     items: &mut Vec<T>,
 ) -> Result<(), AllocError>
-    requires few { count ≤ 512 }
+    requires few { count ≤ 1024 }
     requires whole { length octets.now ≡ count * least_of T.kind }
     ensures read { OnOk result
         (row_behind (map leaf (map T.as_leaf items.old.items)) count (image_read leaf (leaf_at T.kind))

@@ -131,6 +131,11 @@ impl Source for Parts<'_> {
     }
 
     #[inline]
+    fn front(&self) -> &[u8] {
+        self.front
+    }
+
+    #[inline]
     fn take_into(&mut self, out: &mut [u8]) -> bool {
         if out.len() <= self.front.len() {
             // nearly always: one part has them all

@@ -1,6 +1,7 @@
 //! Sources of bytes.
 
 ghost use Rattle.std.specs.Prelude.{◌≡◌, ◌≤◌, ◌<◌, ◌++◌, ℕ, List, length, drop, MatchBool};
+ghost use Rattle.ua_wire.specs.Format.{Extends};
 
 use std::marker::Model;
 
@@ -17,6 +18,11 @@ pub trait Source: Drop {
     /// The number of bytes that are still to be read.
     fn left(&self) -> usize
         ensures { result ≡ length (octets self.now) };
+
+    /// Some of the next bytes, as they lie in memory: perhaps not all, and none where the next ones
+    /// lie elsewhere. Nothing is consumed.
+    fn front(&self) -> &[u8]
+        ensures { Extends result.now (octets self.now) };
 
     /// Fills `out` with the next bytes. Returns false, and changes nothing, if fewer are left.
     fn take_into(&mut self, out: &mut [u8]) -> bool
@@ -62,6 +68,11 @@ impl Source for Octets<'_> {
     #[inline]
     fn left(&self) -> usize {
         self.rest.len()
+    }
+
+    #[inline]
+    fn front(&self) -> &[u8] {
+        self.rest
     }
 
     #[inline]

@@ -12,13 +12,13 @@ use Rattle.ua_variant.proofs.ValuesRead.{many_within}
 use Rattle.ua_variant.proofs.blocks.read_items.Goals as goal
 
 pub overflow_mul-block : goal.overflow_mul-block
-overflow_mul-block g c = omega (arith, many_within c.width-width.result c.min-n.result 512 c.width-width.ensures.some (omega arith))
+overflow_mul-block g c = omega (arith, many_within c.width-width.result c.min-n.result 1024 c.width-width.ensures.some (omega arith))
 
 pub slice_bounds-block-end : goal.slice_bounds-block-end
 slice_bounds-block-end g c = omega (
   arith,
   c.loop-done.invariant.block,
-  many_within c.width-width.result c.min-n.result 512 c.width-width.ensures.some (omega arith),
+  many_within c.width-width.result c.min-n.result 1024 c.width-width.ensures.some (omega arith),
 )
 
 pub read_part-requires-clause-whole : goal.read_part-requires-clause-whole
@@ -26,7 +26,7 @@ read_part-requires-clause-whole g c =
     length-take-le (c.min-n.result * c.width-width.result) c.loop-done.block (omega (
       arith,
       c.loop-done.invariant.block,
-      many_within c.width-width.result c.min-n.result 512 c.width-width.ensures.some (omega arith),
+      many_within c.width-width.result c.min-n.result 1024 c.width-width.ensures.some (omega arith),
     )) ∙ ap (λ w. c.min-n.result * w) c.width-width.ensures.octets
 
 pub loop-done-preserved : goal.loop-done-preserved
@@ -38,7 +38,7 @@ loop-done-preserved g c =
     let more = c.args.count - c.loop-done.done - n in
     let whole : n + more ≡ c.args.count - c.loop-done.done = omega arith in
     let left : c.args.count - (c.loop-done.done + n) ≡ more = omega arith in
-    let room : n * w ≤ 512 = many_within w n 512 c.width-width.ensures.some (omega arith) in
+    let room : n * w ≤ 1024 = many_within w n 1024 c.width-width.ensures.some (omega arith) in
     record {
       so_far = ap (λ k. row_behind (map leaf (map f c.read_part.new.items.items)) k p (g.S.Source.octets c.read_part.new.src)) left
           ∙ sym (c.in_ok-read_part.ensures.exact more)

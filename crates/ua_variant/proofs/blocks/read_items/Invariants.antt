@@ -12,7 +12,7 @@ invariant-loop-done g l = record {
       ≡ row_at l.count (leaves_at g.T.Leaf.kind) (g.S.Source.octets l.fn.src);
   behind : StaysBehind (g.S.Source.octets l.fn.src) (g.S.Source.octets l.src);
   done : l.done ≤ l.count;
-  block : length l.block ≡ 512;
+  block : length l.block ≡ 1024;
 }
 
 abbrev pub decreases-loop-done : goal.decreases-loop-done

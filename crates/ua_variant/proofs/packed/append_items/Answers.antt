@@ -5,13 +5,13 @@ use Rattle.ua_variant.proofs.ValuesRead.{many_within, values_after}
 use Rattle.ua_variant.proofs.packed.append_items.Goals as goal
 
 pub overflow_mul-block : goal.overflow_mul-block
-overflow_mul-block g c = omega (arith, many_within c.width-width.result c.min-n.result 512 c.width-width.ensures.some (omega arith))
+overflow_mul-block g c = omega (arith, many_within c.width-width.result c.min-n.result 1024 c.width-width.ensures.some (omega arith))
 
 pub slice_bounds-block-end : goal.slice_bounds-block-end
 slice_bounds-block-end g c = omega (
   arith,
   c.loop-done.invariant.block,
-  many_within c.width-width.result c.min-n.result 512 c.width-width.ensures.some (omega arith),
+  many_within c.width-width.result c.min-n.result 1024 c.width-width.ensures.some (omega arith),
 )
 
 pub write_values-requires : goal.write_values-requires
@@ -23,7 +23,7 @@ write_values-requires g c =
     let room : n * w ≤ length c.loop-done.block = omega (
       arith,
       c.loop-done.invariant.block,
-      many_within w n 512 c.width-width.ensures.some (omega arith),
+      many_within w n 1024 c.width-width.ensures.some (omega arith),
     ) in
     let part : length (take (d + n - d) rest) ≡ n = length-take-le (d + n - d) rest (omega (arith, length-drop d c.args.items.now)) ∙ omega arith in
     record {
@@ -36,7 +36,7 @@ loop-done-preserved g c =
     let f = g.T.Leaf.as_leaf in
     let n = c.min-n.result in
     let w = c.width-width.result in
-    let room : n * w ≤ 512 = many_within w n 512 c.width-width.ensures.some (omega arith) in
+    let room : n * w ≤ 1024 = many_within w n 1024 c.width-width.ensures.some (omega arith) in
     let part : c.loop-done.done + n - c.loop-done.done ≡ n = omega arith in
     record {
       so_far = c.in_ok-extend_from_slice.ensures.items

@@ -8,7 +8,7 @@ abbrev pub invariant-loop-done : goal.invariant-loop-done
 invariant-loop-done g l = record {
   so_far : l.out.items ≡ l.fn.out.items ++ row_canonical (row (map leaf (map g.T.Leaf.as_leaf (take l.done l.items))));
   done : l.done ≤ length l.items;
-  block : length l.block ≡ 512;
+  block : length l.block ≡ 1024;
 }
 
 abbrev pub decreases-loop-done : goal.decreases-loop-done
