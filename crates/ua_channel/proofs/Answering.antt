@@ -1,5 +1,5 @@
 -- What is answered to events, and to whole pieces.
-use Rattle.std.proofs.Common.{◌≡◌, ℕ, ◌<◌, ◌≤◌, List, ◌++◌, Some, None, Result, Ok, Err, refl, sym, ◌∙◌, ap, subst, length, take}
+use Rattle.std.proofs.Common.{◌≡◌, ℕ, ◌<◌, ◌≤◌, List, ◌++◌, true, false, Some, None, Result, Ok, Err, refl, sym, ◌∙◌, ap, subst, length, take}
 use Rattle.std.proofs.Math.Seq.{take-length}
 use Rattle.ua_builtin.specs.declared.date_time.DateTime.{DateTime}
 use Rattle.ua_frame.specs.Frames.{frame_octets}
@@ -18,6 +18,7 @@ use Rattle.ua_channel.specs.ServerAnswers.{SendsOctets, AnswersAt}
 use Rattle.ua_channel.specs.inside.ServerSteps.{StandsWith, AnswersTo}
 use Rattle.ua_channel.specs.inside.Ends.{EndNexts}
 use Rattle.ua_channel.specs.inside.EndFaults.{of_end_fault}
+use Rattle.ua_channel.specs.ServerEvents.{is_closed}
 use Rattle.ua_channel.specs.ServerSends.{opened_frame}
 use Rattle.ua_channel.specs.ServerStands.{server_side, channel_of, limits_of, next_of, Goes, GoesTelling, IsDone, StarvedAt}
 use Rattle.ua_channel.specs.ServerTold.{Told, Told as told}
@@ -34,6 +35,10 @@ telling_counted x numbers octets before e g = record {
   told_is = g.told_is;
   tells = g.tells;
 }
+
+-- no other event closes a channel
+pub no_close : {A : Type 0} (e : Event) → is_closed e ≡ false → e ≡ inner.Closed → A
+no_close e goes_on is = let closed : is_closed e ≡ true = ap is_closed is in absurd cc
 
 -- what is sent where a token was issued
 pub opened_sends : (x : ServerChannel) (numbers : Numbers) (moment : DateTime) (octets sent : List ℕ) (before : List Told) (e : Event)

@@ -19,6 +19,7 @@ pub mod HeldTokens
 pub mod ClientFrames
 mod ClientGreets
 pub mod ClientAsking
+mod AskAnswers
 mod ClientStands
 mod AskedNext
 mod AskedOnce
@@ -28,6 +29,8 @@ mod ClientPhases
 pub mod ClientChunks
 mod ClientSteps
 mod MemoryLines
+mod MomentLists
 pub mod ClientSending
 mod ReplyLimits
+mod Replies
 pub mod Moving

@@ -8,7 +8,7 @@ use ua_chunk::{AssembleFault, OpenFault};
 use ua_frame::FrameFault;
 
 /// Why a frame is not taken.
-#[derive(Clone, Copy, Debug)]
+#[derive(Clone, Copy)]
 pub enum EndFault {
     /// This end refuses it.
     Refused(StatusCode),

@@ -60,7 +60,7 @@ pub fn append_opening(
 }
 
 /// The content of an OPN response.
-#[derive(Clone, Copy, Debug)]
+#[derive(Clone, Copy)]
 pub struct Opening {
     pub channel: u32,
     pub request: u32,

@@ -21,7 +21,7 @@ pub enum ServerEvent {
 }
 
 /// The event of a frame.
-#[derive(Debug, Drop)]
+#[derive(Drop)]
 pub enum Event {
     /// The ACK is to be sent.
     Agreed(Agreement),

@@ -25,7 +25,7 @@ const NO_SECURITY: i32 = 1;
 const HOUR: u32 = 3600000;
 
 /// What an OpenSecureChannel request asks for.
-#[derive(Clone, Copy, Debug)]
+#[derive(Clone, Copy)]
 pub struct Asked {
     pub kind: i32,
     pub mode: i32,
@@ -34,7 +34,7 @@ pub struct Asked {
 }
 
 /// What an OPN has opened, but for its token.
-#[derive(Clone, Copy, Debug)]
+#[derive(Clone, Copy)]
 pub struct Opened {
     pub sequence: u32,
     pub request: u32,

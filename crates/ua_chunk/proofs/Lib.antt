@@ -4,6 +4,7 @@ pub mod Assembles
 pub mod Bounds
 pub mod Carried
 pub mod ChunkHeaders
+pub mod CutFaults
 pub mod CutLaws
 pub mod Fresh
 pub mod HeadersLawful

@@ -97,14 +97,16 @@ moved_more old now new block end gap before at n m is le fits b e =
           ∙ ap (λ (k : ℕ). take k (drop at old)) all);
     }
 
+pub moved_none : (old : List ℕ) (end gap : ℕ) → MovedUp old end gap end old
+moved_none old end gap =
+    let none : end - end ≡ 0 = omega arith in
+    record { len = refl; front = refl; back = ap (λ (n : ℕ). take n (drop end old) ++ drop (end + gap) old) (sym none) }
+
 pub moved_few : (old new block : List ℕ) (start end gap : ℕ) → start ≤ end → end + gap ≤ length old → block ≡ take (end - start) (drop start old)
     → new ≡ take (start + gap) old ++ (block ++ drop ((start + gap) + (end - start)) old)
     → MovedUp old end gap start new
 moved_few old new block start end gap le fits b e =
-    let none : end - end ≡ 0 = omega arith in
-    let stay : MovedUp old end gap end old =
-    record { len = refl; front = refl; back = ap (λ (n : ℕ). take n (drop end old) ++ drop (end + gap) old) (sym none) } in
-    moved_more old old new block end gap end start (end - start) stay (omega arith) (omega arith) fits b e
+    moved_more old old new block end gap end start (end - start) (moved_none old end gap) (omega arith) (omega arith) fits b e
 
 -- ---- chunks that are placed
 
@@ -113,6 +115,14 @@ last_low len room some = omega (arith, div-add-mod' (len - 1) room)
 
 pub last_high : (len room : ℕ) → 0 < len → 0 < room → len ≤ (len - 1) / room * room + room
 last_high len room some pos = omega (arith, div-add-mod' (len - 1) room, mod_below (len - 1) room pos)
+
+one_added : (m room k : ℕ) → k ≡ m → k * room + room ≡ suc m * room
+one_added m room k e = ap (λ (j : ℕ). j * room + room) e ∙ omega arith
+
+-- the pieces before one, and that one
+pub one_less : (left room : ℕ) → 0 < left → (left - 1) * room + room ≡ left * room
+one_less zero room some = absurd (omega arith)
+one_less (suc m) room some = one_added m room (suc m - 1) (omega arith)
 
 pub record IsPlaced (head : List ℕ) (start end gap : ℕ) (old new : List ℕ) : Type 0 where
   pub len : length new ≡ length old

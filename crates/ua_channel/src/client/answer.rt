@@ -12,7 +12,7 @@ use ua_frame::Frame;
 use ua_opening::{OpenAnswer, OpenResponse, read_open_response};
 
 /// A good response to an OPN: its numbers, and the SecureChannelId and the TokenId that it brings.
-#[derive(Clone, Copy, Debug)]
+#[derive(Clone, Copy)]
 pub struct Answer {
     pub sequence: u32,
     pub request: u32,
@@ -21,7 +21,7 @@ pub struct Answer {
 }
 
 /// The token that a good response issues.
-#[derive(Clone, Copy, Debug)]
+#[derive(Clone, Copy)]
 pub struct IssuedToken {
     pub channel: u32,
     pub token: u32,
@@ -32,13 +32,15 @@ fn judge_response(response: OpenResponse) -> Result<IssuedToken, EndFault>
     ensures { Judged (response_reasons response) (Issues response) result }
 {
     let code = response.response_header.service_result;
+    let issued = IssuedToken {
+        channel: response.channel_id,
+        token: response.token_id,
+    };
+    drop(response);
     if code.is_bad() {
         return Err(EndFault::Refused(code));
     }
-    Ok(IssuedToken {
-        channel: response.channel_id,
-        token: response.token_id,
-    })
+    Ok(issued)
 }
 
 /// The token that the body of an OPN issues.

@@ -31,7 +31,7 @@ pub enum ClientEvent {
 }
 
 /// The event of a frame.
-#[derive(Debug, Drop)]
+#[derive(Drop)]
 pub enum Event {
     /// The server acknowledged.
     Agreed(Ack),

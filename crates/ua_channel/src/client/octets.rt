@@ -105,7 +105,9 @@ pub fn open_octets(alloc: Global, moment: DateTime) -> Result<Vec<u8>, AllocErro
 {
     bodies_of_the_channel_have_lengths();
     let request = OpenRequest::issue(moment, 0, TOKEN_LIFETIME);
-    request_octets(alloc, 0, 1, 1, &request)
+    let out = request_octets(alloc, 0, 1, 1, &request);
+    drop(request);
+    out
 }
 
 /// The OPN that renews the token of a channel.
@@ -120,7 +122,9 @@ pub fn renewal_octets(
 {
     bodies_of_the_channel_have_lengths();
     let request = OpenRequest::renew(moment, 0, TOKEN_LIFETIME);
-    request_octets(alloc, channel, number, id, &request)
+    let out = request_octets(alloc, channel, number, id, &request);
+    drop(request);
+    out
 }
 
 /// Appends the headers before the request of a CLO.
@@ -157,8 +161,10 @@ pub fn close_octets(
     append_closing(channel, token, number, id, &mut out)?;
     let request = CloseRequest::new(moment, 0);
     bodies_of_the_channel_have_lengths();
+    let written = write_close_request(&request, &mut out);
+    drop(request);
     // The request can be encoded, so a fault is a failed allocation.
-    match write_close_request(&request, &mut out) {
+    match written {
         Ok(()) => Ok(out),
         Err(_) => Err(AllocError),
     }

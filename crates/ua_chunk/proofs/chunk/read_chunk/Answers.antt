@@ -1,4 +1,4 @@
-use Rattle.std.proofs.Common.{sym, ◌∙◌, ap, drop}
+use Rattle.std.proofs.Common.{ℕ, List, length, length-drop, arith, sym, ◌∙◌, ap, drop}
 use Rattle.ua_wire.specs.Number.{number_at}
 use Rattle.ua_chunk.proofs.Carried.{chunk_found}
 use Rattle.ua_chunk.proofs.Layouts.{sixteen, chunk_is}
@@ -22,3 +22,45 @@ returns-clause-chunk c =
 
 pub returns-clause-found : goal.returns-clause-found
 returns-clause-found c = chunk_found c.args.frame _ (returns-clause-chunk c)
+
+pub front_number-channel-requires : goal.front_number-channel-requires
+front_number-channel-requires c = omega (arith, c.requires.body, ap (λ (t : List ℕ). length t) c.deref.ensures)
+
+pub front_number-token-requires : goal.front_number-token-requires
+front_number-token-requires c =
+    omega (
+      arith,
+      c.requires.body,
+      ap (λ (t : List ℕ). length t) c.deref.ensures,
+      ap (λ (t : List ℕ). length t) c.front_number-channel.ensures.rest,
+      length-drop 4 c.deref.result.now,
+    )
+
+pub front_number-sequence-requires : goal.front_number-sequence-requires
+front_number-sequence-requires c =
+    omega (
+      arith,
+      c.requires.body,
+      ap (λ (t : List ℕ). length t) c.deref.ensures,
+      ap (λ (t : List ℕ). length t) c.front_number-channel.ensures.rest,
+      length-drop 4 c.deref.result.now,
+      ap (λ (t : List ℕ). length t) c.front_number-token.ensures.rest,
+      length-drop 4 c.front_number-channel.result.1.now,
+    )
+
+pub front_number-request-requires : goal.front_number-request-requires
+front_number-request-requires c =
+    omega (
+      arith,
+      c.requires.body,
+      ap (λ (t : List ℕ). length t) c.deref.ensures,
+      ap (λ (t : List ℕ). length t) c.front_number-channel.ensures.rest,
+      length-drop 4 c.deref.result.now,
+      ap (λ (t : List ℕ). length t) c.front_number-token.ensures.rest,
+      length-drop 4 c.front_number-channel.result.1.now,
+      ap (λ (t : List ℕ). length t) c.front_number-sequence.ensures.rest,
+      length-drop 4 c.front_number-token.result.1.now,
+    )
+
+pub from_octet-requires : goal.from_octet-requires
+from_octet-requires c = c.requires.flag

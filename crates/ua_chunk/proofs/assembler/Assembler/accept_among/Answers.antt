@@ -1,5 +1,6 @@
 use Rattle.std.proofs.Common.{sym, ◌∙◌, refl, arith}
 use Rattle.ua_chunk.proofs.Assembles.{delivered_is, given_is, parts_are, refusal_is, fault_is_for, stays}
+use Rattle.std.proofs.lemmas.Bool.{both_ways}
 use Rattle.ua_chunk.proofs.assembler.Assembler.accept_among.Goals as goal
 
 pub returns-in-Some-clause-faults : goal.returns-in-Some-clause-faults
@@ -42,3 +43,48 @@ returns-in-Err-clause-faults c = λ cs s.
     refusal_is c.args.self.now (record c.args.self.now { pending = c.take_out-pending.new.self }) cs c.args.chunk s (omega arith) refl refl refl
     c.take_out-pending.ensures.rest
     ∙ rw (← c.take_out-pending.ensures.taken) (sym c.in_default.ensures)
+
+pub returns-then-self-clause-faults : goal.returns-then-self-clause-faults
+returns-then-self-clause-faults c = λ cs s. both_ways _ s.goes_on c.if-self.true
+
+pub returns-then-self-clause-failed : goal.returns-then-self-clause-failed
+returns-then-self-clause-failed c = λ cs s. absurd (both_ways _ s.goes_on c.if-self.true)
+
+pub returns-in-Some-clause-limits : goal.returns-in-Some-clause-limits
+returns-in-Some-clause-limits c = record { octets = c.close.ensures.limits.octets; chunks = c.close.ensures.limits.chunks }
+
+pub returns-in-Some-clause-failed : goal.returns-in-Some-clause-failed
+returns-in-Some-clause-failed c = λ cs s. c.close.ensures.closed
+
+pub returns-in-Some-clause-closed : goal.returns-in-Some-clause-closed
+returns-in-Some-clause-closed c = λ k. absurd (both_ways _ c.if-self.false k.closed)
+
+pub returns-in-Some-clause-unchanged : goal.returns-in-Some-clause-unchanged
+returns-in-Some-clause-unchanged c = λ k. absurd (both_ways _ c.if-self.false k.closed)
+
+pub returns-in-Ok-clause-last : goal.returns-in-Ok-clause-last
+returns-in-Ok-clause-last c = c.in-Ok.ensures.last
+
+pub returns-in-Ok-clause-limits : goal.returns-in-Ok-clause-limits
+returns-in-Ok-clause-limits c = record { octets = c.in-Ok.ensures.limits.octets; chunks = c.in-Ok.ensures.limits.chunks }
+
+pub returns-in-Ok-clause-closed : goal.returns-in-Ok-clause-closed
+returns-in-Ok-clause-closed c = λ k. absurd (both_ways _ c.if-self.false k.closed)
+
+pub returns-in-Ok-clause-unchanged : goal.returns-in-Ok-clause-unchanged
+returns-in-Ok-clause-unchanged c = λ k. absurd (both_ways _ c.if-self.false k.closed)
+
+pub returns-in-Err-clause-limits : goal.returns-in-Err-clause-limits
+returns-in-Err-clause-limits c = record {
+  octets = c.in-Err.ensures.limits.octets ∙ c.close-in-Err.ensures.limits.octets;
+  chunks = c.in-Err.ensures.limits.chunks ∙ c.close-in-Err.ensures.limits.chunks;
+}
+
+pub returns-in-Err-clause-failed : goal.returns-in-Err-clause-failed
+returns-in-Err-clause-failed c = λ cs s. c.close-in-Err.ensures.closed
+
+pub returns-in-Err-clause-closed : goal.returns-in-Err-clause-closed
+returns-in-Err-clause-closed c = λ k. absurd (both_ways _ c.if-self.false k.closed)
+
+pub returns-in-Err-clause-unchanged : goal.returns-in-Err-clause-unchanged
+returns-in-Err-clause-unchanged c = λ k. absurd (both_ways _ c.if-self.false k.closed)
