@@ -13,8 +13,8 @@ LONGEST = 160
 def filled(start: str, names: list[str], end: str) -> str:
     """A macro over a list of fields, on as many lines as it takes.
 
-    >>> filled("append_fields!(self, out => ", ["a", "b"], ")")
-    'append_fields!(self, out => a, b)'
+    >>> filled("are_encodable!(self => ", ["a", "b"], ")")
+    'are_encodable!(self => a, b)'
     """
     line = f"{start}{', '.join(names)}{end}"
     if len(line) > 92:
@@ -47,11 +47,49 @@ def read_of(s: Structure, k: Schema) -> str:
     return filled(f"read_fields!(alloc, src, depth => {s.name} {{ ", s.names(), " })")
 
 
+def pairs_of(s: Structure) -> int:
+    """How many pairs of its fields are appended before the last two or three.
+
+    >>> [pairs_of(Structure("A", "", "a", [("b", "UInt32")] * n)) for n in (1, 3, 4, 7)]
+    [0, 0, 1, 2]
+    """
+    return 0 if s.by("appended by ") else max(len(s.fields) - 2, 0) // 2
+
+
 def append_of(s: Structure) -> str:
-    """The body that appends it."""
-    if s.by("appended by "):
-        return f"{s.by('appended by ')}({', '.join('&self.' + it for it in s.names())}, out)"
-    return filled("append_fields!(self, out => ", s.names(), ")")
+    """The body that appends it: two fields in each call, in the last one two or three.
+
+    >>> append_of(Structure("A", "", "a", [(it, "UInt32") for it in "bcdef"]))
+    'append_two(&self.b, &self.c, out)?;\\n        append_three(&self.d, &self.e, &self.f, out)'
+    """
+    names, pairs = ["&self." + it for it in s.names()], 2 * pairs_of(s)
+    if s.by("appended by ") or len(names) == 1:
+        return f"{s.by('appended by ')}({', '.join(names)}, out)" if s.by("appended by ") else f"self.{s.names()[0]}.append(out)"
+    calls = [f"append_two({names[i]}, {names[i + 1]}, out)?;\n        " for i in range(0, pairs, 2)]
+    return "".join(calls) + f"append_{'three' if len(names) % 2 else 'two'}({', '.join(names[pairs:])}, out)"
+
+
+def append_answer_of(s: Structure, k: Schema) -> str:
+    """That these calls append what its format says, and at an error a part of it."""
+    calls = [f"append_two{f'-{i + 1}' * (i > 0)}" for i in range(pairs_of(s) + 1)]
+    last = "append_three" if len(s.fields) % 2 else calls[-1]
+    outs = ["c.args.out.now.items"] + [f"c.{call}.new.out.items" for call in calls]
+    firsts = [f"({braced(k.word('format', kind))}.canonical c.args.self.now.{name})" for name, kind in s.fields[::2]]
+    ok, errors = f"c.{last}.ensures.ok", ""
+    for i in reversed(range(pairs_of(s))):
+        ok = f"pair_more c.{last}.result {outs[i]} _ _ {firsts[i]} _ _ c.in_ok-{calls[i]}.ensures.ok\n    {braced(ok)}"
+    for i in range(1, pairs_of(s) + 1):
+        is_last = i == pairs_of(s)
+        goal, result = ("returns", last) if is_last else (f"returns-in_err-{calls[i]}", f"from_residual-in_err-{calls[i]}")
+        err = f"c.{last}.ensures.err" if is_last else f"on_err r c.in_err-{calls[i]}.ensures.err"
+        for j in reversed(range(i)):
+            err = f"more_then r {outs[j]} _ _ _ c.in_ok-{calls[j]}.ensures.ok\n    {braced(err)}"
+        errors += f"\npub {goal}-clause-err : goal.{goal}-clause-err\n{goal}-clause-err c =\n    let r = c.{result}.result in\n    {err}\n"
+    return f"""pub returns-clause-ok : goal.returns-clause-ok
+unfolding {s.word}
+returns-clause-ok c =
+    {ok}
+{errors}"""
 
 
 def wire_of(s: Structure, k: Schema) -> str:

@@ -8,7 +8,7 @@ import subprocess
 import tempfile
 from typing import Iterable
 
-from add_service_parts.forms import entries_of, format_of, lemma_of, lines_of, printed_answer_of, printed_of, skip_of, wire_of
+from add_service_parts.forms import append_answer_of, entries_of, format_of, lemma_of, lines_of, pairs_of, printed_answer_of, printed_of, skip_of, wire_of
 from add_service_parts.schema import File, Schema, Structure, title_case
 from add_service_parts.texts import FIELDS, OPENING, STRUCTURES, text_of
 from add_service_parts.words import COMMON, SOUND_FILE, TREE_FILE
@@ -68,7 +68,7 @@ def wire_file(file: File, k: Schema) -> str:
     names = [(s.name, f"crate::{s.declared_in}") for s in file.structures]
     names += [(s.by("appended by "), f"crate::{s.declared_in}") for s in file.structures if s.by("appended by ")]
     names += [("AllocError", "std::alloc"), ("Global", "std::alloc")] + [(it, "ua_builtin") for it in ("ReadFault", "Source", "Wire")]
-    names += [(it, "crate" if own else "ua_opening") for it in ("append_fields", "are_encodable", "read_fields") if f"{it}!" in body]
+    names += [(it, "crate" if own else "ua_opening") for it in ("are_encodable", "read_fields") if f"{it}!" in body]
     counts = [len(s.fields) for s in file.structures if not s.by("appended by ")]
     names += [("append_two", "ua_wire")] * any(n % 2 == 0 or n > 3 for n in counts) + [("append_three", "ua_wire")] * any(n % 2 and n > 1 for n in counts)
     for s in file.structures:
@@ -111,6 +111,17 @@ def sound_file(file: File, k: Schema) -> str:
     return text if found else ""
 
 
+def append_answers_file(s: Structure, file: File, k: Schema) -> str:
+    """That a structure of more than three fields is appended as its format says."""
+    goals = f"Rattle.{s.library}.proofs.{file.module}_wire.{s.name}Wire.append.Goals"
+    lemmas = ["pair_more", "more_then"] + ["on_err"] * (pairs_of(s) > 1)
+    names = [(it, "Rattle.ua_opening.proofs.Appends") for it in lemmas] + [(s.word, f"Rattle.{s.library}.specs.{s.spec}")]
+    for _, kind in s.fields[:2 * pairs_of(s):2]:
+        words = k.word("format", kind).replace("(", "").replace(")", "").split()
+        names += [(it, COMMON[it]) for it in words[:-1]] + [(words[-1], k.of(kind.removesuffix("[]")).origin)]
+    return head(file, "--", "The fields are appended in order.") + imports(names) + f"use {goals} as goal\n\n" + append_answer_of(s, k)
+
+
 def lines_file(file: File, k: Schema) -> str:
     """The structures of a module as lines."""
     found = [s for s in file.structures if s.has_lines()]
@@ -147,6 +158,8 @@ def generated(k: Schema) -> dict[str, str]:
                   f"{file.crate}/proofs/{spec}Sound.antt": sound_file(file, k), f"{FIELDS}/src/{file.module}.rt": lines_file(file, k),
                   f"{FIELDS}/specs/{spec}.antt": tree_file(file, k)}
         for s in file.structures:
+            if pairs_of(s):
+                found[f"{s.crate}/proofs/{file.module}_wire/{s.name}Wire/append/Answers.antt"] = append_answers_file(s, file, k)
             if s.has_lines():
                 path = f"{FIELDS}/proofs/{file.module}/{s.name}Printed/print/Answers.antt"
                 found[path] = head(file, "--", "What is printed are the lines of its fields.") + printed_answer_of(s, k)

@@ -11,6 +11,7 @@ pub mod FlatsBack
 pub mod DiagnosticsBack
 pub mod FormatsBack
 pub mod Sound
+pub mod Appends
 pub mod MessagesLawful
 pub mod BodyLaws
 pub mod BodyRead

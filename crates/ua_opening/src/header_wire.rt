@@ -2,7 +2,7 @@
 //! Decodes and encodes the structures of the headers and the ServiceFault.
 
 use crate::header::{RequestHeader, ResponseHeader, ServiceFault};
-use crate::{append_fields, are_encodable, read_fields};
+use crate::{are_encodable, read_fields};
 use std::alloc::{AllocError, Global};
 use ua_builtin::{ReadFault, Source, Wire};
 use ua_wire::{append_three, append_two};
@@ -38,9 +38,13 @@ impl Wire for RequestHeader {
 
     #[tactic(auto, unfolding(crate::specs::Header::request_header))]
     fn append(&self, out: &mut Vec<u8>) -> Result<(), AllocError> {
-        append_fields!(self, out =>
-            authentication_token, timestamp, request_handle, return_diagnostics, audit_entry_id,
-            timeout_hint, additional_header
+        append_two(&self.authentication_token, &self.timestamp, out)?;
+        append_two(&self.request_handle, &self.return_diagnostics, out)?;
+        append_three(
+            &self.audit_entry_id,
+            &self.timeout_hint,
+            &self.additional_header,
+            out,
         )
     }
 }
@@ -76,10 +80,9 @@ impl Wire for ResponseHeader {
 
     #[tactic(auto, unfolding(crate::specs::Header::response_header))]
     fn append(&self, out: &mut Vec<u8>) -> Result<(), AllocError> {
-        append_fields!(self, out =>
-            timestamp, request_handle, service_result, service_diagnostics, string_table,
-            additional_header
-        )
+        append_two(&self.timestamp, &self.request_handle, out)?;
+        append_two(&self.service_result, &self.service_diagnostics, out)?;
+        append_two(&self.string_table, &self.additional_header, out)
     }
 }
 
@@ -104,6 +107,6 @@ impl Wire for ServiceFault {
 
     #[tactic(auto, unfolding(crate::specs::Header::service_fault))]
     fn append(&self, out: &mut Vec<u8>) -> Result<(), AllocError> {
-        append_fields!(self, out => response_header)
+        self.response_header.append(out)
     }
 }

@@ -2,7 +2,7 @@
 //! Decodes and encodes the structures of the SecureChannel services.
 
 use crate::secure_channel::{CloseRequest, OpenRequest, OpenResponse};
-use crate::{append_fields, are_encodable, read_fields};
+use crate::{are_encodable, read_fields};
 use std::alloc::{AllocError, Global};
 use ua_builtin::{ReadFault, Source, Wire};
 use ua_wire::{append_three, append_two};
@@ -34,10 +34,9 @@ impl Wire for OpenRequest {
 
     #[tactic(auto, unfolding(crate::specs::SecureChannel::open_request))]
     fn append(&self, out: &mut Vec<u8>) -> Result<(), AllocError> {
-        append_fields!(self, out =>
-            request_header, client_protocol_version, request_type, security_mode, client_nonce,
-            requested_lifetime
-        )
+        append_two(&self.request_header, &self.client_protocol_version, out)?;
+        append_two(&self.request_type, &self.security_mode, out)?;
+        append_two(&self.client_nonce, &self.requested_lifetime, out)
     }
 }
 
@@ -68,9 +67,13 @@ impl Wire for OpenResponse {
 
     #[tactic(auto, unfolding(crate::specs::SecureChannel::open_response))]
     fn append(&self, out: &mut Vec<u8>) -> Result<(), AllocError> {
-        append_fields!(self, out =>
-            response_header, server_protocol_version, channel_id, token_id, created_at,
-            revised_lifetime, server_nonce
+        append_two(&self.response_header, &self.server_protocol_version, out)?;
+        append_two(&self.channel_id, &self.token_id, out)?;
+        append_three(
+            &self.created_at,
+            &self.revised_lifetime,
+            &self.server_nonce,
+            out,
         )
     }
 }
@@ -96,6 +99,6 @@ impl Wire for CloseRequest {
 
     #[tactic(auto, unfolding(crate::specs::SecureChannel::close_request))]
     fn append(&self, out: &mut Vec<u8>) -> Result<(), AllocError> {
-        append_fields!(self, out => request_header)
+        self.request_header.append(out)
     }
 }

@@ -7,7 +7,7 @@ use crate::attribute::{
 };
 use std::alloc::{AllocError, Global};
 use ua_builtin::{NodeId, QualifiedName, ReadFault, Source, UaString, Wire};
-use ua_opening::{append_fields, are_encodable, read_fields};
+use ua_opening::{are_encodable, read_fields};
 use ua_wire::{append_three, append_two};
 
 impl Wire for ReadValueId {
@@ -40,7 +40,8 @@ impl Wire for ReadValueId {
 
     #[tactic(auto, unfolding(crate::specs::Attribute::read_value_id))]
     fn append(&self, out: &mut Vec<u8>) -> Result<(), AllocError> {
-        append_fields!(self, out => node_id, attribute_id, index_range, data_encoding)
+        append_two(&self.node_id, &self.attribute_id, out)?;
+        append_two(&self.index_range, &self.data_encoding, out)
     }
 }
 
@@ -72,7 +73,8 @@ impl Wire for ReadRequest {
 
     #[tactic(auto, unfolding(crate::specs::Attribute::read_request))]
     fn append(&self, out: &mut Vec<u8>) -> Result<(), AllocError> {
-        append_fields!(self, out => request_header, max_age, timestamps_to_return, nodes_to_read)
+        append_two(&self.request_header, &self.max_age, out)?;
+        append_two(&self.timestamps_to_return, &self.nodes_to_read, out)
     }
 }
 
@@ -134,7 +136,8 @@ impl Wire for WriteValue {
 
     #[tactic(auto, unfolding(crate::specs::Attribute::write_value))]
     fn append(&self, out: &mut Vec<u8>) -> Result<(), AllocError> {
-        append_fields!(self, out => node_id, attribute_id, index_range, value)
+        append_two(&self.node_id, &self.attribute_id, out)?;
+        append_two(&self.index_range, &self.value, out)
     }
 }
 
@@ -159,7 +162,7 @@ impl Wire for WriteRequest {
 
     #[tactic(auto, unfolding(crate::specs::Attribute::write_request))]
     fn append(&self, out: &mut Vec<u8>) -> Result<(), AllocError> {
-        append_fields!(self, out => request_header, nodes_to_write)
+        append_two(&self.request_header, &self.nodes_to_write, out)
     }
 }
 
@@ -186,6 +189,11 @@ impl Wire for WriteResponse {
 
     #[tactic(auto, unfolding(crate::specs::Attribute::write_response))]
     fn append(&self, out: &mut Vec<u8>) -> Result<(), AllocError> {
-        append_fields!(self, out => response_header, results, diagnostic_infos)
+        append_three(
+            &self.response_header,
+            &self.results,
+            &self.diagnostic_infos,
+            out,
+        )
     }
 }

@@ -7,7 +7,7 @@ use crate::discovery::{
 };
 use std::alloc::{AllocError, Global};
 use ua_builtin::{ReadFault, Source, Wire};
-use ua_opening::{append_fields, are_encodable, read_fields};
+use ua_opening::{are_encodable, read_fields};
 use ua_wire::{append_three, append_two};
 
 impl Wire for ApplicationDescription {
@@ -37,9 +37,13 @@ impl Wire for ApplicationDescription {
 
     #[tactic(auto, unfolding(crate::specs::Discovery::application_description))]
     fn append(&self, out: &mut Vec<u8>) -> Result<(), AllocError> {
-        append_fields!(self, out =>
-            application_uri, product_uri, application_name, application_type, gateway_server_uri,
-            discovery_profile_uri, discovery_urls
+        append_two(&self.application_uri, &self.product_uri, out)?;
+        append_two(&self.application_name, &self.application_type, out)?;
+        append_three(
+            &self.gateway_server_uri,
+            &self.discovery_profile_uri,
+            &self.discovery_urls,
+            out,
         )
     }
 }
@@ -69,8 +73,12 @@ impl Wire for UserTokenPolicy {
 
     #[tactic(auto, unfolding(crate::specs::Discovery::user_token_policy))]
     fn append(&self, out: &mut Vec<u8>) -> Result<(), AllocError> {
-        append_fields!(self, out =>
-            policy_id, token_type, issued_token_type, issuer_endpoint_url, security_policy_uri
+        append_two(&self.policy_id, &self.token_type, out)?;
+        append_three(
+            &self.issued_token_type,
+            &self.issuer_endpoint_url,
+            &self.security_policy_uri,
+            out,
         )
     }
 }
@@ -102,10 +110,10 @@ impl Wire for EndpointDescription {
 
     #[tactic(auto, unfolding(crate::specs::Discovery::endpoint_description))]
     fn append(&self, out: &mut Vec<u8>) -> Result<(), AllocError> {
-        append_fields!(self, out =>
-            endpoint_url, server, server_certificate, security_mode, security_policy_uri,
-            user_identity_tokens, transport_profile_uri, security_level
-        )
+        append_two(&self.endpoint_url, &self.server, out)?;
+        append_two(&self.server_certificate, &self.security_mode, out)?;
+        append_two(&self.security_policy_uri, &self.user_identity_tokens, out)?;
+        append_two(&self.transport_profile_uri, &self.security_level, out)
     }
 }
 
@@ -132,7 +140,8 @@ impl Wire for GetEndpointsRequest {
 
     #[tactic(auto, unfolding(crate::specs::Discovery::get_endpoints_request))]
     fn append(&self, out: &mut Vec<u8>) -> Result<(), AllocError> {
-        append_fields!(self, out => request_header, endpoint_url, locale_ids, profile_uris)
+        append_two(&self.request_header, &self.endpoint_url, out)?;
+        append_two(&self.locale_ids, &self.profile_uris, out)
     }
 }
 
@@ -157,6 +166,6 @@ impl Wire for GetEndpointsResponse {
 
     #[tactic(auto, unfolding(crate::specs::Discovery::get_endpoints_response))]
     fn append(&self, out: &mut Vec<u8>) -> Result<(), AllocError> {
-        append_fields!(self, out => response_header, endpoints)
+        append_two(&self.response_header, &self.endpoints, out)
     }
 }

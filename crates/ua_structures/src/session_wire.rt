@@ -8,7 +8,7 @@ use crate::session::{
 use crate::signature::{SignatureData, SignedSoftwareCertificate};
 use std::alloc::{AllocError, Global};
 use ua_builtin::{ReadFault, Source, Wire};
-use ua_opening::{append_fields, are_encodable, read_fields};
+use ua_opening::{are_encodable, read_fields};
 use ua_wire::{append_three, append_two};
 
 impl Wire for SignedSoftwareCertificate {
@@ -32,7 +32,7 @@ impl Wire for SignedSoftwareCertificate {
 
     #[tactic(auto, unfolding(crate::specs::Session::signed_software_certificate))]
     fn append(&self, out: &mut Vec<u8>) -> Result<(), AllocError> {
-        append_fields!(self, out => certificate_data, signature)
+        append_two(&self.certificate_data, &self.signature, out)
     }
 }
 
@@ -57,7 +57,7 @@ impl Wire for SignatureData {
 
     #[tactic(auto, unfolding(crate::specs::Session::signature_data))]
     fn append(&self, out: &mut Vec<u8>) -> Result<(), AllocError> {
-        append_fields!(self, out => algorithm, signature)
+        append_two(&self.algorithm, &self.signature, out)
     }
 }
 
@@ -82,7 +82,7 @@ impl Wire for AnonymousIdentityToken {
 
     #[tactic(auto, unfolding(crate::specs::Session::anonymous_identity_token))]
     fn append(&self, out: &mut Vec<u8>) -> Result<(), AllocError> {
-        append_fields!(self, out => policy_id)
+        self.policy_id.append(out)
     }
 }
 
@@ -113,9 +113,14 @@ impl Wire for CreateSessionRequest {
 
     #[tactic(auto, unfolding(crate::specs::Session::create_session_request))]
     fn append(&self, out: &mut Vec<u8>) -> Result<(), AllocError> {
-        append_fields!(self, out =>
-            request_header, client_description, server_uri, endpoint_url, session_name,
-            client_nonce, client_certificate, requested_session_timeout, max_response_message_size
+        append_two(&self.request_header, &self.client_description, out)?;
+        append_two(&self.server_uri, &self.endpoint_url, out)?;
+        append_two(&self.session_name, &self.client_nonce, out)?;
+        append_three(
+            &self.client_certificate,
+            &self.requested_session_timeout,
+            &self.max_response_message_size,
+            out,
         )
     }
 }
@@ -149,11 +154,19 @@ impl Wire for CreateSessionResponse {
 
     #[tactic(auto, unfolding(crate::specs::Session::create_session_response))]
     fn append(&self, out: &mut Vec<u8>) -> Result<(), AllocError> {
-        append_fields!(self, out =>
-            response_header, session_id, authentication_token, revised_session_timeout,
-            server_nonce, server_certificate, server_endpoints, server_software_certificates,
-            server_signature, max_request_message_size
-        )
+        append_two(&self.response_header, &self.session_id, out)?;
+        append_two(
+            &self.authentication_token,
+            &self.revised_session_timeout,
+            out,
+        )?;
+        append_two(&self.server_nonce, &self.server_certificate, out)?;
+        append_two(
+            &self.server_endpoints,
+            &self.server_software_certificates,
+            out,
+        )?;
+        append_two(&self.server_signature, &self.max_request_message_size, out)
     }
 }
 
@@ -184,10 +197,9 @@ impl Wire for ActivateSessionRequest {
 
     #[tactic(auto, unfolding(crate::specs::Session::activate_session_request))]
     fn append(&self, out: &mut Vec<u8>) -> Result<(), AllocError> {
-        append_fields!(self, out =>
-            request_header, client_signature, client_software_certificates, locale_ids,
-            user_identity_token, user_token_signature
-        )
+        append_two(&self.request_header, &self.client_signature, out)?;
+        append_two(&self.client_software_certificates, &self.locale_ids, out)?;
+        append_two(&self.user_identity_token, &self.user_token_signature, out)
     }
 }
 
@@ -214,7 +226,8 @@ impl Wire for ActivateSessionResponse {
 
     #[tactic(auto, unfolding(crate::specs::Session::activate_session_response))]
     fn append(&self, out: &mut Vec<u8>) -> Result<(), AllocError> {
-        append_fields!(self, out => response_header, server_nonce, results, diagnostic_infos)
+        append_two(&self.response_header, &self.server_nonce, out)?;
+        append_two(&self.results, &self.diagnostic_infos, out)
     }
 }
 
@@ -241,7 +254,7 @@ impl Wire for CloseSessionRequest {
 
     #[tactic(auto, unfolding(crate::specs::Session::close_session_request))]
     fn append(&self, out: &mut Vec<u8>) -> Result<(), AllocError> {
-        append_fields!(self, out => request_header, delete_subscriptions)
+        append_two(&self.request_header, &self.delete_subscriptions, out)
     }
 }
 
@@ -266,6 +279,6 @@ impl Wire for CloseSessionResponse {
 
     #[tactic(auto, unfolding(crate::specs::Session::close_session_response))]
     fn append(&self, out: &mut Vec<u8>) -> Result<(), AllocError> {
-        append_fields!(self, out => response_header)
+        self.response_header.append(out)
     }
 }

@@ -1,0 +1,29 @@
+-- Written by `tools/add_service.py --write` from `schema/discovery.txt`.
+-- The fields are appended in order.
+use Rattle.ua_builtin.specs.Format.{flat}
+use Rattle.ua_builtin.specs.LocalizedText.{localized_text}
+use Rattle.ua_opening.proofs.Appends.{more_then, on_err, pair_more}
+use Rattle.ua_opening.specs.Field.{string}
+use Rattle.ua_structures.specs.Discovery.{application_description}
+use Rattle.ua_structures.proofs.discovery_wire.ApplicationDescriptionWire.append.Goals as goal
+
+pub returns-clause-ok : goal.returns-clause-ok
+unfolding application_description
+returns-clause-ok c =
+    pair_more c.append_three.result c.args.out.now.items _ _ (string.canonical c.args.self.now.application_uri) _ _ c.in_ok-append_two.ensures.ok
+    (pair_more c.append_three.result c.append_two.new.out.items _ _ ((flat localized_text).canonical c.args.self.now.application_name) _ _
+    c.in_ok-append_two-2.ensures.ok
+    c.append_three.ensures.ok)
+
+pub returns-in_err-append_two-2-clause-err : goal.returns-in_err-append_two-2-clause-err
+returns-in_err-append_two-2-clause-err c =
+    let r = c.from_residual-in_err-append_two-2.result in
+    more_then r c.args.out.now.items _ _ _ c.in_ok-append_two.ensures.ok
+    (on_err r c.in_err-append_two-2.ensures.err)
+
+pub returns-clause-err : goal.returns-clause-err
+returns-clause-err c =
+    let r = c.append_three.result in
+    more_then r c.args.out.now.items _ _ _ c.in_ok-append_two.ensures.ok
+    (more_then r c.append_two.new.out.items _ _ _ c.in_ok-append_two-2.ensures.ok
+    c.append_three.ensures.err)
