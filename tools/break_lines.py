@@ -4,8 +4,7 @@
 A line of a .rt file has at most 120 columns, one of an .antt file 160. A clause or a term is broken where few brackets
 are open, before an operator where that can be; an import of many names becomes several. Code, and attributes, which
 `rt fmt` keeps on one line, stay as they are; it lays out what was broken. --check tells each line that is
-too long, and could be broken, but of an .antt file only over 164 columns: to break a line of a proof is to prove
-again all crates above it. The status is 1 where there is one.
+too long, and could be broken; the status is 1 where there is one.
 """
 from __future__ import annotations
 
@@ -25,9 +24,6 @@ LEADING = ("λ", "let", "pub", "Type", "abbrev", "record", "module", "ensures", 
 TRAILING = ("=", ":", "}", ".", "where", "{", ";", ",")
 CODE = ("//", "#[", "use ", "fn ", "pub fn", "println", "return", "assert", "help: ")
 USE = re.compile(r"^(\s*(?:pub )?(?:ghost )?(?:pub )?use [^{]*\.\{)(.*)(\};?)$")
-
-# Up to how many columns --check lets a line of an .antt file pass.
-SUFFERED = 164
 
 
 def places(text: str) -> list[tuple[int, bool]]:
@@ -209,8 +205,7 @@ def main(words: list[str]) -> int:
             break_crate(crate)
         return 0
     long = [(path, number + 1) for crate in crates for path in files(crate)
-            for number, line in enumerate(read(path).split("\n"))
-            if (path.endswith(".rt") or len(line) > SUFFERED) and lines_of(line, path.endswith(".rt")) != [line]]
+            for number, line in enumerate(read(path).split("\n")) if lines_of(line, path.endswith(".rt")) != [line]]
     for path, number in long:
         print(f"{os.path.relpath(path, TOP)}:{number}: too long")
     print(f"break_lines: {len(long)} lines are too long")

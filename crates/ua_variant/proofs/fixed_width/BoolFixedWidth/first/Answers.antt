@@ -15,5 +15,6 @@ pub returns : goal.returns
 unfolding leaf_at least_octets boolean_format
 returns c =
     record {
-      read = made_byte is_set boolean c.args.octets.now (is_set (slice_index c.args.octets.now 0)) c.requires.whole (λ i. omega (arith, c.type_inv.octets i)) refl;
+      read = made_byte is_set boolean c.args.octets.now (is_set (slice_index c.args.octets.now 0)) c.requires.whole (λ i. omega (arith, c.type_inv.octets i))
+          refl;
     }

@@ -16,4 +16,5 @@ copy_from_slice-requires c = sym (length-take-le 16 c.args.octets.now c.requires
 
 pub returns : goal.returns
 unfolding leaf_at least_octets guid_format
-returns c = record { read = guid_first c.args.octets.now _ c.requires.whole (same_guid c.args.octets.now c.from_bytes_le.ensures c.copy_from_slice.ensures.after) }
+returns c =
+    record { read = guid_first c.args.octets.now _ c.requires.whole (same_guid c.args.octets.now c.from_bytes_le.ensures c.copy_from_slice.ensures.after) }
