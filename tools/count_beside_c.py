@@ -4,7 +4,8 @@
 count_beside_c PROGRAM [ROW..]: PROGRAM is crates/bench_messages/out/bench_messages, as `rt run` builds it. It writes
 the octets, builds tools/plain_c twice (gcc -O2, and clang -O3 for x86-64-v2, as the program is built), runs all
 under callgrind with two numbers of turns each, and prints for each row the difference for one unit: the
-program's instructions, those of both builds of C, and the ratios to them. With names of rows, those alone.
+program's instructions, those of both builds of C, and the ratios to them. With names of rows, those alone. Where
+crates/ua_c/out/libua_c.a is built, two calls of the C library are counted too, within examples/c/steps.c.
 """
 from __future__ import annotations
 
@@ -16,6 +17,7 @@ import sys
 import tempfile
 from collections.abc import Callable
 
+TOP = os.path.dirname(os.path.dirname(os.path.abspath(__file__)))
 MOMENT = 132000000000000000
 URL = b'opc.tcp://localhost:4840'
 POLICY = b'http://opcfoundation.org/UA/SecurityPolicy#None'
@@ -167,27 +169,30 @@ ROWS = [
     ('step-large', 'step client-large N nodes', 'step client-large N nodes', (6, 11, 1000), (6, 11, 1000)),
     ('step-write', 'step client-writes N nodes', 'step client-writes N nodes', (100, 600, 1), (100, 600, 1)),
     ('step-write-large', 'step client-writes-large N nodes', 'step client-writes-large N nodes', (6, 11, 1000), (6, 11, 1000)),
-    ('connection', 'connection client N nodes', None, (100, 600, 1), (100, 600, 1)),
-    ('set', 'set request N nodes', None, (2, 12, 1000), (2, 12, 1000)),
+    ('connection', 'connection client N nodes', 'step client N nodes', (100, 600, 1), (100, 600, 1)),
+    ('set', 'set request N nodes', 'set request N nodes', (2, 12, 1000), (2, 12, 1000)),
     ('call', 'call server N small', 'call server N small', (100, 600, 1), (100, 600, 1)),
     ('call-all', 'call-all server N small', 'call_all server N small', (2, 12, 64), (128, 768, 1)),
     ('dissect', 'dissect client N', 'dissect client N client', (1, 3, 800), (1, 3, 800)),
     ('dissect-server', 'dissect-server server N', 'dissect server N server', (1, 3, 800), (1, 3, 800)),
     ('fields', 'fields client-large N', None, (1, 3, 48000), (1, 3, 48000)),
     ('fields-server', 'fields-server server-large N', None, (1, 3, 72000), (1, 3, 72000)),
-    ('plain-doubles', 'plain doubles N', None, (2, 12, 1000), (2, 12, 1000)),
+    ('plain-doubles', 'plain doubles N', 'plain doubles N', (2, 12, 1000), (2, 12, 1000)),
     ('dissect-large', 'dissect-server server-large N', 'dissect server-large N server', (1, 3, 12000), (1, 3, 12000)),
 ]
+
+# The calls of the C library; the words of steps.c, and the turns of the two runs.
+CALLS = [('ua_connection_step', 'N', (100, 600)), ('ua_node_set', '1 N', (100, 600))]
 
 COUNT = 800
 
 COMPILERS = [['gcc', '-O2'], ['clang', '-O3', '-march=x86-64-v2']]
 
 
-def counted(words: list[str]) -> int:
-    """The instructions of a run."""
+def counted(words: list[str], within: str = '') -> int:
+    """The instructions of a run, or those of its calls of one function."""
     ran = subprocess.run(
-        ['valgrind', '--tool=callgrind', '--callgrind-out-file=/dev/null', *words],
+        ['valgrind', '--tool=callgrind', '--callgrind-out-file=/dev/null', *[f'--toggle-collect={within}'] * bool(within), *words],
         capture_output=True, text=True, check=False,
     )
     found = re.search(r'Collected : (\d+)', ran.stderr)
@@ -209,13 +214,27 @@ def unit(program: str, words: str, turns: tuple[int, int, int | str], folder: st
     return (runs[1] - runs[0]) / ((high - low) * units)
 
 
+def count_calls(folder: str, wanted: list[str]) -> None:
+    """Prints what a call of the C library costs, where it is built."""
+    calls = [it for it in CALLS if not wanted or it[0] in wanted]
+    library = f'{TOP}/crates/ua_c/out/libua_c.a'
+    if not calls or not os.path.exists(library):
+        return
+    kit = os.path.dirname(subprocess.run(['rt', 'doc'], capture_output=True, text=True, check=True).stdout.strip())
+    steps = f'{folder}/steps'
+    subprocess.run(['gcc', '-O2', f'-I{TOP}/crates/ua_c/include', f'{TOP}/examples/c/steps.c', library, f'{kit}/c/liblibc_c.a', '-o', steps], check=True)
+    for call, words, turns in calls:
+        low, high = [counted([steps] + [str(n) if it == 'N' else it for it in words.split()], call) for n in turns]
+        print(f'{call:22} {(high - low) / (turns[1] - turns[0]):10.2f}', flush=True)
+
+
 def main() -> None:
     program, wanted = os.path.abspath(sys.argv[1]), sys.argv[2:]
-    here = os.path.dirname(os.path.abspath(__file__))
     with tempfile.TemporaryDirectory() as folder:
         builds = [f'{folder}/{compiler[0]}-built' for compiler in COMPILERS]
         for compiler, built in zip(COMPILERS, builds):
-            subprocess.run([*compiler, '-o', built, f'{here}/plain_c/bench2.c'], check=True)
+            for source in ('bench2', 'bench3'):
+                subprocess.run([*compiler, '-o', f'{built}-{source}', f'{TOP}/tools/plain_c/{source}.c'], check=True)
         for file, octets in files(COUNT).items():
             with open(f'{folder}/{file}', 'wb') as out:
                 out.write(octets)
@@ -223,9 +242,11 @@ def main() -> None:
             if wanted and row not in wanted:
                 continue
             a = unit(program, ours, turns, folder)
-            plain = [unit(built, theirs, their_turns, folder) for built in builds if theirs]
+            source = 'bench3' if theirs and theirs.split()[0] in ('set', 'plain') else 'bench2'
+            plain = [unit(f'{built}-{source}', theirs, their_turns, folder) for built in builds if theirs]
             ratios = [f'{a / b:6.2f}' for b in plain]
             print(f'{row:22} {a:10.2f}', *(f'{b:10.2f}' for b in plain), *ratios, flush=True)
+        count_calls(folder, wanted)
 
 
 if __name__ == '__main__':
