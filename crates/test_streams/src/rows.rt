@@ -23,7 +23,6 @@ use ua_frame::{Ack, ErrorFrame, FrameReader, Hello};
 use ua_pair::DissectOptions;
 
 /// What rows take steps of.
-#[derive(Drop)]
 enum Machine {
     Nothing,
     Frames(FrameReader),
@@ -34,8 +33,23 @@ enum Machine {
     Caller(Client),
 }
 
+// By hand, as that of `Rows`, so that what lets one go calls this, and proves nothing of what lies
+// in it.
+impl Drop for Machine {
+    fn drop(self) {
+        match self {
+            Machine::Nothing => {}
+            Machine::Frames(reader) => drop(reader),
+            Machine::Assembler(joining) => drop(joining),
+            Machine::Server(channel) => drop(channel),
+            Machine::Client(channel) => drop(channel),
+            Machine::Dissector(dissection) => drop(dissection),
+            Machine::Caller(client) => drop(client),
+        }
+    }
+}
+
 /// What the rows so far began.
-#[derive(Drop)]
 pub struct Rows {
     given: Given,
     machine: Machine,
@@ -43,6 +57,25 @@ pub struct Rows {
     serving: Serving,
     sharing: Sharing,
     turns: Vec<Turn>,
+}
+
+impl Drop for Rows {
+    fn drop(self) {
+        let Rows {
+            given,
+            machine,
+            course,
+            serving,
+            sharing,
+            turns,
+        } = self;
+        drop(given);
+        drop(machine);
+        drop(course);
+        drop(serving);
+        drop(sharing);
+        drop(turns);
+    }
 }
 
 impl Rows {
