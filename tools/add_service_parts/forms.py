@@ -63,8 +63,10 @@ def append_of(s: Structure) -> str:
     'append_two(&self.b, &self.c, out)?;\\n        append_three(&self.d, &self.e, &self.f, out)'
     """
     names, pairs = ["&self." + it for it in s.names()], 2 * pairs_of(s)
-    if s.by("appended by ") or len(names) == 1:
-        return f"{s.by('appended by ')}({', '.join(names)}, out)" if s.by("appended by ") else f"self.{s.names()[0]}.append(out)"
+    if s.by("appended by "):
+        return f"{s.by('appended by ')}({', '.join(names)}, out)"
+    if len(names) == 1:
+        return f"{names[0].removeprefix('&')}.append(out)"
     calls = [f"append_two({names[i]}, {names[i + 1]}, out)?;\n        " for i in range(0, pairs, 2)]
     return "".join(calls) + f"append_{'three' if len(names) % 2 else 'two'}({', '.join(names[pairs:])}, out)"
 
