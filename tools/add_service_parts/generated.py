@@ -115,7 +115,7 @@ def append_answers_file(s: Structure, file: File, k: Schema) -> str:
     """That a structure of more than three fields is appended as its format says."""
     goals = f"Rattle.{s.library}.proofs.{file.module}_wire.{s.name}Wire.append.Goals"
     lemmas = ["pair_more", "more_then"] + ["on_err"] * (pairs_of(s) > 1)
-    names = [(it, "Rattle.ua_opening.proofs.Appends") for it in lemmas] + [(s.word, f"Rattle.{s.library}.specs.{s.spec}")]
+    names = [(it, "Rattle.ua_wire.proofs.Appends") for it in lemmas] + [(s.word, f"Rattle.{s.library}.specs.{s.spec}")]
     for _, kind in s.fields[:2 * pairs_of(s):2]:
         words = k.word("format", kind).replace("(", "").replace(")", "").split()
         names += [(it, COMMON[it]) for it in words[:-1]] + [(words[-1], k.of(kind.removesuffix("[]")).origin)]

@@ -1,6 +1,6 @@
 -- What bytes began with, they begin with still.
-use Rattle.std.specs.Prelude.{◌≡◌, ℕ, Bool, List, [], ◌∷◌, ◌++◌, length, set, take, Option, Result, Ok, Err, OnErr}
-use Rattle.std.proofs.Common.{sym, ap, ◌∙◌, subst, append_assoc, append-nil}
+use Rattle.std.specs.Prelude.{◌≡◌, ℕ, ◌<◌, Bool, List, [], ◌∷◌, ◌++◌, length, set, take, Option, Result, Ok, Err, OnErr}
+use Rattle.std.proofs.Common.{sym, ap, ◌∙◌, subst, arith, append_assoc, append-nil, length-append}
 use Rattle.std.proofs.Math.Seq.{take-append_seam}
 use Rattle.std.proofs.lemmas.List.{set_at}
 use Rattle.ua_wire.specs.Format.{Extends}
@@ -33,6 +33,22 @@ kept_set before tagged ahead mended first place tag at t k m =
     let x = front_of tagged ahead k in
     let whole : ahead ≡ before ++ first ∷ x.more = x.parts ∙ ap (λ y. y ++ x.more) t ∙ append_assoc before (first ∷ []) x.more in
     kept_more before mended (tag ∷ x.more) (m ∙ ap (λ y. set y place tag) whole ∙ set_at before first x.more tag place (sym at))
+
+-- there is a byte behind them
+pub kept_within : (before tagged counted ahead octets : List ℕ) (first place : ℕ) → place ≡ length before → tagged ≡ before ++ first ∷ []
+    → counted ≡ tagged ++ octets → KeepsFront counted ahead → place < length ahead
+kept_within before tagged counted ahead octets first place at t c k =
+    let x = front_of counted ahead k in
+    omega (
+      arith,
+      at,
+      ap length t,
+      length-append before (first ∷ []),
+      ap length c,
+      length-append tagged octets,
+      ap length x.parts,
+      length-append counted x.more,
+    )
 
 -- the same, before and after more
 pub elements_kept : (before tagged counted ahead mended after octets : List ℕ) (first place tag : ℕ) → place ≡ length before → tagged ≡ before ++ first ∷ []

@@ -5,6 +5,7 @@ mod Levels
 mod FieldsRecoded
 mod DiagnosticsRecoded
 mod NullArrays
+mod Overlong
 mod LeavesRecoded
 mod RowsRecoded
 mod ArraysRecoded

@@ -1,5 +1,5 @@
 -- What is skipped, as what is decoded there.
-use Rattle.std.specs.Prelude.{◌≡◌, ℕ, Bool, List, Option, Some, None, Err}
+use Rattle.std.specs.Prelude.{◌≡◌, ℕ, Bool, List, Option, Some, None, Err, IsErrOf}
 use Rattle.std.proofs.Common.{refl, sym, ap, ◌∙◌}
 use Rattle.ua_wire.specs.Exact.{◌>>=◌, image_read, skipped}
 use Rattle.ua_wire.specs.Format.{Gives}
@@ -9,7 +9,8 @@ use Rattle.ua_wire.proofs.Readers.{some_is}
 use Rattle.ua_diagnostic.specs.Parts.{Decoder}
 use Rattle.ua_diagnostic.proofs.Skipped.{rest, skipped_image, gives_on}
 use Rattle.ua_canonical.specs.Recoded.{Recodes, Refused}
-use Rattle.ua_canonical.specs.declared.fault.RecodeFault.TheVariants.{NotWritable}
+use Rattle.ua_canonical.specs.declared.fault.RecodeFault.{RecodeFault}
+use Rattle.ua_canonical.specs.declared.fault.RecodeFault.TheVariants.{NoValue, NotWritable}
 use Rattle.ua_canonical.specs.Fault.{of_read}
 
 pub none_passed : {A : Type 0} (found : Option (A × List ℕ)) → rest found ≡ None → found ≡ None
@@ -50,3 +51,7 @@ pub refused_image : {A B : Type 0} (f1 : A → Bool) (f : B → Bool) (make : A 
     → ((x : A) → f (make x) ≡ f1 x) → Refused f1 found left → Refused f (found >>= λ x. Some (make x.0, x.1)) left
 refused_image f1 f make found left fits h =
     record { value = make h.value; found = ap (λ o. o >>= λ x. Some (make x.0, x.1)) h.found; unfit = fits h.value ∙ h.unfit }
+
+-- what cannot be encoded is not what is not there
+pub refused_is_there : {P : Type 0} (f : RecodeFault) → f ≡ NotWritable → IsErrOf {T = Unit {0}} (Err f) NoValue → P
+refused_is_there f is h = absurd cc

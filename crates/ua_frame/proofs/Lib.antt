@@ -1,5 +1,4 @@
 pub mod Afters
-pub mod Appends
 pub mod Ends
 pub mod FirstWrongs
 pub mod Fragments

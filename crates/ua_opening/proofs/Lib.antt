@@ -11,7 +11,6 @@ pub mod FlatsBack
 pub mod DiagnosticsBack
 pub mod FormatsBack
 pub mod Sound
-pub mod Appends
 pub mod MessagesLawful
 pub mod BodyLaws
 pub mod BodyRead

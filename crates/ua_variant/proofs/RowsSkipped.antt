@@ -1,13 +1,18 @@
 -- The loops that pass over the elements of an array, against what stands behind them all.
-use Rattle.std.proofs.Common.{◌≡◌, ℕ, zero, suc, ◌+◌, ◌-◌, ◌<◌, ◌≤◌, List, Option, Some, None, Err, refl, sym, ap, ◌∙◌, arith}
-use Rattle.ua_wire.specs.Exact.{◌>>=◌, skipped}
+use Rattle.std.proofs.Common.{◌≡◌, ℕ, zero, suc, ◌+◌, ◌-◌, ◌<◌, ◌≤◌, false, List, Option, Some, None, Err, refl, sym, subst, ap, ◌∙◌, arith}
+use Rattle.std.specs.Prelude.{◌%◌, true, ◌&&◌, cond, leb, eqb}
+use Rattle.ua_wire.specs.Exact.{◌>>=◌, image_read, skipped}
 use Rattle.ua_wire.specs.Format.{Gives, GivesBy}
 use Rattle.ua_wire.specs.declared.fault.ReadFault.{ReadFault}
 use Rattle.ua_wire.specs.declared.fault.ReadFault.TheVariants.{NoValue, OutOfMemory}
 use Rattle.ua_diagnostic.specs.Parts.{Decoder}
-use Rattle.ua_diagnostic.proofs.Skipped.{rest, skipped_then}
-use Rattle.ua_variant.specs.Data.{ScalarData, ScalarsData, scalar}
-use Rattle.ua_variant.specs.Decoding.{row_at}
+use Rattle.ua_diagnostic.proofs.Skipped.{rest, skipped_then, skipped_image}
+use Rattle.ua_diagnostic.specs.Diagnostic.{diagnostic_at}
+use Rattle.ua_variant.specs.Data.{ScalarData, ScalarsData, scalar, one, leaf, data_value, variant, diagnostic}
+use Rattle.ua_variant.specs.Decoding.{row_at, scalar_at, scalars_at, data_value_at, variant_at, variant_after, variant_array_at}
+use Rattle.ua_builtin.specs.Flags.{has}
+use Rattle.ua_variant.specs.Encodable.{is_read_kind}
+use Rattle.ua_variant.specs.Leaf.{holds_values, leaf_at}
 
 -- behind what was passed over, so many more elements
 abbrev on_with : Decoder ScalarData → ℕ → Option (Unit {0} × List ℕ) → Option (Unit {0} × List ℕ)
@@ -72,3 +77,45 @@ pub part_fault : {X : Type 0} (view : X → ScalarsData) (p : Decoder ScalarData
     → skipped (row_at left p) old ≡ skipped (row_at count p) start → Gives (skipped (row_at count p)) start new (Err e)
 part_fault view p NoValue n left count start old new le h so_far = sym so_far ∙ part_is p n left old le ∙ ap (λ r. on_with p (left - n) (rest r)) h
 part_fault view p OutOfMemory n left count start old new le h so_far = tt
+
+-- what holds values is passed over as they are
+pub value_passed : (n k : ℕ) (octets : List ℕ) → k ≡ 23 → skipped (scalars_at n k) octets ≡ skipped (data_value_at n) octets
+unfolding scalar_at
+value_passed n k octets is =
+    subst (λ (j : ℕ). skipped (scalars_at n j) octets ≡ skipped (data_value_at n) octets) (sym is) (skipped_image data_value (data_value_at n) octets)
+
+pub variant_passed : (n k : ℕ) (octets : List ℕ) → k ≡ 24 → skipped (scalars_at n k) octets ≡ skipped (variant_at n) octets
+unfolding scalar_at
+variant_passed n k octets is =
+    subst (λ (j : ℕ). skipped (scalars_at n j) octets ≡ skipped (variant_at n) octets) (sym is) (skipped_image variant (variant_at n) octets)
+
+pub diagnostic_passed : (n k : ℕ) (octets : List ℕ) → k ≡ 25 → skipped (scalars_at n k) octets ≡ skipped (diagnostic_at n) octets
+unfolding scalar_at
+diagnostic_passed n k octets is =
+    subst (λ (j : ℕ). skipped (scalars_at n j) octets ≡ skipped (diagnostic_at n) octets) (sym is) (skipped_image diagnostic (diagnostic_at n) octets)
+
+-- and so is any other scalar
+pub leaf_passed : (n k : ℕ) (octets : List ℕ) → holds_values k ≡ false → skipped (scalars_at n k) octets ≡ skipped (image_read leaf (leaf_at k)) octets
+unfolding scalar_at
+leaf_passed n k octets h =
+    ap (λ b. rest (cond b (cond (eqb k 23) (data_value_at n octets >>= λ x. Some (data_value x.0, x.1)) (
+    cond (eqb k 24) (variant_at n octets >>= λ x. Some (variant x.0, x.1)) (
+    diagnostic_at n octets >>= λ x. Some (diagnostic x.0, x.1)))) (image_read leaf (leaf_at k) octets))) h
+
+-- a Variant of one scalar, behind its first byte
+pub one_passed : (p : ℕ → Decoder ScalarData) (t : ℕ) (octets : List ℕ) → eqb t 0 ≡ false → leb 0x80 t ≡ false → eqb t 24 ≡ false
+    → skipped (variant_after p t) octets ≡ skipped (p t) octets
+unfolding variant_after
+one_passed p t octets a b c = rw (a, b, c) (skipped_image one (p t) octets)
+
+-- an array, behind its first byte
+pub array_passed : (p : ℕ → Decoder ScalarData) (t : ℕ) (octets : List ℕ) → eqb t 0 ≡ false → leb 0x80 t ≡ true
+    → (is_read_kind (t % 0x40) && leb t 0xFF) ≡ true → variant_after p t octets ≡ variant_array_at p (t % 0x40) (has t 0x40) octets
+unfolding variant_after
+array_passed p t octets a b c = rw (a, b, c) refl
+
+-- and one of no type id
+pub no_array : (p : ℕ → Decoder ScalarData) (t : ℕ) (octets : List ℕ) → eqb t 0 ≡ false → leb 0x80 t ≡ true
+    → (is_read_kind (t % 0x40) && leb t 0xFF) ≡ false → variant_after p t octets ≡ None
+unfolding variant_after
+no_array p t octets a b c = rw (a, b, c) refl

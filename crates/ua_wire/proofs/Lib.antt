@@ -6,6 +6,7 @@ pub mod ScalarsLawful
 pub mod CountedLawful
 pub mod Leasts
 pub mod FormatLaws
+pub mod Appends
 pub mod Behind
 pub mod FrontsRead
 mod PartsRead

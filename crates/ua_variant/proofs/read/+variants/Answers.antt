@@ -1,11 +1,16 @@
-use Rattle.std.proofs.Common.{refl, ◌≡◌, ◌-◌, false, rules, List, [], ◌∷◌, ◌++◌, Vec, Global, map, sym, ap, ◌∙◌, arith}
+use Rattle.std.proofs.Common.{refl, ◌≡◌, ◌-◌, ◌%◌, true, false, ◌&&◌, rules, List, [], ◌∷◌, ◌++◌, Vec, Global, map, sym, ap, ◌∙◌, arith}
+use Rattle.std.specs.Prelude.{eqb, leb, bit_and}
+use Rattle.std.proofs.lemmas.Nat.{and_mask}
 use Rattle.std.proofs.lemmas.Result.{err_from_is_err_and}
+use Rattle.ua_builtin.specs.Flags.{has}
 use Rattle.ua_variant.specs.Data.{ScalarData, VariantData, DataValueData, leaf}
 use Rattle.ua_variant.specs.Packed.{packed_leaves}
 use Rattle.ua_variant.specs.declared.packed.Packed.{Packed}
 use Rattle.ua_variant.specs.declared.values.Scalar.{Scalar}
-use Rattle.ua_variant.specs.View.{row, scalar_of}
-use Rattle.ua_variant.specs.Decoding.{row_at, variant_at, variant_step, data_value_at, data_value_step, scalars_at}
+use Rattle.ua_variant.specs.View.{row, scalar_of, variant_of}
+use Rattle.ua_variant.specs.Encodable.{is_read_kind}
+use Rattle.ua_variant.specs.Decoding.{row_at, variant_at, variant_step, data_value_at, data_value_step, scalars_at, variant_after, variant_array_at}
+use Rattle.ua_variant.proofs.RowsSkipped.{array_passed, no_array}
 use Rattle.ua_variant.proofs.VariantsRead.{variant_none, variant_level, data_value_none, data_value_level}
 use Rattle.ua_diagnostic.proofs.Extents.{gives_same}
 use Rattle.ua_variant.proofs.Boxes.{data_value_ends, data_value_is, variant_ends, variant_is}
@@ -131,3 +136,212 @@ read_array-returns-then-room-count-clause-exact g t c =
     array_short c.args.depth c.args.kind c.args.flagged c.in_ok-count.count (g.S.Source.octets c.args.src.now) (g.S.Source.octets c.read_value.new.src)
     c.left.result c.least_octets.result c.in_ok-count.ensures.exact (omega arith) c.left.ensures c.least_octets.ensures.octets c.least_octets.ensures.some
     c.if-room-count.true
+
+-- what is left is an end of what stood there
+pub box_tagged-returns-in_err-value-clause-behind : goal.box_tagged-returns-in_err-value-clause-behind
+box_tagged-returns-in_err-value-clause-behind g t c = c.in_err-value.ensures.behind
+
+pub box_tagged-returns-in_err-new-clause-behind : goal.box_tagged-returns-in_err-new-clause-behind
+box_tagged-returns-in_err-new-clause-behind g t c = c.in_ok-value.ensures.behind
+
+pub box_tagged-returns-clause-behind : goal.box_tagged-returns-clause-behind
+box_tagged-returns-clause-behind g t c = c.in_ok-value.ensures.behind
+
+pub read_array-returns-in_err-count-clause-behind : goal.read_array-returns-in_err-count-clause-behind
+read_array-returns-in_err-count-clause-behind g t c = c.in_err-count.ensures.behind
+
+pub read_array-returns-in_err-dims-clause-behind : goal.read_array-returns-in_err-dims-clause-behind
+read_array-returns-in_err-dims-clause-behind g t c = λ start h. c.in_err-dims.ensures.behind start (c.in_ok-count.ensures.behind start h)
+
+pub read_array-returns-then-count-ge-FIRST_NEGATIVE-clause-behind : goal.read_array-returns-then-count-ge-FIRST_NEGATIVE-clause-behind
+read_array-returns-then-count-ge-FIRST_NEGATIVE-clause-behind g t c = λ start h. c.in_ok-dims.ensures.behind start (c.in_ok-count.ensures.behind start h)
+
+pub read_array-returns-then-room-count-clause-behind : goal.read_array-returns-then-room-count-clause-behind
+read_array-returns-then-room-count-clause-behind g t c = c.in_ok-count.ensures.behind
+
+pub read_array-returns-clause-behind : goal.read_array-returns-clause-behind
+read_array-returns-clause-behind g t c = λ start h. c.read_elements.ensures.behind start (c.in_ok-count.ensures.behind start h)
+
+pub read_boxed_announced-returns-then-not-set-clause-behind : goal.read_boxed_announced-returns-then-not-set-clause-behind
+read_boxed_announced-returns-then-not-set-clause-behind g t c = c.box_data_value.ensures.behind
+
+pub read_boxed_announced-returns-in_err-value-clause-behind : goal.read_boxed_announced-returns-in_err-value-clause-behind
+read_boxed_announced-returns-in_err-value-clause-behind g t c = c.in_err-value.ensures.behind
+
+pub read_boxed_announced-returns-clause-behind : goal.read_boxed_announced-returns-clause-behind
+read_boxed_announced-returns-clause-behind g t c = λ start h. c.box_data_value-2.ensures.behind start (c.in_ok-value.ensures.behind start h)
+
+pub read_boxed_array-returns-in_err-count-clause-behind : goal.read_boxed_array-returns-in_err-count-clause-behind
+read_boxed_array-returns-in_err-count-clause-behind g t c = c.in_err-count.ensures.behind
+
+pub read_boxed_array-returns-then-count-ge-FIRST_NEGATIVE-clause-behind : goal.read_boxed_array-returns-then-count-ge-FIRST_NEGATIVE-clause-behind
+read_boxed_array-returns-then-count-ge-FIRST_NEGATIVE-clause-behind g t c = λ start h.
+    c.box_null_array.ensures.behind start (c.in_ok-count.ensures.behind start h)
+
+pub read_boxed_array-returns-then-room-count-clause-behind : goal.read_boxed_array-returns-then-room-count-clause-behind
+read_boxed_array-returns-then-room-count-clause-behind g t c = c.in_ok-count.ensures.behind
+
+pub read_boxed_array-returns-in_err-items-clause-behind : goal.read_boxed_array-returns-in_err-items-clause-behind
+read_boxed_array-returns-in_err-items-clause-behind g t c = λ start h. c.in_err-items.ensures.behind start (c.in_ok-count.ensures.behind start h)
+
+pub read_boxed_array-returns-clause-behind : goal.read_boxed_array-returns-clause-behind
+read_boxed_array-returns-clause-behind g t c = λ start h.
+    c.box_array.ensures.behind start (c.in_ok-items.ensures.behind start (c.in_ok-count.ensures.behind start h))
+
+pub read_boxed_data_value-returns-clause-behind : goal.read_boxed_data_value-returns-clause-behind
+read_boxed_data_value-returns-clause-behind g t c = c.read_boxed_data_value_level.ensures.behind
+
+pub read_boxed_data_value_level-returns-in_err-mask-clause-behind : goal.read_boxed_data_value_level-returns-in_err-mask-clause-behind
+read_boxed_data_value_level-returns-in_err-mask-clause-behind g t c = c.in_err-mask.ensures.behind
+
+pub read_boxed_data_value_level-returns-then-mask-gt-KNOWN_FLAGS-clause-behind : goal.read_boxed_data_value_level-returns-then-mask-gt-KNOWN_FLAGS-clause-behind
+read_boxed_data_value_level-returns-then-mask-gt-KNOWN_FLAGS-clause-behind g t c = c.in_ok-mask.ensures.behind
+
+pub read_boxed_data_value_level-returns-clause-behind : goal.read_boxed_data_value_level-returns-clause-behind
+read_boxed_data_value_level-returns-clause-behind g t c = λ start h. c.read_boxed_announced.ensures.behind start (c.in_ok-mask.ensures.behind start h)
+
+pub read_boxed_tagged-returns-then-nests-clause-behind : goal.read_boxed_tagged-returns-then-nests-clause-behind
+read_boxed_tagged-returns-then-nests-clause-behind g t c = c.read_boxed_array.ensures.behind
+
+pub read_boxed_tagged-returns-clause-behind : goal.read_boxed_tagged-returns-clause-behind
+read_boxed_tagged-returns-clause-behind g t c = c.box_tagged.ensures.behind
+
+pub read_boxed_variant-returns-clause-behind : goal.read_boxed_variant-returns-clause-behind
+read_boxed_variant-returns-clause-behind g t c = c.read_boxed_variant_level.ensures.behind
+
+pub read_boxed_variant_level-returns-in_err-tag-clause-behind : goal.read_boxed_variant_level-returns-in_err-tag-clause-behind
+read_boxed_variant_level-returns-in_err-tag-clause-behind g t c = c.in_err-tag.ensures.behind
+
+pub read_boxed_variant_level-returns-clause-behind : goal.read_boxed_variant_level-returns-clause-behind
+read_boxed_variant_level-returns-clause-behind g t c = λ start h. c.read_boxed_tagged.ensures.behind start (c.in_ok-tag.ensures.behind start h)
+
+pub read_data_values-returns-in_err-item-clause-behind : goal.read_data_values-returns-in_err-item-clause-behind
+read_data_values-returns-in_err-item-clause-behind g t c = λ start h. c.in_err-item.ensures.behind start (c.loop.invariant.behind start h)
+
+pub read_variants-returns-in_err-item-clause-behind : goal.read_variants-returns-in_err-item-clause-behind
+read_variants-returns-in_err-item-clause-behind g t c = λ start h. c.in_err-item.ensures.behind start (c.loop.invariant.behind start h)
+
+pub read_data_values-returns-in_err-make_room-clause-behind : goal.read_data_values-returns-in_err-make_room-clause-behind
+read_data_values-returns-in_err-make_room-clause-behind g t c = c.loop.invariant.behind
+
+pub read_variants-returns-in_err-make_room-clause-behind : goal.read_variants-returns-in_err-make_room-clause-behind
+read_variants-returns-in_err-make_room-clause-behind g t c = c.loop.invariant.behind
+
+pub read_data_values-returns-clause-behind : goal.read_data_values-returns-clause-behind
+read_data_values-returns-clause-behind g t c = c.loop.invariant.behind
+
+pub read_variants-returns-clause-behind : goal.read_variants-returns-clause-behind
+read_variants-returns-clause-behind g t c = c.loop.invariant.behind
+
+pub read_elements-returns-in_err-items-clause-behind : goal.read_elements-returns-in_err-items-clause-behind
+read_elements-returns-in_err-items-clause-behind g t c = c.in_err-items.ensures.behind
+
+pub read_elements-returns-in_err-dims-clause-behind : goal.read_elements-returns-in_err-dims-clause-behind
+read_elements-returns-in_err-dims-clause-behind g t c = λ start h. c.in_err-dims.ensures.behind start (c.in_ok-items.ensures.behind start h)
+
+pub read_elements-returns-clause-behind : goal.read_elements-returns-clause-behind
+read_elements-returns-clause-behind g t c = λ start h. c.in_ok-dims.ensures.behind start (c.in_ok-items.ensures.behind start h)
+
+pub read_row-returns-in_err-read_packed-clause-behind : goal.read_row-returns-in_err-read_packed-clause-behind
+read_row-returns-in_err-read_packed-clause-behind g t c = c.in_err-read_packed.ensures.behind
+
+pub read_row-returns-then-is_packed-clause-behind : goal.read_row-returns-then-is_packed-clause-behind
+read_row-returns-then-is_packed-clause-behind g t c = c.in_ok-read_packed.ensures.behind
+
+pub read_row-returns-in_err-read_data_values-in-23-clause-behind : goal.read_row-returns-in_err-read_data_values-in-23-clause-behind
+read_row-returns-in_err-read_data_values-in-23-clause-behind g t c = c.in_err-read_data_values-in-23.ensures.behind
+
+pub read_row-returns-in_err-read_variants-in-24-clause-behind : goal.read_row-returns-in_err-read_variants-in-24-clause-behind
+read_row-returns-in_err-read_variants-in-24-clause-behind g t c = c.in_err-read_variants-in-24.ensures.behind
+
+pub read_row-returns-in_err-read_records-in_default-clause-behind : goal.read_row-returns-in_err-read_records-in_default-clause-behind
+read_row-returns-in_err-read_records-in_default-clause-behind g t c = c.in_err-read_records-in_default.ensures.behind
+
+pub read_row-returns-in_ok-read_data_values-in-23-clause-behind : goal.read_row-returns-in_ok-read_data_values-in-23-clause-behind
+read_row-returns-in_ok-read_data_values-in-23-clause-behind g t c = c.in_ok-read_data_values-in-23.ensures.behind
+
+pub read_row-returns-in_ok-read_variants-in-24-clause-behind : goal.read_row-returns-in_ok-read_variants-in-24-clause-behind
+read_row-returns-in_ok-read_variants-in-24-clause-behind g t c = c.in_ok-read_variants-in-24.ensures.behind
+
+pub read_row-returns-in_ok-read_records-in_default-clause-behind : goal.read_row-returns-in_ok-read_records-in_default-clause-behind
+read_row-returns-in_ok-read_records-in_default-clause-behind g t c = c.in_ok-read_records-in_default.ensures.behind
+
+pub read_row-returns-in-25-clause-behind : goal.read_row-returns-in-25-clause-behind
+read_row-returns-in-25-clause-behind g t c = c.read_diagnostic_row.ensures.behind
+
+pub read_scalar-returns-in_err-read_boxed_data_value-in-23-clause-behind : goal.read_scalar-returns-in_err-read_boxed_data_value-in-23-clause-behind
+read_scalar-returns-in_err-read_boxed_data_value-in-23-clause-behind g t c = c.in_err-read_boxed_data_value-in-23.ensures.behind
+
+pub read_scalar-returns-in_err-read_boxed_variant-in-24-clause-behind : goal.read_scalar-returns-in_err-read_boxed_variant-in-24-clause-behind
+read_scalar-returns-in_err-read_boxed_variant-in-24-clause-behind g t c = c.in_err-read_boxed_variant-in-24.ensures.behind
+
+pub read_scalar-returns-in_ok-read_boxed_data_value-in-23-clause-behind : goal.read_scalar-returns-in_ok-read_boxed_data_value-in-23-clause-behind
+read_scalar-returns-in_ok-read_boxed_data_value-in-23-clause-behind g t c = c.in_ok-read_boxed_data_value-in-23.ensures.behind
+
+pub read_scalar-returns-in_ok-read_boxed_variant-in-24-clause-behind : goal.read_scalar-returns-in_ok-read_boxed_variant-in-24-clause-behind
+read_scalar-returns-in_ok-read_boxed_variant-in-24-clause-behind g t c = c.in_ok-read_boxed_variant-in-24.ensures.behind
+
+pub read_scalar-returns-in-25-clause-behind : goal.read_scalar-returns-in-25-clause-behind
+read_scalar-returns-in-25-clause-behind g t c = c.read_boxed_diagnostic.ensures.behind
+
+pub read_scalar-returns-in_default-clause-behind : goal.read_scalar-returns-in_default-clause-behind
+read_scalar-returns-in_default-clause-behind g t c = c.read_leaf.ensures.behind
+
+pub read_tagged-returns-then-tag-ge-ARRAY-clause-behind : goal.read_tagged-returns-then-tag-ge-ARRAY-clause-behind
+read_tagged-returns-then-tag-ge-ARRAY-clause-behind g t c = c.read_array.ensures.behind
+
+pub read_tagged-returns-in_err-read_scalar-clause-behind : goal.read_tagged-returns-in_err-read_scalar-clause-behind
+read_tagged-returns-in_err-read_scalar-clause-behind g t c = c.in_err-read_scalar.ensures.behind
+
+pub read_tagged-returns-clause-behind : goal.read_tagged-returns-clause-behind
+read_tagged-returns-clause-behind g t c = c.in_ok-read_scalar.ensures.behind
+
+pub read_values-returns-in-23-clause-behind : goal.read_values-returns-in-23-clause-behind
+read_values-returns-in-23-clause-behind g t c = c.read_data_values.ensures.behind
+
+pub read_values-returns-in_default-clause-behind : goal.read_values-returns-in_default-clause-behind
+read_values-returns-in_default-clause-behind g t c = c.read_variants.ensures.behind
+
+-- an array behind its first byte
+pub read_tagged-returns-then-tag-ge-ARRAY-clause-exact : goal.read_tagged-returns-then-tag-ge-ARRAY-clause-exact
+read_tagged-returns-then-tag-ge-ARRAY-clause-exact g t c =
+    let old = g.S.Source.octets c.args.src.now in
+    let tag = c.args.tag in
+    let scalars = scalars_at c.args.depth in
+    let kind : bit_and tag 0x3F ≡ tag % 0x40 = and_mask tag 6 in
+    let some : eqb tag 0 ≡ false = search rules in
+    let high : leb 0x80 tag ≡ true = search rules in
+    let octet : leb tag 0xFF ≡ true = search rules in
+    let read : is_read_kind (tag % 0x40) ≡ true = ap is_read_kind (sym kind) ∙ sym c.is_read_kind.ensures ∙ c.if-not-is_read_kind.false in
+    gives_same variant_of (variant_after scalars tag) (variant_array_at scalars (bit_and tag 0x3F) (has tag 0x40)) old
+    (g.S.Source.octets c.read_array.new.src) c.read_array.result
+    (array_passed scalars tag old some high (ap (λ b. b && leb tag 0xFF) read ∙ octet)
+    ∙ ap (λ k. variant_array_at scalars k (has tag 0x40) old) (sym kind))
+    c.read_array.ensures.exact
+
+pub read_tagged-returns-then-not-is_read_kind-clause-exact : goal.read_tagged-returns-then-not-is_read_kind-clause-exact
+read_tagged-returns-then-not-is_read_kind-clause-exact g t c =
+    let old = g.S.Source.octets c.args.src.now in
+    let tag = c.args.tag in
+    let scalars = scalars_at c.args.depth in
+    let kind : bit_and tag 0x3F ≡ tag % 0x40 = and_mask tag 6 in
+    let some : eqb tag 0 ≡ false = search rules in
+    let high : leb 0x80 tag ≡ true = search rules in
+    let read : is_read_kind (tag % 0x40) ≡ false = ap is_read_kind (sym kind) ∙ sym c.is_read_kind.ensures ∙ c.if-not-is_read_kind.true in
+    no_array scalars tag old some high (ap (λ b. b && leb tag 0xFF) read)
+
+pub read_boxed_tagged-returns-then-nests-clause-exact : goal.read_boxed_tagged-returns-then-nests-clause-exact
+read_boxed_tagged-returns-then-nests-clause-exact g t c =
+    let old = g.S.Source.octets c.args.src.now in
+    let tag = c.args.tag in
+    let scalars = scalars_at c.args.depth in
+    let kind : bit_and tag 0x3F ≡ tag % 0x40 = and_mask tag 6 in
+    let some : eqb tag 0 ≡ false = search rules in
+    let high : leb 0x80 tag ≡ true = search rules in
+    let octet : leb tag 0xFF ≡ true = search rules in
+    let read : is_read_kind (tag % 0x40) ≡ true = ap is_read_kind (sym kind) ∙ c.nests.ensures.read c.if-nests.true in
+    gives_same (λ (v : VariantData). v) (variant_after scalars tag) (variant_array_at scalars (bit_and tag 0x3F) (has tag 0x40)) old
+    (g.S.Source.octets c.read_boxed_array.new.src) c.read_boxed_array.result
+    (array_passed scalars tag old some high (ap (λ b. b && leb tag 0xFF) read ∙ octet)
+    ∙ ap (λ k. variant_array_at scalars k (has tag 0x40) old) (sym kind))
+    c.read_boxed_array.ensures.exact

@@ -1,6 +1,6 @@
 use Rattle.std.proofs.lemmas.Result.{err_from_is_err_and}
 use Rattle.ua_frame.specs.Messages.{ack}
-use Rattle.ua_frame.proofs.Appends.{then_more, then_some}
+use Rattle.ua_wire.proofs.Appends.{then_more, then_some}
 use Rattle.ua_frame.proofs.ack.AckWire.append.Goals as goal
 
 pub returns-in_err-append-clause-err : goal.returns-in_err-append-clause-err

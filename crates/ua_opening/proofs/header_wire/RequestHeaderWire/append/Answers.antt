@@ -1,8 +1,8 @@
 -- Written by `tools/add_service.py --write` from `schema/header.txt`.
 -- The fields are appended in order.
+use Rattle.ua_wire.proofs.Appends.{more_then, on_err, pair_more}
 use Rattle.ua_builtin.specs.Format.{flat}
 use Rattle.ua_builtin.specs.NodeId.{node_id}
-use Rattle.ua_opening.proofs.Appends.{more_then, on_err, pair_more}
 use Rattle.ua_opening.specs.Field.{uint32}
 use Rattle.ua_opening.specs.Header.{request_header}
 use Rattle.ua_opening.proofs.header_wire.RequestHeaderWire.append.Goals as goal

@@ -1,9 +1,9 @@
 -- Written by `tools/add_service.py --write` from `schema/header.txt`.
 -- The fields are appended in order.
+use Rattle.ua_wire.proofs.Appends.{more_then, on_err, pair_more}
 use Rattle.ua_builtin.specs.DateTime.{date_time}
 use Rattle.ua_builtin.specs.Format.{flat}
 use Rattle.ua_builtin.specs.Status.{status_code}
-use Rattle.ua_opening.proofs.Appends.{more_then, on_err, pair_more}
 use Rattle.ua_opening.specs.Header.{response_header}
 use Rattle.ua_opening.proofs.header_wire.ResponseHeaderWire.append.Goals as goal
 

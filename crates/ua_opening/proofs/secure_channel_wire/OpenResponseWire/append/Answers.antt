@@ -1,6 +1,6 @@
 -- Written by `tools/add_service.py --write` from `schema/secure_channel.txt`.
 -- The fields are appended in order.
-use Rattle.ua_opening.proofs.Appends.{more_then, on_err, pair_more}
+use Rattle.ua_wire.proofs.Appends.{more_then, on_err, pair_more}
 use Rattle.ua_opening.specs.Field.{uint32}
 use Rattle.ua_opening.specs.Header.{response_header}
 use Rattle.ua_opening.specs.SecureChannel.{open_response}

@@ -1,6 +1,6 @@
 -- Written by `tools/add_service.py --write` from `schema/attribute.txt`.
 -- The fields are appended in order.
-use Rattle.ua_opening.proofs.Appends.{more_then, pair_more}
+use Rattle.ua_wire.proofs.Appends.{more_then, pair_more}
 use Rattle.ua_opening.specs.Header.{request_header}
 use Rattle.ua_structures.specs.Attribute.{read_request}
 use Rattle.ua_structures.proofs.attribute_wire.ReadRequestWire.append.Goals as goal

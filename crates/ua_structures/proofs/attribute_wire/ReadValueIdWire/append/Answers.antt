@@ -1,8 +1,8 @@
 -- Written by `tools/add_service.py --write` from `schema/attribute.txt`.
 -- The fields are appended in order.
+use Rattle.ua_wire.proofs.Appends.{more_then, pair_more}
 use Rattle.ua_builtin.specs.Format.{flat}
 use Rattle.ua_builtin.specs.NodeId.{node_id}
-use Rattle.ua_opening.proofs.Appends.{more_then, pair_more}
 use Rattle.ua_structures.specs.Attribute.{read_value_id}
 use Rattle.ua_structures.proofs.attribute_wire.ReadValueIdWire.append.Goals as goal
 

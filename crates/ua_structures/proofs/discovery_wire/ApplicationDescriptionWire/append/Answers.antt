@@ -1,8 +1,8 @@
 -- Written by `tools/add_service.py --write` from `schema/discovery.txt`.
 -- The fields are appended in order.
+use Rattle.ua_wire.proofs.Appends.{more_then, on_err, pair_more}
 use Rattle.ua_builtin.specs.Format.{flat}
 use Rattle.ua_builtin.specs.LocalizedText.{localized_text}
-use Rattle.ua_opening.proofs.Appends.{more_then, on_err, pair_more}
 use Rattle.ua_opening.specs.Field.{string}
 use Rattle.ua_structures.specs.Discovery.{application_description}
 use Rattle.ua_structures.proofs.discovery_wire.ApplicationDescriptionWire.append.Goals as goal

@@ -1,6 +1,6 @@
 -- Written by `tools/add_service.py --write` from `schema/discovery.txt`.
 -- The fields are appended in order.
-use Rattle.ua_opening.proofs.Appends.{more_then, pair_more}
+use Rattle.ua_wire.proofs.Appends.{more_then, pair_more}
 use Rattle.ua_opening.specs.Field.{string}
 use Rattle.ua_structures.specs.Discovery.{user_token_policy}
 use Rattle.ua_structures.proofs.discovery_wire.UserTokenPolicyWire.append.Goals as goal

@@ -1,6 +1,6 @@
 -- Written by `tools/add_service.py --write` from `schema/session.txt`.
 -- The fields are appended in order.
-use Rattle.ua_opening.proofs.Appends.{more_then, on_err, pair_more}
+use Rattle.ua_wire.proofs.Appends.{more_then, on_err, pair_more}
 use Rattle.ua_opening.specs.Array.{array}
 use Rattle.ua_opening.specs.Header.{request_header}
 use Rattle.ua_structures.specs.Session.{activate_session_request, signed_software_certificate}
