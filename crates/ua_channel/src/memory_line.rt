@@ -48,7 +48,7 @@ impl Pace {
 
 /// A transport over memory, for tests: it delivers given bytes and keeps those written, in
 /// fragments of given lengths, and fails where it is told to.
-#[derive(Debug, Drop)]
+#[derive(Debug)]
 pub struct MemoryLine {
     octets: Vec<u8>,
     read: usize,
@@ -56,6 +56,24 @@ pub struct MemoryLine {
     failures: u64,
     reads: Pace,
     writes: Pace,
+}
+
+// By hand, so that what lets one go calls this, and proves nothing of what lies in it.
+impl Drop for MemoryLine {
+    fn drop(self) {
+        let MemoryLine {
+            octets,
+            read: _,
+            written,
+            failures: _,
+            reads,
+            writes,
+        } = self;
+        drop(octets);
+        drop(written);
+        drop(reads);
+        drop(writes);
+    }
 }
 
 impl Model for MemoryLine {

@@ -23,7 +23,7 @@ use ua_services::{Request, Response, ServiceFault};
 
 /// The state of a server, and how it answers: its nodes, its endpoint, how many sessions it made,
 /// and at most one session.
-#[derive(Debug, Drop)]
+#[derive(Debug)]
 pub struct Services {
     pub(crate) nodes: NodeTable,
     pub(crate) endpoint: Endpoint,
@@ -32,6 +32,21 @@ pub struct Services {
     /// How many sessions were made.
     pub(crate) made: u32,
     pub(crate) session: Option<Session>,
+}
+
+// By hand, so that what lets one go calls this, and proves nothing of what lies in it.
+impl Drop for Services {
+    fn drop(self) {
+        let Services {
+            nodes,
+            endpoint,
+            memory_limit: _,
+            made: _,
+            session: _,
+        } = self;
+        drop(nodes);
+        drop(endpoint);
+    }
 }
 
 impl Model for Services {
@@ -76,16 +91,11 @@ impl Services {
     /// values of all nodes would take more than `most` bytes, as
     /// [`NodeTable::write_items_within`] counts them, and answers BadOutOfMemory for its item.
     /// Allocates nothing.
-    pub fn with_memory_limit(self, most: usize) -> Services
+    pub fn with_memory_limit(mut self, most: usize) -> Services
         ensures { result ≡ with_memory_limit self most }
     {
-        Services {
-            nodes: self.nodes,
-            endpoint: self.endpoint,
-            memory_limit: Some(most),
-            made: self.made,
-            session: self.session,
-        }
+        self.memory_limit = Some(most);
+        self
     }
 
     /// A connection begins: ends the session, if there is one. Allocates nothing.
@@ -108,7 +118,15 @@ impl Services {
         ensures is { result ≡ self.nodes }
         ensures sound { AreNodesSound result }
     {
-        self.nodes
+        let Services {
+            nodes,
+            endpoint,
+            memory_limit: _,
+            made: _,
+            session: _,
+        } = self;
+        drop(endpoint);
+        nodes
     }
 
     /// Sets what the node of a NodeId holds, as [`NodeTable::set`]. Allocates nothing.

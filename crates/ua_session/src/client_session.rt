@@ -97,7 +97,7 @@ fn next_handle(client: &Client) -> u32
 
 /// A session with a server over a transport, in which one question is asked after the other. Each
 /// call takes the transport that the session was begun over.
-#[derive(Debug, Drop)]
+#[derive(Debug)]
 pub struct ClientSession {
     alloc: Global,
     client: Client,
@@ -105,6 +105,21 @@ pub struct ClientSession {
     url: UaString,
     /// The AuthenticationToken.
     token: NodeId,
+}
+
+// By hand, so that what lets one go calls this, and proves nothing of what lies in it.
+impl Drop for ClientSession {
+    fn drop(self) {
+        let ClientSession {
+            alloc: _,
+            client,
+            url,
+            token,
+        } = self;
+        drop(client);
+        drop(url);
+        drop(token);
+    }
 }
 
 impl ClientSession {
@@ -208,10 +223,12 @@ impl ClientSession {
             (record { traffic = L.traffic line.new; failures = L.failures line.new }) result }
     {
         let ClientSession {
+            alloc: _,
             mut client,
+            url,
             token,
-            ..
         } = self;
+        drop(url);
         let handle = next_handle(&client);
         let ended_at = next_moment(moments);
         let ended = end_session(line, &mut client, token, handle, ended_at);
