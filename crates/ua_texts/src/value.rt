@@ -1,6 +1,7 @@
 //! Values as the program prints them.
 
 ghost use Rattle.std.specs.Prelude.{◌≡◌, ◌++◌, map, string_bytes, OnOk};
+ghost use Rattle.std.specs.Fmt.{decimal, signed_decimal};
 ghost use Rattle.ua_variant.specs.Data.{data_value, diagnostic, leaf, variant};
 ghost use Rattle.ua_variant.specs.Packed.{packed_leaves};
 ghost use Rattle.ua_variant.specs.View.{elements_of, scalar_of, variant_of};
@@ -154,18 +155,18 @@ pub fn push_scalar(alloc: Global, out: &mut String, scalar: &Scalar) -> Result<(
 {
     match scalar {
         Scalar::Boolean(value) => push_boolean(out, *value),
-        Scalar::SByte(value) => write!(out, "{value}"),
-        Scalar::Byte(value) => write!(out, "{value}"),
-        Scalar::Int16(value) => write!(out, "{value}"),
-        Scalar::UInt16(value) => write!(out, "{value}"),
-        Scalar::Int32(value) => write!(out, "{value}"),
-        Scalar::UInt32(value) => write!(out, "{value}"),
-        Scalar::Int64(value) => write!(out, "{value}"),
-        Scalar::UInt64(value) => write!(out, "{value}"),
+        Scalar::SByte(value) => push_signed(out, i64::from(*value)),
+        Scalar::Byte(value) => push_unsigned(out, u64::from(*value)),
+        Scalar::Int16(value) => push_signed(out, i64::from(*value)),
+        Scalar::UInt16(value) => push_unsigned(out, u64::from(*value)),
+        Scalar::Int32(value) => push_signed(out, i64::from(*value)),
+        Scalar::UInt32(value) => push_unsigned(out, u64::from(*value)),
+        Scalar::Int64(value) => push_signed(out, *value),
+        Scalar::UInt64(value) => push_unsigned(out, *value),
         Scalar::Float(value) => push_pattern(out, value.bits),
         Scalar::Double(value) => push_wide_pattern(out, value.bits),
         Scalar::String(value) => push_string(out, value),
-        Scalar::DateTime(value) => write!(out, "{}", value.ticks),
+        Scalar::DateTime(value) => push_signed(out, value.ticks),
         Scalar::Guid(value) => push_guid(out, value),
         Scalar::ByteString(value) => push_base64(out, value),
         Scalar::XmlElement(value) => push_encoded(alloc, out, value),
@@ -232,4 +233,18 @@ fn push_boolean(out: &mut String, value: bool) -> Result<(), AllocError>
     ensures { OnOk result (string_bytes out.new ≡ string_bytes out.old ++ boolean_text value) }
 {
     out.push_str(if value { "true" } else { "false" })
+}
+
+/// Appends a number that may be negative.
+fn push_signed(out: &mut String, value: i64) -> Result<(), AllocError>
+    ensures { OnOk result (string_bytes out.new ≡ string_bytes out.old ++ signed_decimal value) }
+{
+    write!(out, "{value}")
+}
+
+/// Appends a number that is not negative.
+fn push_unsigned(out: &mut String, value: u64) -> Result<(), AllocError>
+    ensures { OnOk result (string_bytes out.new ≡ string_bytes out.old ++ decimal value) }
+{
+    write!(out, "{value}")
 }
