@@ -9,7 +9,7 @@ use crate::serving::Serving;
 use crate::sharing::Sharing;
 use crate::taking::take_pieces;
 use crate::told::Told;
-use crate::words::{first_number, front, limits_of, text_of};
+use crate::words::{first_number, front, is_among, limits_of, text_of};
 use crate::{
     asked, bodies, calling, client, ends, faults, frames, parts, served, server, talks, transports,
     uses,
@@ -21,6 +21,49 @@ use ua_client::Client;
 use ua_exchange::Turn;
 use ua_frame::{Ack, ErrorFrame, FrameReader, Hello};
 use ua_pair::DissectOptions;
+
+/// The rows about a transport that was begun.
+const LINE_ROWS: [&str; 3] = ["gets", "puts", "written"];
+
+/// The rows about connections over nodes that they share.
+const SHARING_ROWS: [&str; 5] = ["connection", "at", "set", "holds", "stored"];
+
+/// The rows about the body of a UA TCP message.
+const BODY_ROWS: [&str; 6] = ["error", "chunk", "opening", "cut", "cut-in-place", "abort"];
+
+/// The rows that begin a dissector.
+const DISSECTOR_ROWS: [&str; 6] = [
+    "dissect",
+    "dissect-fields",
+    "dissect-names",
+    "dissect-named-fields",
+    "dissect-plain-fields",
+    "dissect-plain-named-fields",
+];
+
+/// The rows that are steps of what was begun last.
+const STEP_ROWS: [&str; 20] = [
+    "number",
+    "reply",
+    "reply-with",
+    "take-once",
+    "state",
+    "end",
+    "ask",
+    "asks",
+    "renew",
+    "judge",
+    "close",
+    "begin",
+    "begin-as",
+    "try-begin",
+    "call",
+    "call-all",
+    "call-into",
+    "next",
+    "last",
+    "refused",
+];
 
 /// What rows take steps of.
 enum Machine {
@@ -104,21 +147,28 @@ impl Rows {
             "forget" => self.given.forget(told),
             "moment" => self.given.set_moment(words, told),
             "moments" => tell_moments(words, told),
+            "turns" => self.begin_turns(words, told),
+            _ => self.answer_between(kind, words, told),
+        }
+    }
+
+    /// The answer to a row about a transport, or about a client and a server.
+    fn answer_between(&mut self, kind: &str, words: &str, told: &mut Told) {
+        match kind {
             "line" => self.course = Course::of(&self.given, words, told),
-            "gets" | "puts" | "written" => self.course.step(&self.given, kind, words, told),
             "serve" => self.serving.serve(&mut self.course, words, told),
             "serve-switch" => self.serving.serve_switch(&mut self.course, words, told),
-            "turns" => self.begin_turns(words, told),
             "exchange" => {
                 let (nodes, turns) = (self.serving.nodes.as_str(), self.turns.as_slice());
                 ends::answer(&self.given, nodes, turns, words, told);
             }
             "share" => self.sharing.begin(self.serving.nodes.as_str(), told),
-            "connection" | "at" | "set" | "holds" | "stored" => self
-                .sharing
-                .answer(&self.given, kind, words, told),
             "converse" => served::answer(&self.given, &self.serving, words, told),
             "converse-at" => served::answer_at(&self.given, &self.serving, words, told),
+            _ if is_among(kind, &LINE_ROWS) => self.course.step(&self.given, kind, words, told),
+            _ if is_among(kind, &SHARING_ROWS) => self
+                .sharing
+                .answer(&self.given, kind, words, told),
             _ => self.answer_alone(kind, words, told),
         }
     }
@@ -135,12 +185,17 @@ impl Rows {
             "HEL" => bodies::tell_body::<Hello>(&self.given, words, told),
             "ACK" => bodies::tell_body::<Ack>(&self.given, words, told),
             "ERR" => bodies::tell_body::<ErrorFrame>(&self.given, words, told),
-            "error" | "chunk" | "opening" | "cut" | "cut-in-place" | "abort" => {
-                bodies::answer(&self.given, kind, words, told);
-            }
             "parts" => parts::tell_node(&self.given, words, told),
             "source" => parts::tell_source(&self.given, words, told),
             "dissect-all" => tell_all(&self.given, words, told),
+            _ if is_among(kind, &BODY_ROWS) => bodies::answer(&self.given, kind, words, told),
+            _ => self.answer_use(kind, words, told),
+        }
+    }
+
+    /// The answer to a row about what an application does, or about what is told of it.
+    fn answer_use(&mut self, kind: &str, words: &str, told: &mut Told) {
+        match kind {
             "write-and-read" => uses::tell(&self.given, &mut self.course, words, told),
             "talk" => talks::tell(&self.given, &mut self.course, words, told),
             "stream" => transports::tell_stream(words, told),
@@ -159,34 +214,10 @@ impl Rows {
             "assembler" => self.begin_assembler(words, told),
             "server" => self.begin_server(words, told),
             "client" => self.begin_client(words, told),
-            "dissect"
-            | "dissect-fields"
-            | "dissect-names"
-            | "dissect-named-fields"
-            | "dissect-plain-fields"
-            | "dissect-plain-named-fields" => self.begin_dissector(kind, words, told),
             "open" => self.begin_caller(words, told),
             "take" | "pieces" => self.take(kind, words, told),
-            "number"
-            | "reply"
-            | "reply-with"
-            | "take-once"
-            | "state"
-            | "end"
-            | "ask"
-            | "asks"
-            | "renew"
-            | "judge"
-            | "close"
-            | "begin"
-            | "begin-as"
-            | "try-begin"
-            | "call"
-            | "call-all"
-            | "call-into"
-            | "next"
-            | "last"
-            | "refused" => self.step(kind, words, told),
+            _ if is_among(kind, &DISSECTOR_ROWS) => self.begin_dissector(kind, words, told),
+            _ if is_among(kind, &STEP_ROWS) => self.step(kind, words, told),
             _ => self.serving.answer(&self.given, kind, words, told),
         }
     }

@@ -9,6 +9,11 @@ pub fn front(words: &str) -> (&str, &str) {
     words.split_once(' ').unwrap_or((words, ""))
 }
 
+/// Whether a word is one of these.
+pub fn is_among(word: &str, words: &[&str]) -> bool {
+    words.iter().any(|one| *one == word)
+}
+
 /// The number that a word is.
 pub fn number_of(word: &str, told: &mut Told) -> u32 {
     match word.parse::<u32>() {
