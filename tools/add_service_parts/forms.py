@@ -192,7 +192,7 @@ def printed_of(s: Structure, k: Schema) -> str:
         out: &mut O,
     ) -> Result<(), TellFault> {{
         let names = {nested(names)};
-        <{nested(rust[:-1] + [f"Last<{rust[-1]}>"])}>::print_fields(alloc, src, place, names, text, out)
+        <{nested(rust[:-1] + [f"Last<{rust[-1]}>"])}>::print_fields(alloc, src, place, &names, text, out)
     }}
 }}
 """

@@ -37,7 +37,7 @@ impl Printed for ReadValueId {
             ("attribute_id", ("index_range", "data_encoding")),
         );
         <(NodeId, (u32, (UaString, Last<QualifiedName>)))>::print_fields(
-            alloc, src, place, names, text, out,
+            alloc, src, place, &names, text, out,
         )
     }
 }
@@ -68,7 +68,7 @@ impl Printed for ReadRequest {
         <(
             RequestHeader,
             (DoubleBits, (i32, Last<UaArray<ReadValueId>>)),
-        )>::print_fields(alloc, src, place, names, text, out)
+        )>::print_fields(alloc, src, place, &names, text, out)
     }
 }
 
@@ -95,7 +95,7 @@ impl Printed for ReadResponse {
         <(
             ResponseHeader,
             (UaArray<DataValue>, Last<UaArray<DiagnosticInfo>>),
-        )>::print_fields(alloc, src, place, names, text, out)
+        )>::print_fields(alloc, src, place, &names, text, out)
     }
 }
 
@@ -120,7 +120,7 @@ impl Printed for WriteValue {
     ) -> Result<(), TellFault> {
         let names = ("node_id", ("attribute_id", ("index_range", "value")));
         <(NodeId, (u32, (UaString, Last<DataValue>)))>::print_fields(
-            alloc, src, place, names, text, out,
+            alloc, src, place, &names, text, out,
         )
     }
 }
@@ -146,7 +146,7 @@ impl Printed for WriteRequest {
     ) -> Result<(), TellFault> {
         let names = ("request_header", "nodes_to_write");
         <(RequestHeader, Last<UaArray<WriteValue>>)>::print_fields(
-            alloc, src, place, names, text, out,
+            alloc, src, place, &names, text, out,
         )
     }
 }
@@ -174,6 +174,6 @@ impl Printed for WriteResponse {
         <(
             ResponseHeader,
             (UaArray<StatusCode>, Last<UaArray<DiagnosticInfo>>),
-        )>::print_fields(alloc, src, place, names, text, out)
+        )>::print_fields(alloc, src, place, &names, text, out)
     }
 }

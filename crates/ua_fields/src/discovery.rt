@@ -56,7 +56,7 @@ impl Printed for ApplicationDescription {
                     (i32, (UaString, (UaString, Last<UaArray<UaString>>))),
                 ),
             ),
-        )>::print_fields(alloc, src, place, names, text, out)
+        )>::print_fields(alloc, src, place, &names, text, out)
     }
 }
 
@@ -90,7 +90,7 @@ impl Printed for UserTokenPolicy {
             ),
         );
         <(UaString, (i32, (UaString, (UaString, Last<UaString>))))>::print_fields(
-            alloc, src, place, names, text, out,
+            alloc, src, place, &names, text, out,
         )
     }
 }
@@ -145,7 +145,7 @@ impl Printed for EndpointDescription {
                     ),
                 ),
             ),
-        )>::print_fields(alloc, src, place, names, text, out)
+        )>::print_fields(alloc, src, place, &names, text, out)
     }
 }
 
@@ -175,7 +175,7 @@ impl Printed for GetEndpointsRequest {
         <(
             RequestHeader,
             (UaString, (UaArray<UaString>, Last<UaArray<UaString>>)),
-        )>::print_fields(alloc, src, place, names, text, out)
+        )>::print_fields(alloc, src, place, &names, text, out)
     }
 }
 
@@ -200,7 +200,7 @@ impl Printed for GetEndpointsResponse {
     ) -> Result<(), TellFault> {
         let names = ("response_header", "endpoints");
         <(ResponseHeader, Last<UaArray<EndpointDescription>>)>::print_fields(
-            alloc, src, place, names, text, out,
+            alloc, src, place, &names, text, out,
         )
     }
 }

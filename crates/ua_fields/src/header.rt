@@ -48,7 +48,7 @@ impl Printed for RequestHeader {
                 DateTime,
                 (u32, (u32, (UaString, (u32, Last<ExtensionObject>)))),
             ),
-        )>::print_fields(alloc, src, place, names, text, out)
+        )>::print_fields(alloc, src, place, &names, text, out)
     }
 }
 
@@ -90,7 +90,7 @@ impl Printed for ResponseHeader {
                     (DiagnosticInfo, (UaArray<UaString>, Last<ExtensionObject>)),
                 ),
             ),
-        )>::print_fields(alloc, src, place, names, text, out)
+        )>::print_fields(alloc, src, place, &names, text, out)
     }
 }
 
@@ -114,6 +114,6 @@ impl Printed for ServiceFault {
         out: &mut O,
     ) -> Result<(), TellFault> {
         let names = "response_header";
-        <Last<ResponseHeader>>::print_fields(alloc, src, place, names, text, out)
+        <Last<ResponseHeader>>::print_fields(alloc, src, place, &names, text, out)
     }
 }

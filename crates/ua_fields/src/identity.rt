@@ -33,11 +33,14 @@ const ISSUED: u32 = 940;
 struct AnonymousFields;
 
 impl PrintedFields for AnonymousFields {
+    ghost use Rattle.ua_structures.specs.Session.{anonymous_identity_token};
     ghost use Rattle.ua_fields.specs.Leaves.{anonymous_token_entries};
 
     type Values = AnonymousIdentityToken;
 
     type Names = ();
+
+    ghost format = { anonymous_identity_token };
 
     ghost fields = { λ names token. anonymous_token_entries token };
 
@@ -45,11 +48,11 @@ impl PrintedFields for AnonymousFields {
         alloc: Global,
         src: &mut S,
         place: Place,
-        _names: (),
+        _names: &(),
         text: &mut String,
         out: &mut O,
     ) -> Result<(), TellFault> {
-        <Last<UaString>>::print_fields(alloc, src, place, "policy_id", text, out)
+        <Last<UaString>>::print_fields(alloc, src, place, &"policy_id", text, out)
     }
 }
 
@@ -112,15 +115,18 @@ fn print_token<F: PrintedFields, O: Sink>(
     octets: &[u8],
     place: Place<'_>,
     type_name: &str,
-    field_names: F::Names,
+    field_names: &F::Names,
     text: &mut String,
     out: &mut O,
 ) -> Result<(), PrintFault>
-    requires { IsTrue place.style.plain }
+where
+    F::Values: Wire + Drop,
+    requires plain { IsTrue place.style.plain }
+    requires same { body_of F.format octets.now ≡ body_of F.Values.format octets.now }
     ensures { PrintsOrBreaks place.entry.style (O.contents out.old) (string_bytes text.old) (O.contents out.new)
         (string_bytes text.new) (IsBehind place.entry.style place.entry.margin.now place.entry.path.now []
-        (object_or_token object.now (token_as type_name.now (λ v. structure (F.fields field_names v))
-        (body_of F.Values.format octets.now)))) result }
+        (object_or_token object.now (token_as type_name.now (λ v. structure (F.fields field_names.now v))
+        (body_of F.format octets.now)))) result }
 {
     if !is_encoding::<F::Values>(alloc, octets)? {
         return print_octets_line(alloc, object, place, text, out);
@@ -161,7 +167,7 @@ fn print_numbered<O: Sink>(
     match number {
         ANONYMOUS => {
             let name = "AnonymousIdentityToken";
-            print_token::<AnonymousFields, O>(alloc, object, octets, place, name, (), text, out)
+            print_token::<AnonymousFields, O>(alloc, object, octets, place, name, &(), text, out)
         }
         USER_NAME => {
             let name = "UserNameIdentityToken";
@@ -169,19 +175,19 @@ fn print_numbered<O: Sink>(
                 "policy_id",
                 ("user_name", ("password", "encryption_algorithm")),
             );
-            print_token::<UserNameFields, O>(alloc, object, octets, place, name, names, text, out)
+            print_token::<UserNameFields, O>(alloc, object, octets, place, name, &names, text, out)
         }
         X509 => {
             let name = "X509IdentityToken";
             let names = ("policy_id", "certificate_data");
             print_token::<CertificateFields, O>(
-                alloc, object, octets, place, name, names, text, out,
+                alloc, object, octets, place, name, &names, text, out,
             )
         }
         ISSUED => {
             let name = "IssuedIdentityToken";
             let names = ("policy_id", ("token_data", "encryption_algorithm"));
-            print_token::<IssuedFields, O>(alloc, object, octets, place, name, names, text, out)
+            print_token::<IssuedFields, O>(alloc, object, octets, place, name, &names, text, out)
         }
         _ => print_octets_line(alloc, object, place, text, out),
     }

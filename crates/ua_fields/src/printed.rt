@@ -189,17 +189,21 @@ impl<T: Printed> Printed for UaArray<T> {
 
 /// The fields of a structure in their order, as nested pairs with the last one in [`Last`]: those of
 /// a Read are `(RequestHeader, (DoubleBits, (i32, Last<UaArray<ReadValueId>>)))`.
+// The values and the names have no bounds: each would be looked up anew at each pair within others.
 pub(crate) trait PrintedFields {
     ghost use Rattle.std.specs.Prelude.{[], string_bytes};
-    ghost use Rattle.ua_builtin.specs.Format.{most_levels};
+    ghost use Rattle.ua_builtin.specs.Format.{Format, most_levels};
     ghost use Rattle.ua_fields.specs.Printing.{BreaksRead, PrintsText, PrintsRead};
     ghost use Rattle.ua_fields.specs.Tree.{AreFieldsBehind, Fields};
 
     /// The values of the fields.
-    type Values: Wire + Drop;
+    type Values;
 
     /// Their names.
-    type Names: Drop;
+    type Names;
+
+    /// How the values are encoded, one after the other.
+    ghost format: { Format Self.Values };
 
     /// Their trees, by their names.
     ghost fields: { Self.Names → Self.Values → Fields };
@@ -209,18 +213,19 @@ pub(crate) trait PrintedFields {
         alloc: Global,
         src: &mut S,
         place: Place,
-        names: Self::Names,
+        names: &Self::Names,
         text: &mut String,
         out: &mut O,
     ) -> Result<(), TellFault>
-        ensures { PrintsRead (Self.Values.format.decode most_levels) (S.octets src.old) (S.octets src.new)
+        ensures { PrintsRead (format.decode most_levels) (S.octets src.old) (S.octets src.new)
             (λ value. PrintsText (O.contents out.old) (string_bytes text.old) (O.contents out.new)
             (string_bytes text.new)
-            (AreFieldsBehind place.entry.style place.entry.margin.now place.entry.path.now [] (fields names value)))
-            (BreaksRead place.entry.style (Self.Values.format.decode most_levels) (S.octets src.old)
+            (AreFieldsBehind place.entry.style place.entry.margin.now place.entry.path.now []
+            (fields names.now value)))
+            (BreaksRead place.entry.style (format.decode most_levels) (S.octets src.old)
             (O.contents out.old) (string_bytes text.old) (O.contents out.new)
             (λ value. AreFieldsBehind place.entry.style place.entry.margin.now place.entry.path.now []
-            (fields names value))) result };
+            (fields names.now value))) result };
 }
 
 /// The last field of a structure.
@@ -233,13 +238,15 @@ impl<T: Printed> PrintedFields for Last<T> {
 
     type Names = &'static str;
 
+    ghost format = { T.format };
+
     ghost fields = { λ name value. field name.now (T.tree value) no_fields };
 
     fn print_fields<S: Source, O: Sink>(
         alloc: Global,
         src: &mut S,
         place: Place,
-        name: &'static str,
+        name: &&'static str,
         text: &mut String,
         out: &mut O,
     ) -> Result<(), TellFault> {
@@ -248,11 +255,14 @@ impl<T: Printed> PrintedFields for Last<T> {
 }
 
 impl<A: Printed, B: PrintedFields> PrintedFields for (A, B) {
+    ghost use Rattle.ua_builtin.specs.Join.{pair};
     ghost use Rattle.ua_fields.specs.Tree.{field};
 
     type Values = (A, B::Values);
 
     type Names = (&'static str, B::Names);
+
+    ghost format = { pair A.format B.format };
 
     ghost fields = { λ names value. field names.0.now (A.tree value.0) (B.fields names.1 value.1) };
 
@@ -260,7 +270,7 @@ impl<A: Printed, B: PrintedFields> PrintedFields for (A, B) {
         alloc: Global,
         src: &mut S,
         place: Place,
-        names: (&'static str, B::Names),
+        names: &(&'static str, B::Names),
         text: &mut String,
         out: &mut O,
     ) -> Result<(), TellFault> {

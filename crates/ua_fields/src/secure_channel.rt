@@ -39,7 +39,7 @@ impl Printed for OpenRequest {
             ),
         );
         <(RequestHeader, (u32, (i32, (i32, (UaBytes, Last<u32>)))))>::print_fields(
-            alloc, src, place, names, text, out,
+            alloc, src, place, &names, text, out,
         )
     }
 }
@@ -64,6 +64,6 @@ impl Printed for CloseRequest {
         out: &mut O,
     ) -> Result<(), TellFault> {
         let names = "request_header";
-        <Last<RequestHeader>>::print_fields(alloc, src, place, names, text, out)
+        <Last<RequestHeader>>::print_fields(alloc, src, place, &names, text, out)
     }
 }

@@ -46,11 +46,17 @@ impl Lines for OpenResponse {
 struct OpenedFields;
 
 impl PrintedFields for OpenedFields {
+    ghost use Rattle.ua_builtin.specs.DateTime.{date_time};
+    ghost use Rattle.ua_builtin.specs.Format.{flat};
+    ghost use Rattle.ua_builtin.specs.Join.{pair};
+    ghost use Rattle.ua_opening.specs.Field.{byte_string, uint32};
     ghost use Rattle.ua_fields.specs.SecurityToken.{opened_fields};
 
     type Values = (u32, (u32, (u32, (DateTime, (u32, UaBytes)))));
 
     type Names = ();
+
+    ghost format = { pair uint32 (pair uint32 (pair uint32 (pair (flat date_time) (pair uint32 byte_string)))) };
 
     ghost fields = { λ names value. opened_fields value };
 
@@ -58,7 +64,7 @@ impl PrintedFields for OpenedFields {
         alloc: Global,
         src: &mut S,
         place: Place,
-        _names: (),
+        _names: &(),
         text: &mut String,
         out: &mut O,
     ) -> Result<(), TellFault> {
@@ -90,6 +96,6 @@ impl Printed for OpenResponse {
         out: &mut O,
     ) -> Result<(), TellFault> {
         let names = ("response_header", ());
-        <(ResponseHeader, OpenedFields)>::print_fields(alloc, src, place, names, text, out)
+        <(ResponseHeader, OpenedFields)>::print_fields(alloc, src, place, &names, text, out)
     }
 }

@@ -34,7 +34,7 @@ impl Printed for SignedSoftwareCertificate {
         out: &mut O,
     ) -> Result<(), TellFault> {
         let names = ("certificate_data", "signature");
-        <(UaBytes, Last<UaBytes>)>::print_fields(alloc, src, place, names, text, out)
+        <(UaBytes, Last<UaBytes>)>::print_fields(alloc, src, place, &names, text, out)
     }
 }
 
@@ -58,7 +58,7 @@ impl Printed for SignatureData {
         out: &mut O,
     ) -> Result<(), TellFault> {
         let names = ("algorithm", "signature");
-        <(UaString, Last<UaBytes>)>::print_fields(alloc, src, place, names, text, out)
+        <(UaString, Last<UaBytes>)>::print_fields(alloc, src, place, &names, text, out)
     }
 }
 
@@ -115,7 +115,7 @@ impl Printed for CreateSessionRequest {
                     ),
                 ),
             ),
-        )>::print_fields(alloc, src, place, names, text, out)
+        )>::print_fields(alloc, src, place, &names, text, out)
     }
 }
 
@@ -187,7 +187,7 @@ impl Printed for CreateSessionResponse {
                     ),
                 ),
             ),
-        )>::print_fields(alloc, src, place, names, text, out)
+        )>::print_fields(alloc, src, place, &names, text, out)
     }
 }
 
@@ -232,7 +232,7 @@ impl Printed for ActivateSessionRequest {
                     (UaArray<UaString>, (ExtensionObject, Last<SignatureData>)),
                 ),
             ),
-        )>::print_fields(alloc, src, place, names, text, out)
+        )>::print_fields(alloc, src, place, &names, text, out)
     }
 }
 
@@ -265,7 +265,7 @@ impl Printed for ActivateSessionResponse {
                 UaBytes,
                 (UaArray<StatusCode>, Last<UaArray<DiagnosticInfo>>),
             ),
-        )>::print_fields(alloc, src, place, names, text, out)
+        )>::print_fields(alloc, src, place, &names, text, out)
     }
 }
 
@@ -289,7 +289,7 @@ impl Printed for CloseSessionRequest {
         out: &mut O,
     ) -> Result<(), TellFault> {
         let names = ("request_header", "delete_subscriptions");
-        <(RequestHeader, Last<bool>)>::print_fields(alloc, src, place, names, text, out)
+        <(RequestHeader, Last<bool>)>::print_fields(alloc, src, place, &names, text, out)
     }
 }
 
@@ -313,6 +313,6 @@ impl Printed for CloseSessionResponse {
         out: &mut O,
     ) -> Result<(), TellFault> {
         let names = "response_header";
-        <Last<ResponseHeader>>::print_fields(alloc, src, place, names, text, out)
+        <Last<ResponseHeader>>::print_fields(alloc, src, place, &names, text, out)
     }
 }
