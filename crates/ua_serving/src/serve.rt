@@ -16,7 +16,7 @@ ghost use Rattle.ua_report.specs.Reasons.{EndsServing, NeverAccepts, StopsForFau
 ghost use Rattle.ua_report.specs.Reasons.{StopsConnection, StopsWriting, is_starved};
 ghost use Rattle.ua_report.specs.declared.fault.Fault.TheVariants.{CannotListen};
 
-use crate::at_once::{self, Plant, serve_places};
+use crate::at_once::{Plant, serve_plant};
 use crate::live::LiveFile;
 use crate::setup::Setup;
 use crate::standard::{StandardServices, standard_services};
@@ -581,6 +581,26 @@ pub fn serve_all<'a, R: Net + Clock + AllocGlobal, O: Write, E: Write>(
     Ok(())
 }
 
+/// Serves as [`serve_all`] does, on a port of this machine.
+fn serve_in_turn<'a, R: Net + Clock + AllocGlobal, O: Write, E: Write>(
+    rt: &R,
+    mut services: Services,
+    setup: &Setup<'a>,
+    out: &mut O,
+    err: &mut E,
+) -> Result<(), Stop<'a>>
+    ensures served { OnOk result (HasServed setup.now.asked.requests setup.now.asked.goes_on setup.now.asked.port
+        setup.now.asked.connections (O.contents out.old) (O.contents out.new)) }
+    ensures stopped { IfErr result (λ stop. StopsWriting stop ⊎ (out.new ≡ out.old)
+        ⊎ HasServedSome setup.now.asked.requests setup.now.asked.goes_on setup.now.asked.port
+        setup.now.asked.connections (O.contents out.old) (O.contents out.new)) }
+    ensures lasts { setup.now.asked.goes_on ≡ true → IfErr result (λ why. EndsServing why ⊎ (out.new ≡ out.old)) }
+    ensures quiet { setup.now.telling.aloud ≡ false → err.new ≡ err.old }
+{
+    let listener = listen(rt, setup.asked.port)?;
+    serve_all(rt, &listener, &mut services, setup, out, err)
+}
+
 /// Serves connections on a port of this machine, one after the other or many at a time, and prints
 /// the outcome of each.
 pub fn serve_connections<'a, R: Files + Net + Clock + AllocGlobal, I: Read, O: Write, E: Write>(
@@ -604,7 +624,7 @@ pub fn serve_connections<'a, R: Files + Net + Clock + AllocGlobal, I: Read, O: W
         services,
         keeps_time,
     } = made;
-    let mut services = limited(services, asked.kept);
+    let services = limited(services, asked.kept);
     // the server keeps CurrentTime where the file does not have it
     let asked = Serve {
         standard: keeps_time,
@@ -612,18 +632,14 @@ pub fn serve_connections<'a, R: Files + Net + Clock + AllocGlobal, I: Read, O: W
     };
     let setup = Setup { asked, telling };
     match asked.at_once {
-        None => {
-            let listener = listen(rt, asked.port)?;
-            serve_all(rt, &listener, &mut services, &setup, out, err)
-        }
+        None => serve_in_turn(rt, services, &setup, out, err),
         Some(places) => {
-            let listener = at_once::listen(rt, asked.port)?;
-            let mut plant = Plant {
+            let plant = Plant {
                 services,
                 live,
                 places,
             };
-            serve_places(rt, listener, &mut plant, &setup, out, err)
+            serve_plant(rt, plant, &setup, out, err)
         }
     }
 }
