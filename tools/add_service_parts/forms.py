@@ -130,7 +130,7 @@ def skip_of(s: Structure, k: Schema) -> str:
     calls, types = k.all("skip", s), k.all("rust", s)
     pairs = max((n + 1 for n, call in enumerate(calls) if not call.endswith("::skip_value")), default=0)
     if len(types) > pairs + 1:
-        calls = calls[:pairs] + [f"<{nested(types[pairs:])}>::skip_value"]
+        calls = calls[:pairs] + [f"<{nested([*types[pairs:-1], f'Last<{types[-1]}>'])}>::skip_fields"]
     skipped = "?;\n        ".join([f"{call}(alloc, src, depth)" for call in calls] + ["Ok(())"] * (s.fields[-1][1] == "RequestHeader"))
     return f"""impl Skip for {s.name} {{
     #[tactic(auto, unfolding(crate::specs::{s.spec}::{s.word}))]

@@ -84,9 +84,10 @@ def skip_file(file: File, k: Schema) -> str:
     origins = {s.name: f"crate::{s.declared_in}" for s in k.structures.values() if s.crate == STRUCTURES}
     found = elements(file.structures) + [s.name for s in file.structures]
     names = [(k.of(kind).rust, origins.get(kind, k.of(kind).library)) for kind in found if k.of(kind).library]
-    names += [("skip_one", "crate::skip"), ("skip_status_codes", "crate::skip"), ("UaArray", "ua_opening"), ("Global", "std::alloc")]
+    names += [(it, "crate::skip") for it in ("Last", "SkippedFields", "skip_one", "skip_status_codes")] + [("UaArray", "ua_opening"), ("Global", "std::alloc")]
     names += [(it, "ua_builtin") for it in ("ReadFault", "Skip", "Source")]
-    names = [it for it in names if re.search(rf"\b{it[0]}\b", body)]
+    traits = {"SkippedFields": "skip_fields"}
+    names = [it for it in names if re.search(rf"\b{traits.get(it[0], it[0])}\b", body)]
     return head(file, "//!", f"Skips the structures of {file.title}, field by field.") + "\n" + uses(names) + "\n" + body
 
 

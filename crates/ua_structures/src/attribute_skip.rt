@@ -4,7 +4,7 @@
 use crate::attribute::{
     ReadRequest, ReadResponse, ReadValueId, WriteRequest, WriteResponse, WriteValue,
 };
-use crate::skip::skip_status_codes;
+use crate::skip::{Last, SkippedFields, skip_status_codes};
 use std::alloc::Global;
 use ua_builtin::{DoubleBits, NodeId, QualifiedName, ReadFault, Skip, Source, UaString};
 use ua_opening::{RequestHeader, ResponseHeader, UaArray};
@@ -13,7 +13,7 @@ use ua_variant::{DataValue, DiagnosticInfo};
 impl Skip for ReadValueId {
     #[tactic(auto, unfolding(crate::specs::Attribute::read_value_id))]
     fn skip_value<S: Source>(alloc: Global, src: &mut S, depth: u32) -> Result<(), ReadFault> {
-        <(NodeId, (u32, (UaString, QualifiedName)))>::skip_value(alloc, src, depth)
+        <(NodeId, (u32, (UaString, Last<QualifiedName>)))>::skip_fields(alloc, src, depth)
     }
 }
 
@@ -21,7 +21,7 @@ impl Skip for ReadRequest {
     #[tactic(auto, unfolding(crate::specs::Attribute::read_request))]
     fn skip_value<S: Source>(alloc: Global, src: &mut S, depth: u32) -> Result<(), ReadFault> {
         RequestHeader::skip_for_handle(alloc, src, depth)?;
-        <(DoubleBits, (i32, UaArray<ReadValueId>))>::skip_value(alloc, src, depth)
+        <(DoubleBits, (i32, Last<UaArray<ReadValueId>>))>::skip_fields(alloc, src, depth)
     }
 }
 
@@ -30,15 +30,15 @@ impl Skip for ReadResponse {
     fn skip_value<S: Source>(alloc: Global, src: &mut S, depth: u32) -> Result<(), ReadFault> {
         <(
             ResponseHeader,
-            (UaArray<DataValue>, UaArray<DiagnosticInfo>),
-        )>::skip_value(alloc, src, depth)
+            (UaArray<DataValue>, Last<UaArray<DiagnosticInfo>>),
+        )>::skip_fields(alloc, src, depth)
     }
 }
 
 impl Skip for WriteValue {
     #[tactic(auto, unfolding(crate::specs::Attribute::write_value))]
     fn skip_value<S: Source>(alloc: Global, src: &mut S, depth: u32) -> Result<(), ReadFault> {
-        <(NodeId, (u32, (UaString, DataValue)))>::skip_value(alloc, src, depth)
+        <(NodeId, (u32, (UaString, Last<DataValue>)))>::skip_fields(alloc, src, depth)
     }
 }
 

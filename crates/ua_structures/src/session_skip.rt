@@ -7,7 +7,7 @@ use crate::session::{
     CloseSessionResponse, CreateSessionRequest, CreateSessionResponse,
 };
 use crate::signature::{SignatureData, SignedSoftwareCertificate};
-use crate::skip::skip_status_codes;
+use crate::skip::{Last, SkippedFields, skip_status_codes};
 use std::alloc::Global;
 use ua_builtin::{DoubleBits, ExtensionObject, NodeId, ReadFault, Skip, Source, UaBytes, UaString};
 use ua_opening::{RequestHeader, ResponseHeader, UaArray};
@@ -16,14 +16,14 @@ use ua_variant::DiagnosticInfo;
 impl Skip for SignedSoftwareCertificate {
     #[tactic(auto, unfolding(crate::specs::Session::signed_software_certificate))]
     fn skip_value<S: Source>(alloc: Global, src: &mut S, depth: u32) -> Result<(), ReadFault> {
-        <(UaBytes, UaBytes)>::skip_value(alloc, src, depth)
+        <(UaBytes, Last<UaBytes>)>::skip_fields(alloc, src, depth)
     }
 }
 
 impl Skip for SignatureData {
     #[tactic(auto, unfolding(crate::specs::Session::signature_data))]
     fn skip_value<S: Source>(alloc: Global, src: &mut S, depth: u32) -> Result<(), ReadFault> {
-        <(UaString, UaBytes)>::skip_value(alloc, src, depth)
+        <(UaString, Last<UaBytes>)>::skip_fields(alloc, src, depth)
     }
 }
 
@@ -44,10 +44,10 @@ impl Skip for CreateSessionRequest {
                 UaString,
                 (
                     UaString,
-                    (UaString, (UaBytes, (UaBytes, (DoubleBits, u32)))),
+                    (UaString, (UaBytes, (UaBytes, (DoubleBits, Last<u32>)))),
                 ),
             ),
-        )>::skip_value(alloc, src, depth)
+        )>::skip_fields(alloc, src, depth)
     }
 }
 
@@ -68,14 +68,17 @@ impl Skip for CreateSessionResponse {
                                 UaBytes,
                                 (
                                     UaArray<EndpointDescription>,
-                                    (UaArray<SignedSoftwareCertificate>, (SignatureData, u32)),
+                                    (
+                                        UaArray<SignedSoftwareCertificate>,
+                                        (SignatureData, Last<u32>),
+                                    ),
                                 ),
                             ),
                         ),
                     ),
                 ),
             ),
-        )>::skip_value(alloc, src, depth)
+        )>::skip_fields(alloc, src, depth)
     }
 }
 
@@ -87,9 +90,9 @@ impl Skip for ActivateSessionRequest {
             SignatureData,
             (
                 UaArray<SignedSoftwareCertificate>,
-                (UaArray<UaString>, (ExtensionObject, SignatureData)),
+                (UaArray<UaString>, (ExtensionObject, Last<SignatureData>)),
             ),
-        )>::skip_value(alloc, src, depth)
+        )>::skip_fields(alloc, src, depth)
     }
 }
 

@@ -1,4 +1,5 @@
-//! Skips values of types that have no [`Skip`](ua_builtin::Skip) of their own.
+//! Skips the fields of structures, and values of types that have no [`Skip`](ua_builtin::Skip) of
+//! their own.
 
 ghost use Rattle.std.specs.Prelude.{◌≡◌, ◌≤◌};
 ghost use Rattle.ua_builtin.specs.Exact.{skipped};
@@ -40,4 +41,52 @@ pub(crate) fn skip_status_codes<S: Source>(
     ensures behind { StaysBehind (S.octets src.old) (S.octets src.new) }
 {
     UaArray::<u32>::skip_value(alloc, src, depth)
+}
+
+/// Fields of a structure that stand one after the other, as nested pairs with the last one in
+/// [`Last`]: those of a Read after its header are `(DoubleBits, (i32, Last<UaArray<ReadValueId>>))`.
+// The values have no bounds: each would be looked up anew at each pair within others.
+pub(crate) trait SkippedFields {
+    ghost use Rattle.ua_builtin.specs.Format.{Format};
+
+    /// The values of the fields.
+    type Values;
+
+    /// How they are encoded, one after the other.
+    ghost format: { Format Self.Values };
+
+    /// Skips the fields at the start of the source, of at most nesting depth `depth`. After an
+    /// error, discard the source.
+    fn skip_fields<S: Source>(alloc: Global, src: &mut S, depth: u32) -> Result<(), ReadFault>
+        requires levels { depth ≤ most_levels }
+        ensures exact { Gives (skipped (format.decode depth)) (S.octets src.old) (S.octets src.new) result }
+        ensures behind { StaysBehind (S.octets src.old) (S.octets src.new) };
+}
+
+/// The last field of a structure.
+pub(crate) struct Last<T>(T);
+
+impl<T: Skip> SkippedFields for Last<T> {
+    type Values = T;
+
+    ghost format = { T.format };
+
+    #[inline]
+    fn skip_fields<S: Source>(alloc: Global, src: &mut S, depth: u32) -> Result<(), ReadFault> {
+        T::skip_value(alloc, src, depth)
+    }
+}
+
+impl<A: Skip, B: SkippedFields> SkippedFields for (A, B) {
+    ghost use Rattle.ua_builtin.specs.Join.{pair};
+
+    type Values = (A, B::Values);
+
+    ghost format = { pair A.format B.format };
+
+    #[inline]
+    fn skip_fields<S: Source>(alloc: Global, src: &mut S, depth: u32) -> Result<(), ReadFault> {
+        A::skip_value(alloc, src, depth)?;
+        B::skip_fields(alloc, src, depth)
+    }
 }
