@@ -173,16 +173,60 @@ fn field_of(line: &str, reason: LineReason) -> &str {
 /// few fields or too many, or where each of them is good.
 fn bad_field(alloc: Global, line: &str) -> Result<&str, AllocError> {
     let fields: Vec<&str> = line.split('\t').collect(alloc)?;
-    match fields.as_slice() {
-        ["read", node] if !is_node(alloc, node)? => Ok(node),
-        ["read", node, _] if !is_node(alloc, node)? => Ok(node),
-        ["read", _, range] if range.len() > MOST_OCTETS => Ok(range),
-        ["write", node, _, _] if !is_node(alloc, node)? => Ok(node),
-        ["write", _, kind, text] => bad_value(alloc, line, kind, text),
-        ["sleep", time] => Ok(time),
-        ["read" | "write" | "renew" | "sleep" | "endpoints", ..] => Ok(line),
-        [word, ..] => Ok(word),
-        [] => Ok(line),
+    let Some((word, operands)) = fields.split_first() else {
+        return Ok(line);
+    };
+    match *word {
+        "read" => bad_in_read(alloc, line, operands),
+        "write" => bad_in_write(alloc, line, operands),
+        "sleep" => Ok(bad_in_sleep(line, operands)),
+        "renew" | "endpoints" => Ok(line),
+        _ => Ok(word),
+    }
+}
+
+/// The node or the range of elements behind `read` for which it asks for nothing; the line, where
+/// both are good, or are not all there is.
+fn bad_in_read<'t>(
+    alloc: Global,
+    line: &'t str,
+    operands: &[&'t str],
+) -> Result<&'t str, AllocError> {
+    let (node, range) = match operands {
+        [node] => (*node, ""),
+        [node, range] => (*node, *range),
+        _ => return Ok(line),
+    };
+    if !is_node(alloc, node)? {
+        return Ok(node);
+    }
+    if range.len() > MOST_OCTETS {
+        return Ok(range);
+    }
+    Ok(line)
+}
+
+/// The node, the type or the value behind `write` for which it asks for nothing; the line, where
+/// all are good, or are not all there is.
+fn bad_in_write<'t>(
+    alloc: Global,
+    line: &'t str,
+    operands: &[&'t str],
+) -> Result<&'t str, AllocError> {
+    let [node, kind, text] = operands else {
+        return Ok(line);
+    };
+    if !is_node(alloc, node)? {
+        return Ok(node);
+    }
+    bad_value(alloc, line, kind, text)
+}
+
+/// The time behind `sleep`; the line, where it is not all there is.
+fn bad_in_sleep<'t>(line: &'t str, operands: &[&'t str]) -> &'t str {
+    match operands {
+        [time] => time,
+        _ => line,
     }
 }
 
