@@ -1,7 +1,7 @@
 #!/usr/bin/env python3
 """Writes the man pages of `ua` and its completion for bash from the table of words that its help has: write_pages [--check].
 
-The table is COMMANDS of crates/ua_words/src/commands.rt. man/ua.1 lists the commands, man/ua-COMMAND.1 has the
+The table is that of `commands` in crates/ua_words/src/commands.rt. man/ua.1 lists the commands, man/ua-COMMAND.1 has the
 words of one, and completion/ua.bash completes commands, options and names of files. With --check nothing is written: the
 status is 1 where a file is not what the table gives, and each such file is named.
 """
@@ -94,10 +94,14 @@ def table(text: str) -> tuple[str, list[Command]]:
         lists[name] = tuple(word(inner) if inner else consts[it] for inner, it in items)
     if read != len(re.findall(r"(?<!struct )\bWord \{", text)):
         raise SystemExit(f"write_pages: {TABLE} has words that this tool does not read")
-    commands = []
-    for body in re.findall(r"Words \{(.*?)\n    \}", text[text.index("const COMMANDS"):], re.S):
+    found = {}
+    for name, body in re.findall(r"^fn (\w+)\(\) -> Words \{\s*Words \{(.*?)^    \}", text, re.M | re.S):
         given = entry(body)
-        commands.append(Command(given["name"], given["help"], lists.get(given.get("words", ""), ())))
+        found[name] = Command(given["name"], given["help"], lists.get(given.get("words", ""), ()))
+    order = re.search(r"^fn commands\(\) -> \[Words; \d+\] \{(.*?)^\}", text, re.M | re.S)
+    commands = [found[name] for name in re.findall(r"(\w+)\(\)", order.group(1))]
+    if len(commands) != len(found):
+        raise SystemExit(f"write_pages: {TABLE} has commands that are not listed")
     return re.search(r'\.about\("([^"]*)"\)', text).group(1), commands
 
 

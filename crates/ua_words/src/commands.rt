@@ -357,58 +357,101 @@ const LOOP: &[Word] = &[
     WHY,
 ];
 
-/// The commands, in the order of the help.
-const COMMANDS: &[Words] = &[
+/// `ua dissect`.
+fn dissect() -> Words {
     Words {
         name: "dissect",
         help: "prints the frames and messages of a file of bytes",
         words: DISSECT,
-    },
+    }
+}
+
+/// `ua judge`.
+fn judge() -> Words {
     Words {
         name: "judge",
         help: "prints both sides of a connection, and which of them breaks the protocol",
         words: JUDGE,
-    },
+    }
+}
+
+/// `ua serve`.
+fn serve() -> Words {
     Words {
         name: "serve",
         help: "serves connections on a port, one after the other or many at a time",
         words: SERVE,
-    },
+    }
+}
+
+/// `ua endpoints`.
+fn endpoints() -> Words {
     Words {
         name: "endpoints",
         help: "prints the endpoints of a server",
         words: ENDPOINTS,
-    },
+    }
+}
+
+/// `ua read`.
+fn read() -> Words {
     Words {
         name: "read",
         help: "reads the values of nodes",
         words: READ,
-    },
+    }
+}
+
+/// `ua write`.
+fn write() -> Words {
     Words {
         name: "write",
         help: "writes the value of a node",
         words: WRITE,
-    },
+    }
+}
+
+/// `ua ask`.
+fn ask() -> Words {
     Words {
         name: "ask",
         help: "answers lines in one session as they come, or reads nodes again and again",
         words: ASK,
-    },
+    }
+}
+
+/// `ua loop`.
+fn loop_script() -> Words {
     Words {
         name: "loop",
         help: "runs a script over nodes, with both ends within this process",
         words: LOOP,
-    },
+    }
+}
+
+/// `ua version`.
+fn version() -> Words {
     Words {
         name: "version",
         help: "prints the version, and the kit that it is proved with",
         words: &[],
-    },
-];
+    }
+}
 
-/// The commands. They are made here, where nothing else is alive.
-fn commands() -> &'static [Words] {
-    COMMANDS
+/// The commands, in the order of the help.
+// Each has a function of its own, since what a function names is written out at each of its steps.
+fn commands() -> [Words; 9] {
+    [
+        dissect(),
+        judge(),
+        serve(),
+        endpoints(),
+        read(),
+        write(),
+        ask(),
+        loop_script(),
+        version(),
+    ]
 }
 
 /// A word as `clap` takes it.
@@ -487,7 +530,7 @@ pub fn program<'a>(alloc: Global) -> Result<Command<'a>, AllocError> {
     let mut program = Command::new(alloc, "ua")
         .about("OPC UA Binary over UA TCP")
         .subcommand_required(true);
-    for words in commands() {
+    for words in &commands() {
         match with_command(alloc, program, words) {
             Ok(longer) => program = longer,
             Err(error) => return Err(error),
