@@ -93,10 +93,7 @@ impl<S: Socket> Connections<S> {
     fn is_free(&self, place: usize) -> bool
         ensures { IsTrue result ↔ IsFree (places_of self.now) place }
     {
-        match self.places.get(place) {
-            Some(None) => true,
-            _ => false,
-        }
+        place < self.places.len() && self.places[place].is_none()
     }
 
     /// Opens a connection to the peer at the other end of a socket, at a free place, and gives its
@@ -185,10 +182,12 @@ impl<S: Socket> Connections<S> {
     fn is_over(&self, place: usize) -> bool
         ensures { result ≡ is_some (released_at (places_of self.now) place) }
     {
-        match self.places.get(place) {
-            Some(Some(conversation)) => conversation.outcome().is_some(),
-            _ => false,
+        if place < self.places.len()
+            && let Some(conversation) = &self.places[place]
+        {
+            return conversation.outcome().is_some();
         }
+        false
     }
 
     /// Frees a place whose connection is over; `None` where there is no such connection.
