@@ -278,11 +278,10 @@ fn let_go<'r, 'a, R>(live: Option<LiveFile<'r, 'a, R>>) {
     drop(live);
 }
 
-/// Serves this many connections, numbered from 1, at most so many at a time, and prints the outcome
-/// of each as it ends, and with `writes` what clients' Writes store.
-fn serve_places<'r, 'a, R: Files + Net + Clock + AllocGlobal, O: Write, E: Write>(
+/// Serves this many connections on a port of this machine, numbered from 1, at most so many at a
+/// time, and prints the outcome of each as it ends, and with `writes` what clients' Writes store.
+pub fn serve_places<'r, 'a, R: Files + Net + Clock + AllocGlobal, O: Write, E: Write>(
     rt: &'r R,
-    listener: TcpListener,
     plant: &mut Plant<'r, 'a, R>,
     setup: &Setup<'a>,
     out: &mut O,
@@ -296,6 +295,7 @@ fn serve_places<'r, 'a, R: Files + Net + Clock + AllocGlobal, O: Write, E: Write
     ensures quiet { setup.now.telling.aloud ≡ false → err.new ≡ err.old }
 {
     let asked = &setup.asked;
+    let listener = listen(rt, asked.port)?;
     say_listening(rt.alloc(), asked.port, out)?;
     let live = plant.live.take();
     let mut host = Host {
@@ -338,23 +338,4 @@ fn serve_places<'r, 'a, R: Files + Net + Clock + AllocGlobal, O: Write, E: Write
     let _ = &*out;
     let _ = &*err;
     ended(halt, served)
-}
-
-/// Serves as [`serve_places`] does, on a port of this machine.
-pub fn serve_plant<'r, 'a, R: Files + Net + Clock + AllocGlobal, O: Write, E: Write>(
-    rt: &'r R,
-    mut plant: Plant<'r, 'a, R>,
-    setup: &Setup<'a>,
-    out: &mut O,
-    err: &mut E,
-) -> Result<(), Stop<'a>>
-    ensures served { OnOk result (HasServedAtOnce (writes_of setup.now.asked) setup.now.asked.goes_on
-        setup.now.asked.port setup.now.asked.connections (O.contents out.old) (O.contents out.new)) }
-    ensures stopped { IfErr result (λ stop. StopsWriting stop ⊎ (out.new ≡ out.old)
-        ⊎ HasServedSomeAtOnce (writes_of setup.now.asked) setup.now.asked.goes_on setup.now.asked.port
-        setup.now.asked.connections (O.contents out.old) (O.contents out.new)) }
-    ensures quiet { setup.now.telling.aloud ≡ false → err.new ≡ err.old }
-{
-    let listener = listen(rt, setup.asked.port)?;
-    serve_places(rt, listener, &mut plant, setup, out, err)
 }

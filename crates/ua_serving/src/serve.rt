@@ -16,7 +16,7 @@ ghost use Rattle.ua_report.specs.Reasons.{EndsServing, NeverAccepts, StopsForFau
 ghost use Rattle.ua_report.specs.Reasons.{StopsConnection, StopsWriting, is_starved};
 ghost use Rattle.ua_report.specs.declared.fault.Fault.TheVariants.{CannotListen};
 
-use crate::at_once::{Plant, serve_plant};
+use crate::at_once::{Plant, serve_places};
 use crate::live::LiveFile;
 use crate::setup::Setup;
 use crate::standard::{StandardServices, standard_services};
@@ -552,12 +552,11 @@ pub fn say_listening<'a, O: Write>(alloc: Global, port: u16, out: &mut O) -> Res
     say(out, &text)
 }
 
-/// Serves this many connections, numbered from 1. Where the server goes on, as with
-/// `--connections all`, it is ended neither by a failed allocation, which is reported, nor by an
-/// error of the listener that has its reason.
-pub fn serve_all<'a, R: Net + Clock + AllocGlobal, O: Write, E: Write>(
+/// Serves this many connections on a port of this machine, numbered from 1. Where the server goes
+/// on, as with `--connections all`, it is ended neither by a failed allocation, which is reported,
+/// nor by an error of the listener that has its reason.
+fn serve_all<'a, R: Net + Clock + AllocGlobal, O: Write, E: Write>(
     rt: &R,
-    listener: &R::Listener,
     services: &mut Services,
     setup: &Setup<'a>,
     out: &mut O,
@@ -573,32 +572,13 @@ pub fn serve_all<'a, R: Net + Clock + AllocGlobal, O: Write, E: Write>(
     ensures lasts { setup.now.asked.goes_on ≡ true → IfErr result (λ why. EndsServing why ⊎ (out.new ≡ out.old)) }
     ensures quiet { setup.now.telling.aloud ≡ false → err.new ≡ err.old }
 {
+    let listener = listen(rt, setup.asked.port)?;
     say_listening(rt.alloc(), setup.asked.port, out)?;
     for number in 0..setup.asked.connections {
-        let stream = next_stream(rt, listener, setup.asked.goes_on, setup.telling, err)?;
+        let stream = next_stream(rt, &listener, setup.asked.goes_on, setup.telling, err)?;
         serve_one(rt, stream, services, number + 1, &setup.asked, out)?;
     }
     Ok(())
-}
-
-/// Serves as [`serve_all`] does, on a port of this machine.
-fn serve_in_turn<'a, R: Net + Clock + AllocGlobal, O: Write, E: Write>(
-    rt: &R,
-    mut services: Services,
-    setup: &Setup<'a>,
-    out: &mut O,
-    err: &mut E,
-) -> Result<(), Stop<'a>>
-    ensures served { OnOk result (HasServed setup.now.asked.requests setup.now.asked.goes_on setup.now.asked.port
-        setup.now.asked.connections (O.contents out.old) (O.contents out.new)) }
-    ensures stopped { IfErr result (λ stop. StopsWriting stop ⊎ (out.new ≡ out.old)
-        ⊎ HasServedSome setup.now.asked.requests setup.now.asked.goes_on setup.now.asked.port
-        setup.now.asked.connections (O.contents out.old) (O.contents out.new)) }
-    ensures lasts { setup.now.asked.goes_on ≡ true → IfErr result (λ why. EndsServing why ⊎ (out.new ≡ out.old)) }
-    ensures quiet { setup.now.telling.aloud ≡ false → err.new ≡ err.old }
-{
-    let listener = listen(rt, setup.asked.port)?;
-    serve_all(rt, &listener, &mut services, setup, out, err)
 }
 
 /// Serves connections on a port of this machine, one after the other or many at a time, and prints
@@ -624,7 +604,7 @@ pub fn serve_connections<'a, R: Files + Net + Clock + AllocGlobal, I: Read, O: W
         services,
         keeps_time,
     } = made;
-    let services = limited(services, asked.kept);
+    let mut services = limited(services, asked.kept);
     // the server keeps CurrentTime where the file does not have it
     let asked = Serve {
         standard: keeps_time,
@@ -632,14 +612,14 @@ pub fn serve_connections<'a, R: Files + Net + Clock + AllocGlobal, I: Read, O: W
     };
     let setup = Setup { asked, telling };
     match asked.at_once {
-        None => serve_in_turn(rt, services, &setup, out, err),
+        None => serve_all(rt, &mut services, &setup, out, err),
         Some(places) => {
-            let plant = Plant {
+            let mut plant = Plant {
                 services,
                 live,
                 places,
             };
-            serve_plant(rt, plant, &setup, out, err)
+            serve_places(rt, &mut plant, &setup, out, err)
         }
     }
 }

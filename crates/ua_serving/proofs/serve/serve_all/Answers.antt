@@ -29,7 +29,7 @@ returns-in_err-serve_one-clause-stopped g c =
 pub returns-in_err-say_listening-clause-lasts : goal.returns-in_err-say_listening-clause-lasts
 returns-in_err-say_listening-clause-lasts g c = λ on.
     let why = c.in_err-say_listening.field-0.0 in
-    stops_at _ _ why c.from_residual.ensures.1 (
+    stops_at _ _ why c.from_residual-in_err-say_listening.ensures.1 (
     elim c.in_err-say_listening.ensures.stopped [
       | inl output ↦ inl (inl output)
       | inr same ↦ inr same
