@@ -1,8 +1,7 @@
 -- What is written for an item of a Read, part by part.
 use Rattle.std.proofs.Common.{◌≡◌, ◌⊎◌, inl, inr, ℕ, zero, suc, ◌+◌, ◌≤◌, List, [], ◌∷◌, ◌++◌, take, length, length-append, true}
-use Rattle.std.proofs.Common.{nat_eq, Option, None, Result, Ok, Err, OnErr, append_assoc, option_map, refl, sym, ap, ◌∙◌, arith}
+use Rattle.std.proofs.Common.{nat_eq, Option, None, Result, Ok, option_map, refl, sym, ap, ◌∙◌, arith}
 use Rattle.std.specs.List.{flat_map}
-use Rattle.ua_wire.specs.Format.{Extends}
 use Rattle.ua_builtin.specs.Reasons.{first_reason}
 use Rattle.ua_builtin.specs.declared.date_time.DateTime.{DateTime}
 use Rattle.ua_builtin.specs.declared.status_code.StatusCode.{StatusCode}
@@ -68,8 +67,3 @@ whole_or_past most f items old out w = elim w.ends [
     take_all zero (x ∷ xs) h = absurd (omega (arith, h))
     take_all (suc n) [] h = refl
     take_all (suc n) (x ∷ xs) h = ap (λ (ys : List ReadValueId). x ∷ ys) (take_all n xs (omega (arith, h)))
-
--- what begins with all that was added so far begins with what was there
-pub extends_behind : {T E : Type 0} (old mid new more : List ℕ) (answer : Result T E) → mid ≡ old ++ more → Extends mid new → OnErr answer (Extends old new)
-extends_behind old mid new more (Ok x) e h = tt
-extends_behind old mid new more (Err x) e h = record { more = more ++ h.more; parts = h.parts ∙ ap (λ t. t ++ h.more) e ∙ append_assoc old more h.more }
