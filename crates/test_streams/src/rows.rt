@@ -76,8 +76,8 @@ enum Machine {
     Caller(Client),
 }
 
-// By hand, as that of `Rows`, so that what lets one go calls this, and proves nothing of what lies
-// in it.
+// By hand, so that a function that lets a machine go calls this, and proves nothing of what lies in
+// it.
 impl Drop for Machine {
     fn drop(self) {
         match self {

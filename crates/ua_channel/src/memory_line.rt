@@ -58,7 +58,8 @@ pub struct MemoryLine {
     writes: Pace,
 }
 
-// By hand, so that what lets one go calls this, and proves nothing of what lies in it.
+// By hand, so that a function that lets a line go calls this, and proves nothing of what lies in
+// it.
 impl Drop for MemoryLine {
     fn drop(self) {
         let MemoryLine {

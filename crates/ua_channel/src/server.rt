@@ -43,7 +43,8 @@ pub struct ServerChannel {
     end: EndCore<ServerRules, Phase>,
 }
 
-// By hand, so that what lets one go calls this, and proves nothing of what lies in it.
+// By hand, so that a function that lets a channel go calls this, and proves nothing of what lies in
+// it.
 impl Drop for ServerChannel {
     fn drop(self) {
         let ServerChannel { end } = self;

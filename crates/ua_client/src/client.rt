@@ -31,7 +31,8 @@ pub struct Client {
     pub ghost settled: { is_done ≡ false → StandsSettled connection.channel },
 }
 
-// By hand, so that what lets one go calls this, and proves nothing of what lies in it.
+// By hand, so that a function that lets a client go calls this, and proves nothing of what lies in
+// it.
 impl Drop for Client {
     fn drop(self) {
         let Client {

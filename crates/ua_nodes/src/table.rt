@@ -24,7 +24,8 @@ pub struct NodeTable {
     pub(crate) nodes: IndexMap<NodeId, Variable>,
 }
 
-// By hand, so that what lets one go calls this, and proves nothing of what lies in it.
+// By hand, so that a function that lets a table go calls this, and proves nothing of what lies in
+// it.
 impl Drop for NodeTable {
     fn drop(self) {
         let NodeTable { nodes } = self;

@@ -52,7 +52,8 @@ pub struct Dissector {
     place: usize,
 }
 
-// By hand, so that what lets one go calls this, and proves nothing of what lies in it.
+// By hand, so that a function that lets a dissector go calls this, and proves nothing of what lies in
+// it.
 impl Drop for Dissector {
     fn drop(self) {
         let Dissector {

@@ -34,7 +34,8 @@ pub struct Services {
     pub(crate) session: Option<Session>,
 }
 
-// By hand, so that what lets one go calls this, and proves nothing of what lies in it.
+// By hand, so that a function that lets services go calls this, and proves nothing of what lies in
+// them.
 impl Drop for Services {
     fn drop(self) {
         let Services {

@@ -107,7 +107,8 @@ pub struct ClientSession {
     token: NodeId,
 }
 
-// By hand, so that what lets one go calls this, and proves nothing of what lies in it.
+// By hand, so that a function that lets a session go calls this, and proves nothing of what lies in
+// it.
 impl Drop for ClientSession {
     fn drop(self) {
         let ClientSession {

@@ -48,7 +48,8 @@ pub struct ClientChannel {
     end: EndCore<ClientRules, Phase>,
 }
 
-// By hand, so that what lets one go calls this, and proves nothing of what lies in it.
+// By hand, so that a function that lets a channel go calls this, and proves nothing of what lies in
+// it.
 impl Drop for ClientChannel {
     fn drop(self) {
         let ClientChannel { address, end } = self;
