@@ -5,7 +5,8 @@ count_beside_c PROGRAM [ROW..]: PROGRAM is crates/bench_messages/out/bench_messa
 the octets, builds tools/plain_c twice (gcc -O2, and clang -O3 for x86-64-v2, as the program is built), runs all
 under callgrind with two numbers of turns each, and prints for each row the difference for one unit: the
 program's instructions, those of both builds of C, and the ratios to them. With names of rows, those alone. Where
-crates/ua_c/out/libua_c.a is built, two calls of the C library are counted too, within examples/c/steps.c.
+crates/ua_c/out/libua_c.a is built, two calls of the C library are counted too, within examples/c/steps.c. With
+--faults and the names of rows it counts the page faults of the program instead, and prints those of a further turn.
 """
 from __future__ import annotations
 
@@ -201,8 +202,19 @@ def counted(words: list[str], within: str = '') -> int:
     return int(found.group(1))
 
 
-def unit(program: str, words: str, turns: tuple[int, int, int | str], folder: str) -> float:
-    """The instructions of a unit: the difference of two runs."""
+def page_faults(words: list[str]) -> int:
+    """The page faults of a run for which nothing was read from a disk."""
+    with subprocess.Popen(words, stdout=subprocess.DEVNULL) as run:
+        _, run.returncode, usage = os.wait4(run.pid, 0)
+    if run.returncode:
+        sys.exit(f'{" ".join(words)}: {run.returncode}')
+    return usage.ru_minflt
+
+
+def unit(
+    program: str, words: str, turns: tuple[int, int, int | str], folder: str, count: Callable[[list[str]], int] = counted,
+) -> float:
+    """The instructions of a unit, or what else is counted of it: the difference of two runs."""
     low, high, units = turns
     if isinstance(units, str):
         units = os.path.getsize(f'{folder}/{units}')
@@ -210,7 +222,7 @@ def unit(program: str, words: str, turns: tuple[int, int, int | str], folder: st
         f'{folder}/{word}' if os.path.exists(f'{folder}/{word}') and place else word
         for place, word in enumerate(words.split())
     ]
-    runs = [counted([program] + [str(n) if w == 'N' else w for w in named]) for n in (low, high)]
+    runs = [count([program] + [str(n) if w == 'N' else w for w in named]) for n in (low, high)]
     return (runs[1] - runs[0]) / ((high - low) * units)
 
 
@@ -228,8 +240,15 @@ def count_calls(folder: str, wanted: list[str]) -> None:
         print(f'{call:22} {(high - low) / (turns[1] - turns[0]):10.2f}', flush=True)
 
 
+def count_faults(program: str, folder: str, wanted: list[str]) -> None:
+    """Prints how many page faults a further turn of each row costs."""
+    for row, words, _, (low, high, _), _ in ROWS:
+        if not wanted or row in wanted:
+            print(f'{row:22} {unit(program, words, (low, high, 1), folder, page_faults):10.2f}', flush=True)
+
+
 def main() -> None:
-    program, wanted = os.path.abspath(sys.argv[1]), sys.argv[2:]
+    program, wanted = os.path.abspath(sys.argv[1]), [it for it in sys.argv[2:] if it != '--faults']
     with tempfile.TemporaryDirectory() as folder:
         builds = [f'{folder}/{compiler[0]}-built' for compiler in COMPILERS]
         for compiler, built in zip(COMPILERS, builds):
@@ -238,6 +257,9 @@ def main() -> None:
         for file, octets in files(COUNT).items():
             with open(f'{folder}/{file}', 'wb') as out:
                 out.write(octets)
+        if '--faults' in sys.argv:
+            count_faults(program, folder, wanted)
+            return
         for row, ours, theirs, turns, their_turns in ROWS:
             if wanted and row not in wanted:
                 continue

@@ -6,6 +6,7 @@ A kit that keeps what `rt ci` proved, as rattle-kit-13f does, has the libraries 
 passed. With them in place `rt lib` in the first crate's folder proves that crate alone. The others are
 programs, which are put in place as they were built. The status is 0 where all of it stands in place, and 1
 where the kit keeps nothing, or keeps it in another way: then nothing is lost, and `rt lib` proves all.
+Not while `rt ci` runs in the same checkout: it reads these folders.
 """
 from __future__ import annotations
 

@@ -27,6 +27,13 @@ const ARRAY: u8 = 0x80;
 /// The bits of the type id in the first byte of an array (OPC 10000-6, 5.2.2.16).
 const TYPE_ID: u8 = 0x3F;
 
+/// The fewest bytes of an item of a Write: two of a NodeId, four of the number of an attribute, four
+/// of a null range, and the mask of a DataValue (OPC 10000-6, 5.2.2.9, 5.2.2.4 and 5.2.2.17).
+const LEAST_ITEM: usize = 11;
+
+/// The most items of a Write for which room is made before they are read.
+const MOST_ROOM: usize = 4096;
+
 /// The type of a value: a scalar's, or an array's.
 #[derive(Clone, Copy, Debug)]
 pub struct ValueType {
@@ -216,7 +223,8 @@ impl WriteValue {
     }
 }
 
-/// Reads that many items. Memory grows by what was read, never by what a count claims.
+/// Reads that many items. There is room for as many at once as the bytes that are left can hold, and
+/// for at most [`MOST_ROOM`]: memory never grows by what a count alone claims.
 fn read_items<S: Source, T: TakesTypes>(
     alloc: Global,
     src: &mut S,
@@ -230,7 +238,8 @@ fn read_items<S: Source, T: TakesTypes>(
         (S.octets src.new) result }
     ensures behind { StaysBehind (S.octets src.old) (S.octets src.new) }
 {
-    let mut items = Vec::new(alloc);
+    let room = (src.left() / LEAST_ITEM).min(count as usize).min(MOST_ROOM);
+    let mut items = Vec::with_capacity(alloc, room)?;
     for _ in 0..count {
         WriteValue::read_onto(alloc, src, depth, types, &mut items)?;
     }

@@ -10,7 +10,7 @@ use Rattle.ua_structures.proofs.thin.read_items.Goals as goal
 
 pub returns-in_err-read_onto-clause-exact : goal.returns-in_err-read_onto-clause-exact
 returns-in_err-read_onto-clause-exact g c =
-    let p = err_from_is_err_and c.from_residual.result c.from_residual.ensures.1 in
+    let p = err_from_is_err_and c.from_residual-in_err-read_onto.result c.from_residual-in_err-read_onto.ensures.1 in
     let read = image_read (thinned (g.T.TakesTypes.takes c.args.types.now)) (write_value.decode c.args.depth) in
     let old = g.S.Source.octets c.loop.src in
     let new = g.S.Source.octets c.read_onto.new.src in
