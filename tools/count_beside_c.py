@@ -1,12 +1,12 @@
 #!/usr/bin/env python3
 """Counts what bench_messages does beside plain C that does the same on the same octets.
 
-count_beside_c PROGRAM [ROW..]: PROGRAM is crates/bench_messages/out/bench_messages, as `rt run` builds it. It writes
+count_beside_c PROGRAM [--faults] [ROW..]: PROGRAM is crates/bench_messages/out/bench_messages, as `rt run` builds it. It writes
 the octets, builds tools/plain_c twice (gcc -O2, and clang -O3 for x86-64-v2, as the program is built), runs all
 under callgrind with two numbers of turns each, and prints for each row the difference for one unit: the
 program's instructions, those of both builds of C, and the ratios to them. With names of rows, those alone. Where
 crates/ua_c/out/libua_c.a is built, two calls of the C library are counted too, within examples/c/steps.c. With
---faults and the names of rows it counts the page faults of the program instead, and prints those of a further turn.
+--faults it counts the page faults of the program alone instead, and prints those of a further turn of each row.
 """
 from __future__ import annotations
 
@@ -247,28 +247,34 @@ def count_faults(program: str, folder: str, wanted: list[str]) -> None:
             print(f'{row:22} {unit(program, words, (low, high, 1), folder, page_faults):10.2f}', flush=True)
 
 
+def count_rows(program: str, folder: str, wanted: list[str]) -> None:
+    """Prints for each row the instructions of a unit: the program's, those of C, and the ratios to them."""
+    builds = [f'{folder}/{compiler[0]}-built' for compiler in COMPILERS]
+    for compiler, built in zip(COMPILERS, builds):
+        for source in ('bench2', 'bench3'):
+            subprocess.run([*compiler, '-o', f'{built}-{source}', f'{TOP}/tools/plain_c/{source}.c'], check=True)
+    for row, ours, theirs, turns, their_turns in ROWS:
+        if wanted and row not in wanted:
+            continue
+        a = unit(program, ours, turns, folder)
+        source = 'bench3' if theirs and theirs.split()[0] in ('set', 'plain') else 'bench2'
+        plain = [unit(f'{built}-{source}', theirs, their_turns, folder) for built in builds if theirs]
+        ratios = [f'{a / b:6.2f}' for b in plain]
+        print(f'{row:22} {a:10.2f}', *(f'{b:10.2f}' for b in plain), *ratios, flush=True)
+
+
 def main() -> None:
-    program, wanted = os.path.abspath(sys.argv[1]), [it for it in sys.argv[2:] if it != '--faults']
+    program, words = os.path.abspath(sys.argv[1]), sys.argv[2:]
+    wanted = [it for it in words if it != '--faults']
     with tempfile.TemporaryDirectory() as folder:
-        builds = [f'{folder}/{compiler[0]}-built' for compiler in COMPILERS]
-        for compiler, built in zip(COMPILERS, builds):
-            for source in ('bench2', 'bench3'):
-                subprocess.run([*compiler, '-o', f'{built}-{source}', f'{TOP}/tools/plain_c/{source}.c'], check=True)
         for file, octets in files(COUNT).items():
             with open(f'{folder}/{file}', 'wb') as out:
                 out.write(octets)
-        if '--faults' in sys.argv:
+        if '--faults' in words:
             count_faults(program, folder, wanted)
-            return
-        for row, ours, theirs, turns, their_turns in ROWS:
-            if wanted and row not in wanted:
-                continue
-            a = unit(program, ours, turns, folder)
-            source = 'bench3' if theirs and theirs.split()[0] in ('set', 'plain') else 'bench2'
-            plain = [unit(f'{built}-{source}', theirs, their_turns, folder) for built in builds if theirs]
-            ratios = [f'{a / b:6.2f}' for b in plain]
-            print(f'{row:22} {a:10.2f}', *(f'{b:10.2f}' for b in plain), *ratios, flush=True)
-        count_calls(folder, wanted)
+        else:
+            count_rows(program, folder, wanted)
+            count_calls(folder, wanted)
 
 
 if __name__ == '__main__':

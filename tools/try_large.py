@@ -11,8 +11,9 @@ After them `dissect` and `dissect --fields` get messages of the most octets that
 
 With --bound only those requests of which no value is to be kept, and whose answers are small, messages of every kind
 for `dissect`, and those that `dissect --fields`, without and with `--plain`, prints as it reads them, of as many octets: the status is 1 where one of
-them is answered in another way, or where the program held more than 8 MB. Without PROGRAM it is
-crates/ua_cli/out/ua_cli, and nothing is tried where that is not built.
+them is answered in another way, or where the program held more than 8 MB. For a request it may reserve 64 MB, less
+than it would for as many items as one claims. Without PROGRAM it is crates/ua_cli/out/ua_cli, and nothing is tried
+where that is not built.
 """
 from __future__ import annotations
 
@@ -37,9 +38,11 @@ sys.dont_write_bytecode = True
 from try_parts.large import LONG, NULL, NUMBER, OPEN_REQUEST, OPEN_RESPONSE, PRINTED, TEXT, header, item
 
 TOP = os.path.dirname(os.path.dirname(os.path.abspath(__file__)))
-# The most memory, in KiB, that a request of which nothing is to be kept may take: it takes 3,200 to 3,700, and 18,000
+# The most memory, in KiB, that a request of which nothing is to be kept may take: it takes 3,700 to 4,200, and 18,000
 # to 117,000 where each value is read whole and dropped.
 BOUND = 8192
+# The most megabytes that a run may reserve for such a request: a count alone would claim more.
+RESERVED = 64
 NODES = 'i=1\trw\tText\tString\tempty\ni=2\trw\tNumber\tInt32\t0\n'
 POLICY = b'http://opcfoundation.org/UA/SecurityPolicy#None'
 # The most octets of a chunk, with its header.
@@ -57,6 +60,13 @@ def read(session: bool, count: int) -> bytes:
 def write(session: bool, node: int, value: bytes) -> bytes:
     """A Write of this Variant to the node."""
     return b'\x01\0\xA1\x02' + header(session) + struct.pack('<I', 1) + item(node, b'\x01' + value)
+
+
+def claim() -> bytes:
+    """A Write that claims as many items as there are bytes behind its count, none of which can be decoded."""
+    front = b'\x01\0\xA1\x02' + header(False)
+    count = MOST - len(front) - 4
+    return front + struct.pack('<I', count) + count * b'\xFF'
 
 
 def text(octets: int) -> bytes:
@@ -165,6 +175,7 @@ ARRAYS = [
 THINNED = [
     *[('Write of %s, no session' % name, MOST, None, array(False, kind, element)) for name, kind, element in ARRAYS],
     *[('Write of %s to an Int32, in a session' % name, MOST, b'', array(True, kind, element)) for name, kind, element in ARRAYS],
+    ('Write that claims as many items as there are bytes, no session', MOST, None, claim()),
 ]
 REQUESTS = [
     ('Read of 1 MB 1000 times, no limit', 0, text(1000000), read(True, 1000)),
@@ -290,9 +301,9 @@ def hold_bound(program: str, nodes: str) -> None:
         print('try_large: no %s: nothing is tried (rt run in crates/ua_cli makes it)' % os.path.relpath(program, TOP))
         return
     for request in THINNED:
-        flag, memory = attempt(program, nodes, 0, request)
+        flag, memory = attempt(program, nodes, RESERVED, request)
         if flag != 'F' or not memory or memory > BOUND:
-            raise SystemExit('try_large: %s: not answered whole within %d kB' % (request[0], BOUND))
+            raise SystemExit('try_large: %s: not answered whole within %d kB, and %d MB reserved' % (request[0], BOUND, RESERVED))
     for message, options in dissections():
         last, memory = dissect(program, 0, message, MOST, options)
         if not last.startswith(b'unreadable' if 'cut off' in message[0] else b'end ') or not 0 < memory <= BOUND:
