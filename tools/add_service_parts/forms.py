@@ -172,45 +172,32 @@ def lines_of(s: Structure) -> str:
     ghost use Rattle.ua_fields.specs.{s.spec}.{{{s.word}_entries}};
 
     ghost tree = {{ λ m. structure ({s.word}_entries m) }};
-}}
-"""
 
-
-def printed_of(s: Structure, k: Schema) -> str:
-    """How it is printed as it is read, field by field."""
-    rust, names = k.all("rust", s), [f'"{it}"' for it in s.names()]
-    return f"""impl Printed for {s.name} {{
     fn is_structure() -> bool {{
         true
     }}
 
-    fn print<S: Source, O: Sink>(
-        alloc: Global,
-        src: &mut S,
-        place: Place,
-        text: &mut String,
-        out: &mut O,
-    ) -> Result<(), TellFault> {{
-        let names = {nested(names)};
-        <{nested(rust[:-1] + [f"Last<{rust[-1]}>"])}>::print_fields(alloc, src, place, &names, text, out)
+    #[tactic(auto, unfolding(crate::specs::{s.spec}::{s.word}_entries))]
+    fn push_lines(&self, alloc: Global, out: &mut String, place: Place) -> Result<(), AllocError> {{
+        push_fields!(self, alloc, out, place => {', '.join(s.names())})
     }}
 }}
 """
 
 
-def printed_answer_of(s: Structure, k: Schema) -> str:
-    """That the lines of its fields are those of the structure."""
-    return f"""use Rattle.std.proofs.Common.{{refl}}
-use Rattle.{s.library}.specs.{s.spec}.{{{s.word}}}
+def lines_answer_of(s: Structure) -> str:
+    """That these are the lines of its fields, which the prover does not find for more than three."""
+    steps = ["push_field" + (f"-{n}" if n > 1 else "") for n in range(1, len(s.fields) + 1)]
+    answer = "refl"
+    for step in reversed(steps):
+        answer = f"(string_bytes c.{step}.new.out, c.in_ok-{step}.ensures, {answer})"
+    return f"""use Rattle.std.proofs.Common.{{refl, string_bytes}}
 use Rattle.ua_fields.specs.{s.spec}.{{{s.word}_entries}}
-use Rattle.ua_fields.proofs.Printings.{{struct_printed}}
-use Rattle.ua_fields.proofs.{s.module}.{s.name}Printed.print.Goals as goal
+use Rattle.ua_fields.proofs.{s.module}.{s.name}Lines.push_lines.Goals as goal
 
 pub returns : goal.returns
-unfolding {s.word} {s.word}_entries
-returns g c =
-    struct_printed c.args.place.style c.args.place.margin.now c.args.place.path.now _ _ {s.word} {s.word}_entries _ _ _ _ _ _
-    c.print_fields.result refl c.print_fields.ensures
+unfolding {s.word}_entries
+returns c = {answer}
 """
 
 

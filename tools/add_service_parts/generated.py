@@ -8,7 +8,7 @@ import subprocess
 import tempfile
 from typing import Iterable
 
-from add_service_parts.forms import append_answer_of, entries_of, format_of, lemma_of, lines_of, pairs_of, printed_answer_of, printed_of, skip_of, wire_of
+from add_service_parts.forms import append_answer_of, entries_of, format_of, lemma_of, lines_answer_of, lines_of, pairs_of, skip_of, wire_of
 from add_service_parts.schema import File, Schema, Structure, title_case
 from add_service_parts.texts import FIELDS, OPENING, STRUCTURES, text_of
 from add_service_parts.words import COMMON, SOUND_FILE, TREE_FILE
@@ -123,17 +123,12 @@ def append_answers_file(s: Structure, file: File, k: Schema) -> str:
     return head(file, "--", "The fields are appended in order.") + imports(names) + f"use {goals} as goal\n\n" + append_answer_of(s, k)
 
 
-def lines_file(file: File, k: Schema) -> str:
+def lines_file(file: File) -> str:
     """The structures of a module as lines."""
     found = [s for s in file.structures if s.has_lines()]
-    names = [("Lines", "crate::lines"), ("Place", "crate::lines"), ("Global", "std::alloc")]
+    names = [(it, "crate::lines") for it in ("Lines", "Place", "push_fields")] + [(it, "std::alloc") for it in ("AllocError", "Global")]
     names += [(s.name, "ua_services") for s in found]
-    if found:
-        names += [(it, "crate::printed") for it in ("Last", "Printed", "PrintedFields")] + [("TellFault", "crate::printing"), ("Sink", "crate::sink")]
-        names += [("Source", "ua_builtin")] + [("UaArray", "ua_services")] * has_arrays(found)
-    for kind in elements(found):
-        names += [(k.of(kind).rust, "ua_services" if kind in k.structures else k.of(kind).library)] if k.of(kind).library else []
-    texts = [it for s in found for it in (lines_of(s), printed_of(s, k))]
+    texts = [lines_of(s) for s in found]
     return head(file, "//!", f"The structures of {file.title}, as lines.") + "\n" + uses(names) + "\n" + "\n".join(texts)
 
 
@@ -156,14 +151,14 @@ def generated(k: Schema) -> dict[str, str]:
         spec = title_case(file.module)
         found |= {f"{file.crate}/src/{file.module}_wire.rt": wire_file(file, k), f"{file.crate}/src/{file.module}_skip.rt": skip_file(file, k)}
         found |= {f"{file.crate}/specs/{spec}.antt": format_file(file, k),
-                  f"{file.crate}/proofs/{spec}Sound.antt": sound_file(file, k), f"{FIELDS}/src/{file.module}.rt": lines_file(file, k),
+                  f"{file.crate}/proofs/{spec}Sound.antt": sound_file(file, k), f"{FIELDS}/src/{file.module}.rt": lines_file(file),
                   f"{FIELDS}/specs/{spec}.antt": tree_file(file, k)}
         for s in file.structures:
             if pairs_of(s):
                 found[f"{s.crate}/proofs/{file.module}_wire/{s.name}Wire/append/Answers.antt"] = append_answers_file(s, file, k)
-            if s.has_lines():
-                path = f"{FIELDS}/proofs/{file.module}/{s.name}Printed/print/Answers.antt"
-                found[path] = head(file, "--", "What is printed are the lines of its fields.") + printed_answer_of(s, k)
+            if s.has_lines() and len(s.fields) > 3:
+                path = f"{FIELDS}/proofs/{file.module}/{s.name}Lines/push_lines/Answers.antt"
+                found[path] = head(file, "--", "The lines are those of its fields.") + lines_answer_of(s)
     return {path: text for path, text in found.items() if text}
 
 

@@ -58,7 +58,7 @@ SKIPS = {"RequestHeader": "RequestHeader::skip_for_handle", "LocalizedText": "sk
 LACKS = {"rust": "schema/ has no such structure, and words.py no such type",
          "lemma": "it is not sound, or words.py does not say which lemma of proofs/Sound.antt says so",
          "skip": "ua_structures does not skip it: write how in its src/skip.rt, and in SKIPS of words.py",
-         "tree": "it has no lines: write them first, in specs/Leaves.antt, src/leaves.rt and src/whole.rt of ua_fields, and their word in words.py"}
+         "tree": "it has no lines: write them first, in specs/Leaves.antt and src/leaves.rt of ua_fields, and their word in words.py"}
 # Words that are of no one type, and the files of specs/ and proofs/ that have them.
 COMMON = {
     "Format": f"{BUILTIN}.Format", "flat": f"{BUILTIN}.Format", "pair": f"{BUILTIN}.Join", "struct": f"{BUILTIN}.Join",

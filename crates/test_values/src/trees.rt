@@ -2,11 +2,10 @@
 
 use crate::fault::Fault;
 use crate::octets::octets_of;
-use crate::shown::{compared, digits, named, written};
+use crate::shown::{digits, named, written};
 use crate::values::read;
 use std::alloc::{AllocError, Global};
 use ua_builtin::{Octets, Skip, Source, Wire};
-use ua_canonical::{RecodeFault, recode_data_value, recode_scalar, recode_variant};
 use ua_variant::{
     BoxedVariant, DataValue, DiagnosticInfo, Dimensions, HeldVariant, Scalar, Scalars, Variant,
 };
@@ -17,9 +16,6 @@ pub trait Tree: Skip {
     fn size(&self) -> (u32, u64, bool);
 
     fn copied(&self, alloc: Global) -> Result<Self, AllocError>;
-
-    /// Appends what is written for the value at the start of the source, while it is read.
-    fn recode(alloc: Global, src: &mut Octets, out: &mut Vec<u8>) -> Result<(), RecodeFault>;
 }
 
 impl Tree for DataValue {
@@ -29,10 +25,6 @@ impl Tree for DataValue {
 
     fn copied(&self, alloc: Global) -> Result<DataValue, AllocError> {
         self.try_clone(alloc)
-    }
-
-    fn recode(alloc: Global, src: &mut Octets, out: &mut Vec<u8>) -> Result<(), RecodeFault> {
-        recode_data_value(alloc, src, 100, out)
     }
 }
 
@@ -44,10 +36,6 @@ impl Tree for DiagnosticInfo {
     fn copied(&self, alloc: Global) -> Result<DiagnosticInfo, AllocError> {
         self.try_clone(alloc)
     }
-
-    fn recode(alloc: Global, src: &mut Octets, out: &mut Vec<u8>) -> Result<(), RecodeFault> {
-        recode_scalar(alloc, src, 100, 25, out)
-    }
 }
 
 impl Tree for Variant {
@@ -58,15 +46,11 @@ impl Tree for Variant {
     fn copied(&self, alloc: Global) -> Result<Variant, AllocError> {
         self.try_clone(alloc)
     }
-
-    fn recode(alloc: Global, src: &mut Octets, out: &mut Vec<u8>) -> Result<(), RecodeFault> {
-        recode_variant(alloc, src, 100, out)
-    }
 }
 
 /// What is printed of a tree: its levels, its values, how many bytes are left, whether it can be
 /// encoded, and what is written for a copy of it. Passing over it has to leave the same, else just
-/// what that leaves is printed. So for what is appended while it is read.
+/// what that leaves is printed.
 pub fn tree_text<T: Tree>(alloc: Global, words: &str) -> Result<String, Fault> {
     let octets = octets_of(alloc, words)?;
     let skipped = skip::<T>(alloc, octets.as_slice());
@@ -74,16 +58,7 @@ pub fn tree_text<T: Tree>(alloc: Global, words: &str) -> Result<String, Fault> {
     if left_of(&found) != skipped {
         return skipped_text(alloc, skipped);
     }
-    let recoded = recoded::<T>(alloc, octets.as_slice());
-    let (value, left) = match (found, recoded.is_ok()) {
-        (Err(_), true) => return recoded_text(alloc, recoded),
-        (found, _) => found?,
-    };
-    let again = written(alloc, value.copied(alloc)?, octets.as_slice())?;
-    if !is_same(&recoded, &again, left) {
-        drop(value);
-        return recoded_text(alloc, recoded);
-    }
+    let (value, left) = found?;
     sized_text(alloc, value, left, octets.as_slice())
 }
 
@@ -105,30 +80,6 @@ fn left_of<T>(found: &Result<(T, u64), Fault>) -> Result<u64, Fault> {
 fn skipped_text(alloc: Global, skipped: Result<u64, Fault>) -> Result<String, Fault> {
     match skipped {
         Ok(left) => Ok(format!(in alloc; "skipped left {left}")?),
-        Err(fault) => named(alloc, fault.text()),
-    }
-}
-
-/// What is appended for a value that bytes begin with while it is read, as `written` tells it, and
-/// how many bytes are left.
-fn recoded<T: Tree>(alloc: Global, octets: &[u8]) -> Result<(String, u64), Fault> {
-    let mut src = Octets::new(octets);
-    let mut out = Vec::new(alloc);
-    T::recode(alloc, &mut src, &mut out)?;
-    Ok((compared(alloc, out.as_slice(), octets)?, src.left() as u64))
-}
-
-/// Whether what was appended is what is written, and as many bytes are left; or neither is.
-fn is_same(recoded: &Result<(String, u64), Fault>, written: &str, left: u64) -> bool {
-    match recoded {
-        Ok((text, behind)) => text.as_str() == written && *behind == left,
-        Err(fault) => fault.text() == written,
-    }
-}
-
-fn recoded_text(alloc: Global, recoded: Result<(String, u64), Fault>) -> Result<String, Fault> {
-    match recoded {
-        Ok((text, left)) => Ok(format!(in alloc; "recoded {text} left {left}")?),
         Err(fault) => named(alloc, fault.text()),
     }
 }

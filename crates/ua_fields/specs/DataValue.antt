@@ -1,6 +1,5 @@
 -- The fields of a DataValue.
 use Rattle.std.specs.Prelude.{[], ◌∷◌, codes}
-use Rattle.ua_variant.specs.Data.{DataFields}
 use Rattle.ua_variant.specs.declared.values.DataValue.{DataValue}
 use Rattle.ua_fields.specs.Tree.{Fields, named, moment_of, value_of}
 use Rattle.ua_fields.specs.Leaves.{optional_tree, code_leaf, number_leaf}
@@ -14,14 +13,4 @@ data_value_entries d = named (
     ∷ (codes "source_picoseconds", optional_tree number_leaf d.source_picoseconds)
     ∷ (codes "server_timestamp", optional_tree moment_of d.server_timestamp)
     ∷ (codes "server_picoseconds", optional_tree number_leaf d.server_picoseconds)
-    ∷ [])
-
--- the fields after its value
-abbrev pub fields_after_value : DataFields → Fields
-fields_after_value f = named (
-    (codes "status", optional_tree code_leaf f.status)
-    ∷ (codes "source_timestamp", optional_tree moment_of f.source_timestamp)
-    ∷ (codes "source_picoseconds", optional_tree number_leaf f.source_picoseconds)
-    ∷ (codes "server_timestamp", optional_tree moment_of f.server_timestamp)
-    ∷ (codes "server_picoseconds", optional_tree number_leaf f.server_picoseconds)
     ∷ [])

@@ -4,9 +4,7 @@ pub mod Styles
 pub mod Tree
 pub mod Paths
 pub mod Printing
-pub mod PlainTexts
 pub mod Leaves
-pub mod NodeText
 pub mod Header
 pub mod DataValue
 pub mod Attribute

@@ -88,10 +88,6 @@ response_fields names m = message_lines names (response_tree m)
 abbrev pub open_request_fields : Bool → OpenRequest → List ℕ
 open_request_fields names m = message_lines names (open_request_tree m)
 
--- the lines of a response of OpenSecureChannel
-abbrev pub open_response_fields : Bool → OpenResponse → List ℕ
-open_response_fields names m = message_lines names (open_response_tree m)
-
 -- the lines of a request of CloseSecureChannel
 abbrev pub close_request_fields : Bool → CloseRequest → List ℕ
 close_request_fields names m = message_lines names (close_request_tree m)

@@ -1,6 +1,5 @@
 -- The fields of a ChannelSecurityToken, and of the response that holds them.
-use Rattle.std.specs.Prelude.{ℕ, List, [], ◌∷◌, Option, codes}
-use Rattle.ua_builtin.specs.declared.date_time.DateTime.{DateTime}
+use Rattle.std.specs.Prelude.{[], ◌∷◌, codes}
 use Rattle.ua_opening.specs.declared.secure_channel.OpenResponse.{OpenResponse}
 use Rattle.ua_fields.specs.declared.security_token.SecurityToken.{SecurityToken}
 use Rattle.ua_fields.specs.Tree.{Fields, structure, named}
@@ -27,20 +26,4 @@ open_response_entries m = named (
     ∷ (codes "server_protocol_version", number_tree m.server_protocol_version)
     ∷ (codes "security_token", structure (security_token_entries (security_token_of m)))
     ∷ (codes "server_nonce", byte_string_tree m.server_nonce)
-    ∷ [])
-
--- the values of the fields after its header, in order, as they are encoded
-abbrev pub OpenedValues : Type 0
-OpenedValues = ℕ × (ℕ × (ℕ × (DateTime × (ℕ × Option (List ℕ)))))
-
--- the fields after its header
-abbrev pub opened_fields : OpenedValues → Fields
-opened_fields v = named (
-    (codes "server_protocol_version", number_tree v.0)
-    ∷ (
-      codes "security_token",
-      structure (security_token_entries
-          (record { channel_id = v.1.0; token_id = v.1.1.0; created_at = v.1.1.1.0; revised_lifetime = v.1.1.1.1.0 })),
-    )
-    ∷ (codes "server_nonce", byte_string_tree v.1.1.1.1.1)
     ∷ [])

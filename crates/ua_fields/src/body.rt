@@ -1,22 +1,29 @@
 //! Message bodies as lines.
 
-ghost use Rattle.std.specs.Prelude.{◌≡◌, ◌++◌, IfOk, OnOk, is_some, string_bytes};
-ghost use Rattle.ua_opening.specs.SecureChannel.{close_request};
+ghost use Rattle.std.specs.Prelude.{◌≡◌, ◌++◌, IfOk, OnOk, Option, string_bytes};
 ghost use Rattle.ua_opening.specs.Message.{body_of, message};
-ghost use Rattle.ua_fields.specs.Bodies.{AreBodyFields, IsBodyText, behind_id, body_fields};
+ghost use Rattle.ua_opening.specs.Open.{answer_read};
+ghost use Rattle.ua_opening.specs.SecureChannel.{close_request, open_request};
+ghost use Rattle.ua_services.specs.Request.{request};
+ghost use Rattle.ua_services.specs.Response.{response};
+ghost use Rattle.ua_fields.specs.Bodies.{AreBodyFields, IsBodyText, IsFound, IsHeaderText, behind_id, body_fields};
+ghost use Rattle.ua_fields.specs.Messages.{AreMessageLines};
 ghost use Rattle.ua_fields.specs.Printing.{PrintsOrBreaks};
-ghost use Rattle.ua_fields.specs.declared.body.BodyKind.TheVariants as body;
 ghost use Rattle.ua_texts.specs.PlainLeaf.{Adds};
 
-use crate::message::{print_known, print_request, print_response};
-use crate::opened::{print_open_answer, print_open_request};
+use crate::lines::Lines;
+use crate::message::print_message;
 use crate::printing::PrintFault;
+use crate::side::Side;
 use crate::sink::{Kept, Sink};
 use crate::style::FieldStyle;
 use std::alloc::{AllocError, Global};
 use ua_builtin::{MOST_LEVELS, NodeId, ReadFault, Source, Wire};
 use ua_opening::standard_number;
-use ua_services::CloseRequest;
+use ua_services::{
+    CloseRequest, OpenAnswer, OpenRequest, Request, RequestFault, Response, ResponseFault,
+    ServiceFault, read_open_request, read_open_response, read_request, read_response,
+};
 
 /// How a body is decoded, given its sender and its message type (OPC 10000-6, 6.7.2).
 #[derive(Clone, Copy, PartialEq, Eq, Debug)]
@@ -69,34 +76,79 @@ fn found_close_request<S: Source>(
     found_last(alloc, src)
 }
 
-/// Whether the source is a CloseSecureChannel request.
-fn is_close_request<S: Source>(alloc: Global, src: &mut S) -> Result<bool, AllocError>
-    ensures { IfOk result (λ there. there ≡ is_some (body_of (message 452 close_request) (S.octets src.old))) }
+/// The request that a body is, if it is one.
+fn found_request<S: Source>(alloc: Global, src: &mut S) -> Result<Option<Request>, AllocError>
+    ensures { IfOk result (λ found. found ≡ body_of request (S.octets src.old)) }
 {
-    let found: Option<CloseRequest> = found_close_request(alloc, src)?;
-    Ok(found.is_some())
+    match read_request(alloc, src) {
+        Ok(request) => Ok(Some(request)),
+        Err(RequestFault::Unsupported(_)) => Ok(None),
+        Err(RequestFault::Unreadable(_)) => Ok(None),
+        Err(RequestFault::OutOfMemory) => Err(AllocError),
+    }
 }
 
-/// Prints the lines of the CloseSecureChannel request that bytes are, or none.
-fn print_close_request<S: Source, O: Sink>(
+/// The response that a body is, if it is one.
+fn found_response<S: Source>(alloc: Global, src: &mut S) -> Result<Option<Response>, AllocError>
+    ensures { IfOk result (λ found. found ≡ body_of response (S.octets src.old)) }
+{
+    match read_response(alloc, src) {
+        Ok(response) => Ok(Some(response)),
+        Err(ResponseFault::Unknown) => Ok(None),
+        Err(ResponseFault::Unreadable) => Ok(None),
+        Err(ResponseFault::OutOfMemory) => Err(AllocError),
+    }
+}
+
+/// The OpenSecureChannel request that a body is, if it is one.
+fn found_open_request<S: Source>(
+    alloc: Global,
+    src: &mut S,
+) -> Result<Option<OpenRequest>, AllocError>
+    ensures { IfOk result (λ found. found ≡ body_of (message 446 open_request) (S.octets src.old)) }
+{
+    match read_open_request(alloc, src) {
+        Ok(request) => Ok(Some(request)),
+        Err(ReadFault::NoValue) => Ok(None),
+        Err(ReadFault::OutOfMemory) => Err(AllocError),
+    }
+}
+
+/// The response to an OpenSecureChannel request that a body is, if it is one.
+fn found_open_answer<S: Source>(
+    alloc: Global,
+    src: &mut S,
+) -> Result<Option<OpenAnswer>, AllocError>
+    ensures { IfOk result (λ found. found ≡ answer_read (S.octets src.old)) }
+{
+    match read_open_response(alloc, src) {
+        Ok(answer) => Ok(Some(answer)),
+        Err(ReadFault::NoValue) => Ok(None),
+        Err(ReadFault::OutOfMemory) => Err(AllocError),
+    }
+}
+
+/// Prints the lines of what was found, or none.
+fn print_found<T: Lines + Drop, O: Sink>(
     alloc: Global,
     style: FieldStyle,
-    src: &mut S,
+    found: Result<Option<T>, AllocError>,
     text: &mut String,
     out: &mut O,
 ) -> Result<(), PrintFault>
-    ensures { PrintsOrBreaks style (O.contents out.old) (string_bytes text.old) (O.contents out.new)
-        (string_bytes text.new) (IsBodyText style body.CloseRequest (S.octets src.old)) result }
+    ensures { (there : Option T) → IfOk found (λ o. o ≡ there)
+        → PrintsOrBreaks style (O.contents out.old) (string_bytes text.old) (O.contents out.new)
+        (string_bytes text.new) (IsFound (λ value. AreMessageLines style (T.tree value)) there) result }
 {
-    let there = is_close_request(alloc, &mut src.fork())?;
-    if !there {
-        return Ok(());
+    match found {
+        Ok(Some(value)) => print_message(alloc, style, &value, text, out),
+        Ok(None) => Ok(()),
+        Err(_) => Err(PrintFault::OutOfMemory),
     }
-    print_known::<CloseRequest, S, O>(alloc, style, src, text, out)
 }
 
-/// Prints the lines of a body in this style, as it is read: those of the message in it, or none if
-/// the body cannot be decoded or is of an unknown service. Discard the source afterwards.
+/// Prints the lines of a body in this style: those of the message in it, or none if the body cannot
+/// be decoded or is of an unknown service. Discard the source afterwards.
 pub fn print_body<S: Source, O: Sink>(
     alloc: Global,
     kind: BodyKind,
@@ -109,11 +161,52 @@ pub fn print_body<S: Source, O: Sink>(
         (string_bytes text.new) (IsBodyText style kind (S.octets src.old)) result }
 {
     match kind {
-        BodyKind::Request => print_request(alloc, style, src, text, out),
-        BodyKind::Response => print_response(alloc, style, src, text, out),
-        BodyKind::OpenRequest => print_open_request(alloc, style, src, text, out),
-        BodyKind::OpenResponse => print_open_answer(alloc, style, src, text, out),
-        BodyKind::CloseRequest => print_close_request(alloc, style, src, text, out),
+        BodyKind::Request => print_found(alloc, style, found_request(alloc, src), text, out),
+        BodyKind::Response => print_found(alloc, style, found_response(alloc, src), text, out),
+        BodyKind::OpenRequest => {
+            print_found(alloc, style, found_open_request(alloc, src), text, out)
+        }
+        BodyKind::OpenResponse => {
+            print_found(alloc, style, found_open_answer(alloc, src), text, out)
+        }
+        BodyKind::CloseRequest => {
+            print_found(alloc, style, found_close_request(alloc, src), text, out)
+        }
+    }
+}
+
+/// Prints the lines of the header of a message that this side sent, if it is decoded completely: a
+/// CloseSecureChannelRequest is a RequestHeader and no more, a ServiceFault a ResponseHeader.
+pub fn print_header<S: Source, O: Sink>(
+    alloc: Global,
+    side: Side,
+    style: FieldStyle,
+    src: &mut S,
+    text: &mut String,
+    out: &mut O,
+) -> Result<(), PrintFault>
+    ensures { PrintsOrBreaks style (O.contents out.old) (string_bytes text.old) (O.contents out.new)
+        (string_bytes text.new) (IsHeaderText style side (S.octets src.old)) result }
+{
+    match side {
+        Side::Client => {
+            print_found(
+                alloc,
+                style,
+                found_behind::<CloseRequest, S>(alloc, src),
+                text,
+                out,
+            )
+        }
+        Side::Server => {
+            print_found(
+                alloc,
+                style,
+                found_behind::<ServiceFault, S>(alloc, src),
+                text,
+                out,
+            )
+        }
     }
 }
 
@@ -154,10 +247,7 @@ pub fn push_body_fields<S: Source>(
 }
 
 /// The value after the NodeId at the start of bytes, whatever follows it.
-pub(crate) fn found_behind<T: Wire, S: Source>(
-    alloc: Global,
-    src: &mut S,
-) -> Result<Option<T>, AllocError>
+fn found_behind<T: Wire, S: Source>(alloc: Global, src: &mut S) -> Result<Option<T>, AllocError>
     ensures { IfOk result (λ found. found ≡ behind_id T.format (S.octets src.old)) }
 {
     match NodeId::read_value(alloc, src, MOST_LEVELS) {

@@ -1,15 +1,11 @@
 //! Written by `tools/add_service.py --write` from `schema/discovery.txt`.
 //! The structures of the service GetEndpoints, as lines.
 
-use crate::lines::{Lines, Place};
-use crate::printed::{Last, Printed, PrintedFields};
-use crate::printing::TellFault;
-use crate::sink::Sink;
-use std::alloc::Global;
-use ua_builtin::{LocalizedText, Source, UaBytes, UaString};
+use crate::lines::{Lines, Place, push_fields};
+use std::alloc::{AllocError, Global};
 use ua_services::{
     ApplicationDescription, EndpointDescription, GetEndpointsRequest, GetEndpointsResponse,
-    RequestHeader, ResponseHeader, UaArray, UserTokenPolicy,
+    UserTokenPolicy,
 };
 
 impl Lines for ApplicationDescription {
@@ -17,46 +13,15 @@ impl Lines for ApplicationDescription {
     ghost use Rattle.ua_fields.specs.Discovery.{application_description_entries};
 
     ghost tree = { λ m. structure (application_description_entries m) };
-}
 
-impl Printed for ApplicationDescription {
     fn is_structure() -> bool {
         true
     }
 
-    fn print<S: Source, O: Sink>(
-        alloc: Global,
-        src: &mut S,
-        place: Place,
-        text: &mut String,
-        out: &mut O,
-    ) -> Result<(), TellFault> {
-        let names = (
-            "application_uri",
-            (
-                "product_uri",
-                (
-                    "application_name",
-                    (
-                        "application_type",
-                        (
-                            "gateway_server_uri",
-                            ("discovery_profile_uri", "discovery_urls"),
-                        ),
-                    ),
-                ),
-            ),
-        );
-        <(
-            UaString,
-            (
-                UaString,
-                (
-                    LocalizedText,
-                    (i32, (UaString, (UaString, Last<UaArray<UaString>>))),
-                ),
-            ),
-        )>::print_fields(alloc, src, place, &names, text, out)
+    #[tactic(auto, unfolding(crate::specs::Discovery::application_description_entries))]
+    fn push_lines(&self, alloc: Global, out: &mut String, place: Place) -> Result<(), AllocError> {
+        push_fields!(self, alloc, out, place => application_uri, product_uri, application_name, application_type,
+            gateway_server_uri, discovery_profile_uri, discovery_urls)
     }
 }
 
@@ -65,33 +30,15 @@ impl Lines for UserTokenPolicy {
     ghost use Rattle.ua_fields.specs.Discovery.{user_token_policy_entries};
 
     ghost tree = { λ m. structure (user_token_policy_entries m) };
-}
 
-impl Printed for UserTokenPolicy {
     fn is_structure() -> bool {
         true
     }
 
-    fn print<S: Source, O: Sink>(
-        alloc: Global,
-        src: &mut S,
-        place: Place,
-        text: &mut String,
-        out: &mut O,
-    ) -> Result<(), TellFault> {
-        let names = (
-            "policy_id",
-            (
-                "token_type",
-                (
-                    "issued_token_type",
-                    ("issuer_endpoint_url", "security_policy_uri"),
-                ),
-            ),
-        );
-        <(UaString, (i32, (UaString, (UaString, Last<UaString>))))>::print_fields(
-            alloc, src, place, &names, text, out,
-        )
+    #[tactic(auto, unfolding(crate::specs::Discovery::user_token_policy_entries))]
+    fn push_lines(&self, alloc: Global, out: &mut String, place: Place) -> Result<(), AllocError> {
+        push_fields!(self, alloc, out, place => policy_id, token_type, issued_token_type, issuer_endpoint_url,
+            security_policy_uri)
     }
 }
 
@@ -100,52 +47,15 @@ impl Lines for EndpointDescription {
     ghost use Rattle.ua_fields.specs.Discovery.{endpoint_description_entries};
 
     ghost tree = { λ m. structure (endpoint_description_entries m) };
-}
 
-impl Printed for EndpointDescription {
     fn is_structure() -> bool {
         true
     }
 
-    fn print<S: Source, O: Sink>(
-        alloc: Global,
-        src: &mut S,
-        place: Place,
-        text: &mut String,
-        out: &mut O,
-    ) -> Result<(), TellFault> {
-        let names = (
-            "endpoint_url",
-            (
-                "server",
-                (
-                    "server_certificate",
-                    (
-                        "security_mode",
-                        (
-                            "security_policy_uri",
-                            (
-                                "user_identity_tokens",
-                                ("transport_profile_uri", "security_level"),
-                            ),
-                        ),
-                    ),
-                ),
-            ),
-        );
-        <(
-            UaString,
-            (
-                ApplicationDescription,
-                (
-                    UaBytes,
-                    (
-                        i32,
-                        (UaString, (UaArray<UserTokenPolicy>, (UaString, Last<u8>))),
-                    ),
-                ),
-            ),
-        )>::print_fields(alloc, src, place, &names, text, out)
+    #[tactic(auto, unfolding(crate::specs::Discovery::endpoint_description_entries))]
+    fn push_lines(&self, alloc: Global, out: &mut String, place: Place) -> Result<(), AllocError> {
+        push_fields!(self, alloc, out, place => endpoint_url, server, server_certificate, security_mode,
+            security_policy_uri, user_identity_tokens, transport_profile_uri, security_level)
     }
 }
 
@@ -154,28 +64,14 @@ impl Lines for GetEndpointsRequest {
     ghost use Rattle.ua_fields.specs.Discovery.{get_endpoints_request_entries};
 
     ghost tree = { λ m. structure (get_endpoints_request_entries m) };
-}
 
-impl Printed for GetEndpointsRequest {
     fn is_structure() -> bool {
         true
     }
 
-    fn print<S: Source, O: Sink>(
-        alloc: Global,
-        src: &mut S,
-        place: Place,
-        text: &mut String,
-        out: &mut O,
-    ) -> Result<(), TellFault> {
-        let names = (
-            "request_header",
-            ("endpoint_url", ("locale_ids", "profile_uris")),
-        );
-        <(
-            RequestHeader,
-            (UaString, (UaArray<UaString>, Last<UaArray<UaString>>)),
-        )>::print_fields(alloc, src, place, &names, text, out)
+    #[tactic(auto, unfolding(crate::specs::Discovery::get_endpoints_request_entries))]
+    fn push_lines(&self, alloc: Global, out: &mut String, place: Place) -> Result<(), AllocError> {
+        push_fields!(self, alloc, out, place => request_header, endpoint_url, locale_ids, profile_uris)
     }
 }
 
@@ -184,23 +80,13 @@ impl Lines for GetEndpointsResponse {
     ghost use Rattle.ua_fields.specs.Discovery.{get_endpoints_response_entries};
 
     ghost tree = { λ m. structure (get_endpoints_response_entries m) };
-}
 
-impl Printed for GetEndpointsResponse {
     fn is_structure() -> bool {
         true
     }
 
-    fn print<S: Source, O: Sink>(
-        alloc: Global,
-        src: &mut S,
-        place: Place,
-        text: &mut String,
-        out: &mut O,
-    ) -> Result<(), TellFault> {
-        let names = ("response_header", "endpoints");
-        <(ResponseHeader, Last<UaArray<EndpointDescription>>)>::print_fields(
-            alloc, src, place, &names, text, out,
-        )
+    #[tactic(auto, unfolding(crate::specs::Discovery::get_endpoints_response_entries))]
+    fn push_lines(&self, alloc: Global, out: &mut String, place: Place) -> Result<(), AllocError> {
+        push_fields!(self, alloc, out, place => response_header, endpoints)
     }
 }

@@ -1,18 +1,14 @@
 //! ExtensionObjects, and the identity tokens that they hold, as lines.
 
-ghost use Rattle.std.specs.Prelude.{◌≡◌, [], IfOk, IsTrue, None, is_some, option_map, string_bytes};
+ghost use Rattle.std.specs.Prelude.{◌≡◌, IfOk, IsTrue, None, Option, List, OnOk, ℕ, option_map, string_bytes};
 ghost use Rattle.ua_opening.specs.Message.{body_of};
 ghost use Rattle.ua_fields.specs.Leaves.{extension_object_tree, object_or_token};
 ghost use Rattle.ua_fields.specs.Leaves.{octets_of_body as octets_in, token_as, token_numbered};
-ghost use Rattle.ua_fields.specs.Printing.{PrintsOrBreaks};
-ghost use Rattle.ua_fields.specs.Tree.{IsBehind, structure};
+ghost use Rattle.ua_fields.specs.Tree.{IsBehind, Tree};
 
-use crate::lines::{Lines, Place, deeper_margin, push_line, push_start};
+use crate::lines::{Lines, Place, deeper_margin, push_fields, push_line, push_start};
 use crate::null::is_null_object;
-use crate::pieces::print_encoding;
-use crate::printed::{Last, Printed, PrintedFields};
-use crate::printing::{PrintFault, TellFault};
-use crate::sink::Sink;
+use crate::text::push_encoded_or_null;
 use std::alloc::{AllocError, Global};
 use ua_builtin::{
     ExtensionBody, ExtensionObject, MOST_LEVELS, Octets, ReadFault, Source, UaBytes, UaString, Wire,
@@ -29,167 +25,170 @@ const X509: u32 = 327;
 
 const ISSUED: u32 = 940;
 
-/// The field of an AnonymousIdentityToken (OPC 10000-4, 7.41.3).
-struct AnonymousFields;
-
-impl PrintedFields for AnonymousFields {
-    ghost use Rattle.ua_structures.specs.Session.{anonymous_identity_token};
-    ghost use Rattle.ua_fields.specs.Leaves.{anonymous_token_entries};
-
-    type Values = AnonymousIdentityToken;
-
-    type Names = ();
-
-    ghost format = { anonymous_identity_token };
-
-    ghost fields = { λ names token. anonymous_token_entries token };
-
-    fn print_fields<S: Source, O: Sink>(
-        alloc: Global,
-        src: &mut S,
-        place: Place,
-        _names: &(),
-        text: &mut String,
-        out: &mut O,
-    ) -> Result<(), TellFault> {
-        <Last<UaString>>::print_fields(alloc, src, place, &"policy_id", text, out)
-    }
-}
-
 /// The fields of a UserNameIdentityToken: its policy, the name and the password of a user, and how
 /// that is encrypted (OPC 10000-4, 7.41.4).
-type UserNameFields = (UaString, (UaString, (UaBytes, Last<UaString>)));
+type UserName = (UaString, (UaString, (UaBytes, UaString)));
 
 /// The fields of an X509IdentityToken: its policy, and the certificate of a user (OPC 10000-4,
 /// 7.41.5).
-type CertificateFields = (UaString, Last<UaBytes>);
+type Certificate = (UaString, UaBytes);
 
 /// The fields of an IssuedIdentityToken: its policy, what another service issued for a user, and how
 /// that is encrypted (OPC 10000-4, 7.41.6).
-type IssuedFields = (UaString, (UaBytes, Last<UaString>));
+type Issued = (UaString, (UaBytes, UaString));
 
-/// Whether these bytes encode a value, with nothing after it.
-fn is_encoding<T: Wire + Drop>(alloc: Global, octets: &[u8]) -> Result<bool, AllocError>
-    ensures { IfOk result (λ is. is ≡ is_some (body_of T.format octets.now)) }
+impl Lines for AnonymousIdentityToken {
+    ghost use Rattle.ua_fields.specs.Tree.{structure};
+    ghost use Rattle.ua_fields.specs.Leaves.{anonymous_token_entries};
+
+    ghost tree = { λ m. structure (anonymous_token_entries m) };
+
+    fn is_structure() -> bool {
+        true
+    }
+
+    fn push_lines(&self, alloc: Global, out: &mut String, place: Place) -> Result<(), AllocError> {
+        push_fields!(self, alloc, out, place => policy_id)
+    }
+}
+
+impl Lines for UserName {
+    ghost use Rattle.ua_fields.specs.Tree.{structure};
+    ghost use Rattle.ua_fields.specs.Leaves.{user_name_token_entries};
+
+    ghost tree = { λ m. structure (user_name_token_entries m) };
+
+    fn is_structure() -> bool {
+        true
+    }
+
+    fn push_lines(&self, alloc: Global, out: &mut String, place: Place) -> Result<(), AllocError> {
+        place.push_field(alloc, out, "policy_id", &self.0)?;
+        place.push_field(alloc, out, "user_name", &self.1.0)?;
+        place.push_field(alloc, out, "password", &self.1.1.0)?;
+        place.push_field(alloc, out, "encryption_algorithm", &self.1.1.1)?;
+        Ok(())
+    }
+}
+
+impl Lines for Certificate {
+    ghost use Rattle.ua_fields.specs.Tree.{structure};
+    ghost use Rattle.ua_fields.specs.Leaves.{certificate_token_entries};
+
+    ghost tree = { λ m. structure (certificate_token_entries m) };
+
+    fn is_structure() -> bool {
+        true
+    }
+
+    fn push_lines(&self, alloc: Global, out: &mut String, place: Place) -> Result<(), AllocError> {
+        place.push_field(alloc, out, "policy_id", &self.0)?;
+        place.push_field(alloc, out, "certificate_data", &self.1)?;
+        Ok(())
+    }
+}
+
+impl Lines for Issued {
+    ghost use Rattle.ua_fields.specs.Tree.{structure};
+    ghost use Rattle.ua_fields.specs.Leaves.{issued_token_entries};
+
+    ghost tree = { λ m. structure (issued_token_entries m) };
+
+    fn is_structure() -> bool {
+        true
+    }
+
+    fn push_lines(&self, alloc: Global, out: &mut String, place: Place) -> Result<(), AllocError> {
+        place.push_field(alloc, out, "policy_id", &self.0)?;
+        place.push_field(alloc, out, "token_data", &self.1.0)?;
+        place.push_field(alloc, out, "encryption_algorithm", &self.1.1)?;
+        Ok(())
+    }
+}
+
+/// The value that these bytes encode, with nothing after it.
+fn value_of<T: Wire + Drop>(alloc: Global, octets: &[u8]) -> Result<Option<T>, AllocError>
+    ensures { IfOk result (λ found. found ≡ body_of T.format octets.now) }
 {
     let mut src = Octets::new(octets);
     match T::read_value(alloc, &mut src, MOST_LEVELS) {
-        Ok(value) => {
-            drop(value);
-            Ok(src.left() == 0)
-        }
-        Err(ReadFault::NoValue) => Ok(false),
+        Ok(value) if src.left() == 0 => Ok(Some(value)),
+        Ok(_) => Ok(None),
+        Err(ReadFault::NoValue) => Ok(None),
         Err(ReadFault::OutOfMemory) => Err(AllocError),
     }
 }
 
-/// Prints the line of an ExtensionObject by its bytes, in pieces, that of a null one as
-/// `null`.
-fn print_octets_line<O: Sink>(
+/// Appends the line of an ExtensionObject by its bytes, that of a null one as `null`.
+fn push_octets_line(
     alloc: Global,
     object: &ExtensionObject,
+    out: &mut String,
     place: Place<'_>,
-    text: &mut String,
-    out: &mut O,
-) -> Result<(), PrintFault>
-    ensures { PrintsOrBreaks place.entry.style (O.contents out.old) (string_bytes text.old) (O.contents out.new)
-        (string_bytes text.new) (IsBehind place.entry.style place.entry.margin.now place.entry.path.now []
-        (object_or_token object.now None)) result }
+) -> Result<(), AllocError>
+    ensures { OnOk result (IsBehind place.entry.style place.entry.margin.now place.entry.path.now
+        (string_bytes out.old) (object_or_token object.now None) (string_bytes out.new)) }
 {
-    if is_null_object(object) {
-        push_line(text, place, "null")?;
-        return Ok(());
-    }
-    push_start(text, place)?;
-    print_encoding(alloc, object, text, out)?;
-    text.push_str("\n")?;
-    out.write_full(text)?;
-    Ok(())
+    push_start(out, place)?;
+    push_encoded_or_null(alloc, out, is_null_object(object), object)?;
+    out.push_str("\n")
 }
 
-/// Prints an identity token: a line with the name of its type, and its fields one level deeper; the
+/// Appends an identity token: a line with the name of its type, and its fields one level deeper; the
 /// bytes of the ExtensionObject, unless the others encode a token with nothing after it.
-fn print_token<F: PrintedFields, O: Sink>(
+fn push_token<T: Lines + Wire + Drop>(
     alloc: Global,
     object: &ExtensionObject,
     octets: &[u8],
+    name: &str,
+    out: &mut String,
     place: Place<'_>,
-    type_name: &str,
-    field_names: &F::Names,
-    text: &mut String,
-    out: &mut O,
-) -> Result<(), PrintFault>
-where
-    F::Values: Wire + Drop,
+) -> Result<(), AllocError>
     requires plain { IsTrue place.style.plain }
-    requires same { body_of F.format octets.now ≡ body_of F.Values.format octets.now }
-    ensures { PrintsOrBreaks place.entry.style (O.contents out.old) (string_bytes text.old) (O.contents out.new)
-        (string_bytes text.new) (IsBehind place.entry.style place.entry.margin.now place.entry.path.now []
-        (object_or_token object.now (token_as type_name.now (λ v. structure (F.fields field_names.now v))
-        (body_of F.format octets.now)))) result }
+    ensures { OnOk result (IsBehind place.entry.style place.entry.margin.now place.entry.path.now
+        (string_bytes out.old) (object_or_token object.now (token_as name.now T.tree (body_of T.format octets.now)))
+        (string_bytes out.new)) }
 {
-    if !is_encoding::<F::Values>(alloc, octets)? {
-        return print_octets_line(alloc, object, place, text, out);
-    }
-    push_line(text, place, type_name)?;
+    let found: Option<T> = value_of(alloc, octets)?;
+    let Some(token) = found else {
+        return push_octets_line(alloc, object, out, place);
+    };
+    push_line(out, place, name)?;
     let margin = deeper_margin(alloc, place.margin)?;
     let inner = Place {
         style: place.style,
         margin: &margin,
         path: place.path,
     };
-    let mut src = Octets::new(octets);
-    match F::print_fields(alloc, &mut src, inner, field_names, text, out) {
-        Ok(()) => Ok(()),
-        // This cannot be: the bytes encode a token.
-        Err(TellFault::NoValue) => Err(PrintFault::OutOfMemory),
-        Err(TellFault::OutOfMemory) => Err(PrintFault::OutOfMemory),
-        Err(TellFault::Output(error)) => Err(PrintFault::Output(error)),
-    }
+    token.push_lines(alloc, out, inner)
 }
 
-/// Prints the identity token that bytes of an encoding with this number encode, or the bytes of the
+/// Appends the identity token that bytes of an encoding with this number encode, or the bytes of the
 /// ExtensionObject.
-fn print_numbered<O: Sink>(
+fn push_numbered(
     alloc: Global,
     object: &ExtensionObject,
     number: u32,
     octets: &[u8],
+    out: &mut String,
     place: Place<'_>,
-    text: &mut String,
-    out: &mut O,
-) -> Result<(), PrintFault>
+) -> Result<(), AllocError>
     requires { IsTrue place.style.plain }
-    ensures { PrintsOrBreaks place.entry.style (O.contents out.old) (string_bytes text.old) (O.contents out.new)
-        (string_bytes text.new) (IsBehind place.entry.style place.entry.margin.now place.entry.path.now []
-        (object_or_token object.now (token_numbered number octets.now))) result }
+    ensures { OnOk result (IsBehind place.entry.style place.entry.margin.now place.entry.path.now
+        (string_bytes out.old) (object_or_token object.now (token_numbered number octets.now))
+        (string_bytes out.new)) }
 {
     match number {
         ANONYMOUS => {
             let name = "AnonymousIdentityToken";
-            print_token::<AnonymousFields, O>(alloc, object, octets, place, name, &(), text, out)
+            push_token::<AnonymousIdentityToken>(alloc, object, octets, name, out, place)
         }
         USER_NAME => {
-            let name = "UserNameIdentityToken";
-            let names = (
-                "policy_id",
-                ("user_name", ("password", "encryption_algorithm")),
-            );
-            print_token::<UserNameFields, O>(alloc, object, octets, place, name, &names, text, out)
+            push_token::<UserName>(alloc, object, octets, "UserNameIdentityToken", out, place)
         }
-        X509 => {
-            let name = "X509IdentityToken";
-            let names = ("policy_id", "certificate_data");
-            print_token::<CertificateFields, O>(
-                alloc, object, octets, place, name, &names, text, out,
-            )
-        }
-        ISSUED => {
-            let name = "IssuedIdentityToken";
-            let names = ("policy_id", ("token_data", "encryption_algorithm"));
-            print_token::<IssuedFields, O>(alloc, object, octets, place, name, &names, text, out)
-        }
-        _ => print_octets_line(alloc, object, place, text, out),
+        X509 => push_token::<Certificate>(alloc, object, octets, "X509IdentityToken", out, place),
+        ISSUED => push_token::<Issued>(alloc, object, octets, "IssuedIdentityToken", out, place),
+        _ => push_octets_line(alloc, object, out, place),
     }
 }
 
@@ -203,51 +202,25 @@ fn octets_of_body(body: &ExtensionBody) -> Option<&[u8]>
     }
 }
 
-/// Prints the lines of an ExtensionObject: its bytes, or as people write it the identity token that
-/// it holds.
-fn print_object<O: Sink>(
-    alloc: Global,
-    object: &ExtensionObject,
-    place: Place<'_>,
-    text: &mut String,
-    out: &mut O,
-) -> Result<(), PrintFault>
-    ensures { PrintsOrBreaks place.entry.style (O.contents out.old) (string_bytes text.old) (O.contents out.new)
-        (string_bytes text.new) (IsBehind place.entry.style place.entry.margin.now place.entry.path.now []
-        (extension_object_tree object.now)) result }
-{
-    if !place.style.plain {
-        return print_octets_line(alloc, object, place, text, out);
-    }
-    let Some(number) = standard_number(&object.type_id) else {
-        return print_octets_line(alloc, object, place, text, out);
-    };
-    let Some(octets) = octets_of_body(&object.body) else {
-        return print_octets_line(alloc, object, place, text, out);
-    };
-    print_numbered(alloc, object, number, octets, place, text, out)
-}
-
 impl Lines for ExtensionObject {
     ghost use Rattle.ua_fields.specs.Leaves.{extension_object_tree};
 
     ghost tree = { extension_object_tree };
-}
 
-impl Printed for ExtensionObject {
     fn is_structure() -> bool {
         false
     }
 
-    fn print<S: Source, O: Sink>(
-        alloc: Global,
-        src: &mut S,
-        place: Place,
-        text: &mut String,
-        out: &mut O,
-    ) -> Result<(), TellFault> {
-        let object = ExtensionObject::read_value(alloc, src, MOST_LEVELS)?;
-        print_object(alloc, &object, place, text, out)?;
-        Ok(())
+    fn push_lines(&self, alloc: Global, out: &mut String, place: Place) -> Result<(), AllocError> {
+        if !place.style.plain {
+            return push_octets_line(alloc, self, out, place);
+        }
+        let Some(number) = standard_number(&self.type_id) else {
+            return push_octets_line(alloc, self, out, place);
+        };
+        let Some(octets) = octets_of_body(&self.body) else {
+            return push_octets_line(alloc, self, out, place);
+        };
+        push_numbered(alloc, self, number, octets, out, place)
     }
 }

@@ -4,7 +4,7 @@ ghost use Rattle.std.specs.Prelude.{string_bytes, OnOk};
 ghost use Rattle.ua_texts.specs.PlainLeaf.{Adds};
 ghost use Rattle.ua_fields.specs.Tree.{IsBehind, IsText, Leaf, text};
 
-use crate::lines::{Appended, Lines, Place, push_line, push_start};
+use crate::lines::{Lines, Place, push_line, push_start};
 use crate::null::{is_empty, is_null_name, is_null_text};
 use crate::style::FieldStyle;
 use crate::text::{push_encoded_or_null, push_node};
@@ -15,9 +15,9 @@ use ua_builtin::{
 };
 use ua_texts::{
     push_base64, push_code_as, push_diagnostic, push_double, push_escaped_string, push_moment,
-    push_plain_localized, push_plain_name, push_wide_pattern,
+    push_plain_localized, push_plain_name, push_plain_variant, push_variant, push_wide_pattern,
 };
-use ua_variant::DiagnosticInfo;
+use ua_variant::{DiagnosticInfo, HeldVariant};
 
 /// A value whose text is shown on a line.
 pub(crate) trait Text {
@@ -53,9 +53,11 @@ impl<T: Text> Lines for T {
     ghost use Rattle.ua_fields.specs.Tree.{text};
 
     ghost tree = { λ value. text (T.leaf value) };
-}
 
-impl<T: Text> Appended for T {
+    fn is_structure() -> bool {
+        false
+    }
+
     fn push_lines(&self, alloc: Global, out: &mut String, place: Place) -> Result<(), AllocError> {
         push_text_line(alloc, out, place, self)
     }
@@ -65,9 +67,11 @@ impl<T: Text> Lines for Option<T> {
     ghost use Rattle.ua_fields.specs.Leaves.{optional_tree};
 
     ghost tree = { optional_tree T.leaf };
-}
 
-impl<T: Text> Appended for Option<T> {
+    fn is_structure() -> bool {
+        false
+    }
+
     fn push_lines(&self, alloc: Global, out: &mut String, place: Place) -> Result<(), AllocError> {
         match self {
             Some(value) => push_text_line(alloc, out, place, value),
@@ -308,6 +312,25 @@ impl Text for DiagnosticInfo {
             push_diagnostic(out, self, style.names)
         } else {
             push_encoded_or_null(alloc, out, is_null, self)
+        }
+    }
+}
+
+impl Text for HeldVariant {
+    ghost use Rattle.ua_fields.specs.Tree.{value_of};
+
+    ghost leaf = { value_of };
+
+    fn push_text(
+        &self,
+        alloc: Global,
+        out: &mut String,
+        style: FieldStyle,
+    ) -> Result<(), AllocError> {
+        if style.plain {
+            push_plain_variant(alloc, out, self.get(), style.names)
+        } else {
+            push_variant(alloc, out, self.get())
         }
     }
 }

@@ -9,33 +9,23 @@
 //! push_body_fields(alloc, BodyKind::Response, true, &mut src, &mut out)?; // one line each
 //! ```
 //!
-//! [`print_body`] and [`print_header`] print the lines of a message as it is read, into a text that
-//! they hand to a [`Sink`] whenever it is long: a writer is one.
+//! [`print_body`] and [`print_header`] append them to a text that they hand to a [`Sink`] whenever it
+//! is long: a writer is one.
 #![tactic(auto)]
 
 mod array;
 mod attribute;
 mod body;
 mod discovery;
-mod elements;
-mod headed;
 mod header;
 mod identity;
 mod leaves;
 mod lines;
 mod message;
-mod node;
 mod null;
 mod opened;
 mod path;
-mod pieces;
-mod plain;
-mod plain_diagnostic;
-mod plain_leaf;
-mod plain_parts;
-mod printed;
 mod printing;
-mod recoded;
 mod secure_channel;
 mod security_token;
 mod session;
@@ -44,10 +34,8 @@ mod sink;
 mod style;
 mod text;
 mod value;
-mod whole;
 
-pub use body::{BodyKind, print_body, push_body_fields};
-pub use headed::print_header;
+pub use body::{BodyKind, print_body, print_header, push_body_fields};
 pub use opened::skip_open_response;
 pub use printing::{PrintFault, write_kept};
 pub use side::Side;

@@ -3,7 +3,7 @@
 ghost use Rattle.std.specs.Prelude.{◌≡◌, ◌++◌, codes, string_bytes, OnOk, IfOk};
 ghost use Rattle.ua_fields.specs.Tree.{Tree, deeper, line};
 
-use crate::path::path_of_field;
+use crate::path::{path_of_element, path_of_field};
 use crate::style::FieldStyle;
 use std::alloc::{AllocError, Global};
 
@@ -18,21 +18,23 @@ pub(crate) struct Place<'a> {
     pub(crate) path: &'a str,
 }
 
-/// A value that has lines, one for each of its fields.
+/// A value that is printed as lines, one for each of its fields.
 pub(crate) trait Lines {
+    ghost use Rattle.std.specs.Prelude.{◌≡◌, ℕ, List, cond, string_bytes, OnOk};
+    ghost use Rattle.ua_fields.specs.Tree.{IsBehind, deeper, field_margin};
+
     /// The value as a tree of its fields.
     ghost tree: { Self → Tree };
-}
 
-/// A value whose lines are appended at once.
-pub(crate) trait Appended: Lines {
-    ghost use Rattle.std.specs.Prelude.{string_bytes, OnOk};
-    ghost use Rattle.ua_fields.specs.Tree.{IsBehind};
+    /// Whether it is a structure, which has no line of its own: its fields are one level deeper.
+    fn is_structure() -> bool
+        ensures { (margin : List ℕ) (value : Self)
+            → field_margin margin (tree value) ≡ cond result (deeper margin) margin };
 
     /// Appends the lines of the value.
     fn push_lines(&self, alloc: Global, out: &mut String, place: Place) -> Result<(), AllocError>
         ensures { OnOk result (IsBehind place.entry.style place.entry.margin.now place.entry.path.now
-            (string_bytes out.old) (Self.tree self.now) (string_bytes out.new)) };
+            (string_bytes out.old) (tree self.now) (string_bytes out.new)) };
 }
 
 /// Appends what comes before the text of a line.
@@ -69,18 +71,19 @@ pub(crate) fn deeper_margin(alloc: Global, margin: &str) -> Result<String, Alloc
 
 impl<'a> Place<'a> {
     ghost use Rattle.std.specs.Prelude.{string_bytes, OnOk};
-    ghost use Rattle.ua_fields.specs.Tree.{IsBehind, deeper, field_path};
+    ghost use Rattle.ua_fields.specs.Tree.{IsBehind, element_path, field_margin, field_path};
 
-    /// Appends the lines of a field that is no structure.
-    pub(crate) fn push_field<T: Appended>(
+    /// Appends the lines of a field.
+    pub(crate) fn push_field<T: Lines>(
         self,
         alloc: Global,
         out: &mut String,
         name: &str,
         value: &T,
     ) -> Result<(), AllocError>
-        ensures { OnOk result (IsBehind self.entry.style self.entry.margin.now (field_path self.entry.path.now name.now)
-            (string_bytes out.old) (T.tree value.now) (string_bytes out.new)) }
+        ensures { OnOk result (IsBehind self.entry.style (field_margin self.entry.margin.now (T.tree value.now))
+            (field_path self.entry.path.now name.now) (string_bytes out.old) (T.tree value.now)
+            (string_bytes out.new)) }
     {
         let path = path_of_field(alloc, self.path, name)?;
         let inner = Place {
@@ -88,36 +91,43 @@ impl<'a> Place<'a> {
             margin: self.margin,
             path: path.as_str(),
         };
-        value.push_lines(alloc, out, inner)
+        if !T::is_structure() {
+            return value.push_lines(alloc, out, inner);
+        }
+        let margin = deeper_margin(alloc, self.margin)?;
+        let deeper = Place {
+            style: self.style,
+            margin: &margin,
+            path: inner.path,
+        };
+        value.push_lines(alloc, out, deeper)
     }
 
-    /// Appends the lines of a field that is a structure.
-    pub(crate) fn push_part<T: Appended>(
+    /// Appends the lines of an element.
+    pub(crate) fn push_element<T: Lines>(
         self,
         alloc: Global,
         out: &mut String,
-        name: &str,
+        index: usize,
         value: &T,
     ) -> Result<(), AllocError>
-        ensures { OnOk result
-            (IsBehind self.entry.style (deeper self.entry.margin.now) (field_path self.entry.path.now name.now)
-            (string_bytes out.old) (T.tree value.now) (string_bytes out.new)) }
+        ensures { OnOk result (IsBehind self.entry.style self.entry.margin.now
+            (element_path self.entry.path.now index) (string_bytes out.old) (T.tree value.now) (string_bytes out.new)) }
     {
-        let margin = deeper_margin(alloc, self.margin)?;
+        let path = path_of_element(alloc, self.path, index)?;
         let inner = Place {
             style: self.style,
-            margin: &margin,
-            path: self.path,
+            margin: self.margin,
+            path: path.as_str(),
         };
-        inner.push_field(alloc, out, name, value)
+        value.push_lines(alloc, out, inner)
     }
 }
 
-/// Appends the lines of the fields of a structure in order, each by `push_field`, or by `push_part`
-/// where it is a structure.
+/// Appends the lines of the fields of a structure, in order.
 macro_rules! push_fields {
-    ($value:expr, $alloc:expr, $out:expr, $place:expr => $($push:ident $field:ident),+) => {{
-        $($place.$push($alloc, $out, stringify!($field), &$value.$field)?;)+
+    ($value:expr, $alloc:expr, $out:expr, $place:expr => $($field:ident),+) => {{
+        $($place.push_field($alloc, $out, stringify!($field), &$value.$field)?;)+
         Ok(())
     }};
 }

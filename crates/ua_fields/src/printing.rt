@@ -7,22 +7,10 @@ use std::alloc::AllocError;
 use std::io;
 use std::io::Write;
 use thiserror::Error;
-use ua_builtin::ReadFault;
 
 /// Why lines are not printed.
 #[derive(Debug, Drop)]
 pub enum PrintFault {
-    /// An allocation failed.
-    OutOfMemory,
-    /// The lines cannot be written, and why.
-    Output(io::Error),
-}
-
-/// Why the lines of a value are not printed as it is read.
-#[derive(Debug, Drop)]
-pub(crate) enum TellFault {
-    /// No value is at the start of the source.
-    NoValue,
     /// An allocation failed.
     OutOfMemory,
     /// The lines cannot be written, and why.
@@ -46,52 +34,6 @@ impl From<io::Error> for PrintFault {
 
     fn from(error: io::Error) -> PrintFault {
         PrintFault::Output(error)
-    }
-}
-
-impl From<AllocError> for TellFault {
-    ghost use Rattle.ua_fields.specs.declared.printing.TellFault.TheVariants.{OutOfMemory};
-
-    ghost from_gives = { λ _ fault. fault ≡ OutOfMemory };
-
-    fn from(_: AllocError) -> TellFault {
-        TellFault::OutOfMemory
-    }
-}
-
-impl From<io::Error> for TellFault {
-    ghost use Rattle.ua_fields.specs.declared.printing.TellFault.TheVariants.{Output};
-
-    ghost from_gives = { λ error fault. fault ≡ Output error };
-
-    fn from(error: io::Error) -> TellFault {
-        TellFault::Output(error)
-    }
-}
-
-impl From<ReadFault> for TellFault {
-    ghost use Rattle.ua_fields.specs.Printing.{tell_fault};
-
-    ghost from_gives = { λ read fault. fault ≡ tell_fault read };
-
-    fn from(fault: ReadFault) -> TellFault {
-        match fault {
-            ReadFault::NoValue => TellFault::NoValue,
-            ReadFault::OutOfMemory => TellFault::OutOfMemory,
-        }
-    }
-}
-
-impl From<PrintFault> for TellFault {
-    ghost use Rattle.ua_fields.specs.Printing.{told_fault};
-
-    ghost from_gives = { λ print fault. fault ≡ told_fault print };
-
-    fn from(fault: PrintFault) -> TellFault {
-        match fault {
-            PrintFault::OutOfMemory => TellFault::OutOfMemory,
-            PrintFault::Output(error) => TellFault::Output(error),
-        }
     }
 }
 

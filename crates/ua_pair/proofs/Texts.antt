@@ -26,7 +26,8 @@ use Rattle.ua_pair.specs.Lines.{chunk_line, message_line, opening_line}
 use Rattle.ua_pair.specs.Names.{is_unsupported, message_title, opening_name}
 use Rattle.ua_fields.specs.Styles.{exact_field_style}
 use Rattle.ua_pair.specs.Styles.{style_of}
-use Rattle.ua_pair.specs.Told.{AreFieldsOf, AreParts, AreTextsBehind, IsChunkText, IsFrameText, IsHeaderOf, IsItemText, IsOpeningText, IsTextBy}
+use Rattle.ua_pair.specs.Told.{AreFieldsOf, AreParts, AreTextsBehind, IsChunkText, IsFrameText, IsHeaderOf, IsHeaderWithin}
+use Rattle.ua_pair.specs.Told.{IsItemText, IsOpeningText, IsTextBy, IsWithin, is_large, left_out}
 use Rattle.ua_pair.specs.Told.{chunk_lines, field_lines_of, frame_lines, header_lines_of, item_lines, line_if, lines_by, opening_lines, place_behind}
 use Rattle.ua_fields.proofs.Bodies.{exact_header, exact_text_of, header_exact, text_exact}
 
@@ -53,20 +54,34 @@ exact_if : (wanted : Bool) (Is : List ℕ → Type 0) (shown text : List ℕ) �
 exact_if true Is shown text same h = same text h
 exact_if false Is shown text same h = h
 
+-- one text, or others of which something holds
+exact_either : (large : Bool) (Is : List ℕ → Type 0) (one two text : List ℕ) → ((t : List ℕ) → Is t → t ≡ two) → Either large (text ≡ one) (Is text)
+    → text ≡ cond large one two
+exact_either true Is one two text same h = h
+exact_either false Is one two text same h = same text h
+
+either_exact : (large : Bool) (Is : List ℕ → Type 0) (one two : List ℕ) → Is two → Either large (cond large one two ≡ one) (Is (cond large one two))
+either_exact true Is one two h = refl
+either_exact false Is one two h = h
+
 exact_style : (options : DissectOptions) → options.plain ≡ false → style_of options ≡ exact_field_style options.names
 exact_style options none = ap (λ (p : Bool). record { names = options.names; plain = p }) none
 
 module _ (options : DissectOptions) (none : options.plain ≡ false) where
   exact_fields : (kind : BodyKind) (octets text : List ℕ) → AreFieldsOf options kind octets text → text ≡ field_lines_of options kind octets
   exact_fields kind octets text h =
-      exact_if options.fields (IsBodyText (style_of options) kind octets) (body_fields options.names kind octets) text
-      (λ t g. exact_text_of options.names kind octets t (subst (λ (s : FieldStyle). IsBodyText s kind octets t) (exact_style options none) g)) h
+      let fields = body_fields options.names kind octets in
+      exact_if options.fields (IsWithin (style_of options) kind octets) (cond (is_large octets) left_out fields) text
+      (λ t g. exact_either (is_large octets) (IsBodyText (style_of options) kind octets) left_out fields t
+      (λ u k. exact_text_of options.names kind octets u (subst (λ (s : FieldStyle). IsBodyText s kind octets u) (exact_style options none) k)) g) h
 
   exact_head : (unsupported : Bool) (octets text : List ℕ) → IsHeaderOf options unsupported octets text → text ≡ header_lines_of options unsupported octets
   exact_head unsupported octets text h =
-      exact_if (options.fields && unsupported) (IsHeaderText (style_of options) options.side octets) (header_fields options.names options.side octets) text
-      (λ t g. exact_header options.names options.side octets t (subst (λ (s : FieldStyle). IsHeaderText s options.side octets t) (exact_style options none) g))
-      h
+      let fields = header_fields options.names options.side octets in
+      exact_if (options.fields && unsupported) (IsHeaderWithin (style_of options) options.side octets) (cond (is_large octets) [] fields) text
+      (λ t g. exact_either (is_large octets) (IsHeaderText (style_of options) options.side octets) [] fields t
+      (λ u k. exact_header options.names options.side octets u (subst (λ (s : FieldStyle). IsHeaderText s options.side octets u) (exact_style options none) k))
+      g) h
 
   exact_item : (item : Item) (text : List ℕ) → IsItemText options item text → text ≡ item_lines options item
   exact_item (Whole id octets) text h =
@@ -111,15 +126,18 @@ module _ (options : DissectOptions) (none : options.plain ≡ false) where
 
   fields_exact : (kind : BodyKind) (octets : List ℕ) → AreFieldsOf options kind octets (field_lines_of options kind octets)
   fields_exact kind octets =
-      if_exact options.fields (IsBodyText (style_of options) kind octets) (body_fields options.names kind octets)
-      (subst (λ (s : FieldStyle). IsBodyText s kind octets (body_fields options.names kind octets)) (sym (exact_style options none))
-      (text_exact options.names kind octets))
+      let fields = body_fields options.names kind octets in
+      if_exact options.fields (IsWithin (style_of options) kind octets) (cond (is_large octets) left_out fields)
+      (either_exact (is_large octets) (IsBodyText (style_of options) kind octets) left_out fields
+      (subst (λ (s : FieldStyle). IsBodyText s kind octets fields) (sym (exact_style options none)) (text_exact options.names kind octets)))
 
   head_exact : (unsupported : Bool) (octets : List ℕ) → IsHeaderOf options unsupported octets (header_lines_of options unsupported octets)
   head_exact unsupported octets =
-      if_exact (options.fields && unsupported) (IsHeaderText (style_of options) options.side octets) (header_fields options.names options.side octets)
-      (subst (λ (s : FieldStyle). IsHeaderText s options.side octets (header_fields options.names options.side octets)) (sym (exact_style options none))
-      (header_exact options.names options.side octets))
+      let fields = header_fields options.names options.side octets in
+      if_exact (options.fields && unsupported) (IsHeaderWithin (style_of options) options.side octets) (cond (is_large octets) [] fields)
+      (either_exact (is_large octets) (IsHeaderText (style_of options) options.side octets) [] fields
+      (subst (λ (s : FieldStyle). IsHeaderText s options.side octets fields) (sym (exact_style options none))
+      (header_exact options.names options.side octets)))
 
   item_exact : (item : Item) → IsItemText options item (item_lines options item)
   item_exact (Whole id octets) = (

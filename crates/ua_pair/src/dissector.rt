@@ -40,8 +40,8 @@ pub enum State {
 }
 
 /// Prints the bytes that one side of a connection sent, in any fragments, as lines. A UA TCP
-/// message, and a message with its last chunk, is printed as soon as it is complete. The fields of a
-/// message are printed as it is read, an element of an array at a time, also of an array in a value.
+/// message, and a message with its last chunk, is printed as soon as it is complete. A message is
+/// decoded before its fields are printed, those of a large body are left out.
 #[derive(Debug)]
 pub struct Dissector {
     alloc: Global,

@@ -1,14 +1,16 @@
 //! Laws of the dissector's output, each the contract of a function that does nothing.
 
-ghost use Rattle.std.specs.Prelude.{◌≡◌, ℕ, List, false};
+ghost use Rattle.std.specs.Prelude.{◌≡◌, ◌<◌, ℕ, List, false, true, length};
 ghost use Rattle.ua_texts.specs.Shown.{shown};
 ghost use Rattle.ua_pair.specs.declared.options.DissectOptions.{DissectOptions};
 ghost use Rattle.ua_fields.specs.declared.style.FieldStyle.{FieldStyle};
 ghost use Rattle.ua_pair.specs.Dissected.{AreLines, HasLines};
 ghost use Rattle.ua_pair.specs.Laws.{HasNoControl};
+ghost use Rattle.ua_fields.specs.declared.body.BodyKind.{BodyKind};
 ghost use Rattle.ua_fields.specs.Printing.{EachHasText};
+ghost use Rattle.ua_pair.specs.Told.{field_lines_of, left_out, most_field_octets};
 
-use ua_fields::FieldStyle;
+use ua_fields::{BodyKind, FieldStyle};
 
 /// The output is defined for every byte sequence, for either side, with or without fields, unless
 /// fields are as people write them.
@@ -21,6 +23,13 @@ pub fn has_lines()
 pub fn one_reading()
     ensures { (options : DissectOptions) (octets lines others : List ℕ) → options.plain ≡ false
         → AreLines options octets lines → AreLines options octets others → lines ≡ others }
+{}
+
+/// The fields of a body of more than 1,048,576 bytes are left out: one line stands in their place.
+#[tactic(auto, using(crate::proofs::PendingLines::large_left_out))]
+pub fn large_bodies_are_left_out()
+    ensures { (options : DissectOptions) (kind : BodyKind) (octets : List ℕ) → options.fields ≡ true
+        → most_field_octets < length octets → field_lines_of options kind octets ≡ left_out }
 {}
 
 /// Each value has a text, unless fields are as people write them: what is printed before an

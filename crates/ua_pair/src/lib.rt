@@ -36,5 +36,6 @@ mod teller;
 pub use dissector::Dissector;
 pub use encoding::encoding_name;
 pub use options::DissectOptions;
+pub use pending::MOST_FIELD_OCTETS;
 pub use stream::dissect;
 pub use ua_fields::{BodyKind, PrintFault, Side, push_body_fields};

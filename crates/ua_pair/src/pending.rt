@@ -1,4 +1,4 @@
-//! What has its line appended, and whose fields are printed behind it as they are read.
+//! What has its line appended, and whose fields are printed behind it.
 
 ghost use Rattle.std.specs.Prelude.{◌≡◌, Some, string_bytes};
 ghost use Rattle.std.specs.List.{concat};
@@ -6,13 +6,17 @@ ghost use Rattle.ua_fields.specs.Bodies.{message_kind as kind_of_message, openin
 ghost use Rattle.ua_fields.specs.Printing.{PrintsOrBreaks};
 ghost use Rattle.ua_pair.specs.Styles.{style_of};
 ghost use Rattle.ua_pair.specs.Telling.{AreMessageFields, ArePendingLines};
-ghost use Rattle.ua_pair.specs.Told.{AreFieldsOf, IsHeaderOf};
+ghost use Rattle.ua_pair.specs.Told.{AreFieldsOf, IsHeaderOf, IsHeaderWithin, IsWithin, is_large as has_more};
 
 use crate::options::DissectOptions;
 use std::alloc::Global;
-use ua_builtin::Octets;
+use ua_builtin::{Octets, Source};
 use ua_chunk::{Message, OpenChunk};
-use ua_fields::{BodyKind, PrintFault, Side, Sink, print_body, print_header};
+use ua_fields::{BodyKind, FieldStyle, PrintFault, Side, Sink, print_body, print_header};
+
+/// The most bytes of a body whose fields are printed: a message is decoded before, and its lines
+/// may take two hundred times as many bytes.
+pub const MOST_FIELD_OCTETS: usize = 1_048_576;
 
 /// What has its line appended, and its fields to be printed after it.
 #[derive(Debug, Drop)]
@@ -43,6 +47,32 @@ fn opening_kind(side: Side) -> BodyKind
     }
 }
 
+/// Whether more bytes are left than those of a body whose fields are printed.
+fn is_large<S: Source>(src: &S) -> bool
+    ensures { result ≡ has_more (S.octets src.now) }
+{
+    src.left() > MOST_FIELD_OCTETS
+}
+
+/// Prints the lines of the fields of a body, or the line that they are left out.
+fn print_within<S: Source, O: Sink>(
+    alloc: Global,
+    kind: BodyKind,
+    style: FieldStyle,
+    src: &mut S,
+    text: &mut String,
+    out: &mut O,
+) -> Result<(), PrintFault>
+    ensures { PrintsOrBreaks style (O.contents out.old) (string_bytes text.old) (O.contents out.new)
+        (string_bytes text.new) (IsWithin style kind (S.octets src.old)) result }
+{
+    if is_large(src) {
+        text.push_str("  fields left out: the body has more than 1048576 bytes\n")?;
+        return Ok(());
+    }
+    print_body(alloc, kind, style, src, text, out)
+}
+
 /// Prints the lines of the fields of a message of this side, if they are wanted.
 fn print_fields<O: Sink>(
     alloc: Global,
@@ -58,10 +88,28 @@ fn print_fields<O: Sink>(
     if options.fields {
         let mut body = message.source();
         let kind = message_kind(options.side);
-        print_body(alloc, kind, options.style(), &mut body, text, out)
+        print_within(alloc, kind, options.style(), &mut body, text, out)
     } else {
         Ok(())
     }
+}
+
+/// Prints the lines of the header of a message of this side, unless its body is large.
+fn print_header_within<S: Source, O: Sink>(
+    alloc: Global,
+    side: Side,
+    style: FieldStyle,
+    src: &mut S,
+    text: &mut String,
+    out: &mut O,
+) -> Result<(), PrintFault>
+    ensures { PrintsOrBreaks style (O.contents out.old) (string_bytes text.old) (O.contents out.new)
+        (string_bytes text.new) (IsHeaderWithin style side (S.octets src.old)) result }
+{
+    if is_large(src) {
+        return Ok(());
+    }
+    print_header(alloc, side, style, src, text, out)
 }
 
 /// Prints the lines of the header of a message of no known kind, if fields are wanted.
@@ -78,7 +126,7 @@ fn print_header_if<O: Sink>(
 {
     if options.fields && unsupported {
         let mut body = message.source();
-        print_header(alloc, options.side, options.style(), &mut body, text, out)
+        print_header_within(alloc, options.side, options.style(), &mut body, text, out)
     } else {
         Ok(())
     }
@@ -114,7 +162,7 @@ fn print_opened<O: Sink>(
     if options.fields {
         let mut body = Octets::new(&chunk.body);
         let kind = opening_kind(options.side);
-        print_body(alloc, kind, options.style(), &mut body, text, out)
+        print_within(alloc, kind, options.style(), &mut body, text, out)
     } else {
         Ok(())
     }

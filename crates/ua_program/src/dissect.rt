@@ -257,7 +257,7 @@ fn print_next_lines<'a, I: Read, O: Write>(
     Ok(None)
 }
 
-/// Does what [`print_next_lines`] does, and prints the lines of the fields of a message as it is read.
+/// Does what [`print_next_lines`] does, and prints the lines of the fields of a message.
 fn print_next_fields<'a, I: Read, O: Write>(
     alloc: Global,
     asked: &Dissect<'a>,

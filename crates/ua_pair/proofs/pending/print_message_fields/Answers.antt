@@ -4,8 +4,7 @@ use Rattle.std.proofs.lemmas.Result.{err_from_is_err_and}
 use Rattle.ua_fields.specs.Bodies.{message_kind}
 use Rattle.ua_pair.specs.Styles.{style_of}
 use Rattle.ua_pair.specs.Told.{AreFieldsOf, IsHeaderOf}
-use Rattle.ua_fields.proofs.PrintedHeaders.{fields_then_header}
-use Rattle.ua_pair.proofs.PendingLines.{fields_break}
+use Rattle.ua_pair.proofs.PendingLines.{fields_break, fields_then_header}
 use Rattle.ua_pair.proofs.pending.print_message_fields.Goals as goal
 
 pub returns-in_err-print_fields : goal.returns-in_err-print_fields

@@ -1,7 +1,0 @@
-use Rattle.ua_fields.proofs.headed.print_header.Goals as goal
-
-pub returns-in-Client : goal.returns-in-Client
-returns-in-Client g c = rw c.in-Client.is c.print_request_header.ensures
-
-pub returns-in-Server : goal.returns-in-Server
-returns-in-Server g c = rw c.in-Server.is c.print_response_header.ensures

@@ -1,0 +1,31 @@
+use Rattle.std.proofs.Common.{refl, string_bytes}
+use Rattle.ua_fields.specs.DataValue.{data_value_entries}
+use Rattle.ua_fields.proofs.value.DataValueLines.push_lines.Goals as goal
+
+pub returns : goal.returns
+unfolding data_value_entries
+returns c = (
+  string_bytes c.push_field.new.out,
+  c.in_ok-push_field.ensures,
+  (
+    string_bytes c.push_field-2.new.out,
+    c.in_ok-push_field-2.ensures,
+    (
+      string_bytes c.push_field-3.new.out,
+      c.in_ok-push_field-3.ensures,
+      (
+        string_bytes c.push_field-4.new.out,
+        c.in_ok-push_field-4.ensures,
+        (
+          string_bytes c.push_field-5.new.out,
+          c.in_ok-push_field-5.ensures,
+          (
+            string_bytes c.push_field-6.new.out,
+            c.in_ok-push_field-6.ensures,
+            refl,
+          ),
+        ),
+      ),
+    ),
+  ),
+)
