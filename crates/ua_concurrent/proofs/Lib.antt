@@ -1,5 +1,6 @@
-mod Acting
+pub mod Acting
 mod Behind
 mod Moving
 mod Stepping
+mod Storing
 mod Together

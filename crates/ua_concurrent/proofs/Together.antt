@@ -1,16 +1,19 @@
 -- What a turn at one place leaves of all places.
 use Rattle.std.proofs.Common.{◌≡◌, ◌≢◌, ◌<◌, ◌≤◌, ◌+◌, ◌⊎◌, inl, inr, ℕ, zero, suc, List, [], ◌∷◌, ◌++◌, length, replicate, Option, None}
-use Rattle.std.proofs.Common.{Some, Bool, true, false, refl, sym, ap, subst, ◌∙◌, append_assoc, arith, slice_get, slice_set}
+use Rattle.std.proofs.Common.{Some, true, false, refl, sym, ap, subst, ◌∙◌, append-nil, arith, slice_get, slice_set}
 use Rattle.std.proofs.Math.ListN.{length-set}
 use Rattle.ua_server.specs.Sharing.{SharedEvent, opened, shared_over}
 use Rattle.ua_server.specs.State.{State}
-use Rattle.ua_concurrent.specs.All.{HadRound, IsFree, TurnsAt}
-use Rattle.ua_concurrent.specs.Carried.{Carried}
-use Rattle.ua_concurrent.specs.Standing.{AreNumbered, GoOn, IsAt, TalkStands, StandTogether, Went, own_id}
+use Rattle.ua_concurrent.specs.All.{HadRound, IsFree, TurnsAt, WokeAt}
+use Rattle.ua_concurrent.specs.Acts.{Act, events_in, own_id}
+use Rattle.ua_concurrent.specs.Seen.{Seen}
+use Rattle.ua_concurrent.specs.Standing.{AreNumbered, GoOn, IsAt, TalkStands, StandTogether, Went}
 use Rattle.ua_concurrent.specs.Talk.{Talk, released_at, released_by}
-use Rattle.ua_concurrent.specs.Turning.{HadTurn}
+use Rattle.ua_concurrent.specs.Turning.{HadTurn, WokeTalk}
+use Rattle.ua_concurrent.specs.declared.socket.Readiness.{Readiness}
 use Rattle.std.specs.Option.{option_map}
 use Rattle.std.specs.Prelude.{IfNone, is_some}
+use Rattle.ua_concurrent.proofs.Acting.{acts_both, behind_both}
 use Rattle.ua_concurrent.proofs.Behind.{stands_beside}
 
 -- ---- places
@@ -80,7 +83,7 @@ below zero (suc p) h x = absurd (omega (arith, h))
 below (suc n) zero h x = omega arith
 below (suc n) (suc p) h x = let l = below n p (omega (arith, h)) (λ e. x (ap suc e)) in omega (arith, l)
 
-module _ {S : Type 0} (heard : S → Option Carried) where
+module _ {S : Type 0} (seen : S → Seen) where
   -- each conversation that is there was there, under its number
   pub numbered_back : (last : ℕ) (before after : List (Option (Talk S)))
       → ((q : ℕ) (t : Talk S) → IsAt after q t → (u : Talk S) × IsAt before q u × (t.number ≡ u.number))
@@ -93,8 +96,8 @@ module _ {S : Type 0} (heard : S → Option Carried) where
   -- all stand on where each that is there was there, and stands on
   pub together_kept : (es : List SharedEvent) (first now : State) (last : ℕ) (before after : List (Option (Talk S)))
       → ((q : ℕ) (t : Talk S) → IsAt after q t → (u : Talk S) × IsAt before q u × (t.number ≡ u.number)
-      × (TalkStands heard es first now u → TalkStands heard es first now t))
-      → StandTogether heard es first now last before → StandTogether heard es first now last after
+      × (TalkStands seen es first now u → TalkStands seen es first now t))
+      → StandTogether seen es first now last before → StandTogether seen es first now last after
   together_kept es first now last before after back s = record {
     state_is = s.state_is;
     numbered = numbered_back last before after (λ q t e. let u = back q t e in (u.0, u.1, u.2)) s.numbered;
@@ -103,7 +106,7 @@ module _ {S : Type 0} (heard : S → Option Carried) where
   }
 
   -- before any connection
-  pub together_none : (first : State) (n : ℕ) → StandTogether heard [] first first 0 (replicate n None)
+  pub together_none : (first : State) (n : ℕ) → StandTogether seen [] first first 0 (replicate n None)
   together_none first n = record {
     state_is = refl;
     numbered = record { within = λ p t e. absurd (get_none n p t e); apart = λ p q t u e f same. absurd (get_none n p t e) };
@@ -114,8 +117,8 @@ module _ {S : Type 0} (heard : S → Option Carried) where
   -- one more is opened, under the next number
   pub together_opened : (es : List SharedEvent) (first now : State) (last p : ℕ) (t : Talk S) (before : List (Option (Talk S))) → p < length before
       → t.number ≡ last + 1
-      → TalkStands heard es first now t → StandTogether heard es first now last before
-      → StandTogether heard es first now (last + 1) (slice_set before p (Some t))
+      → TalkStands seen es first now t → StandTogether seen es first now last before
+      → StandTogether seen es first now (last + 1) (slice_set before p (Some t))
   together_opened es first now last p t before within number stands s = record {
     state_is = s.state_is;
     numbered =
@@ -146,30 +149,30 @@ module _ {S : Type 0} (heard : S → Option Carried) where
           let is = ap (λ (x : Talk S). x.number) (here r v y f) ∙ number in let h = s.numbered.within q u (there q u x e) in absurd (omega (arith, is, h, same))
       places q r u v e f same (inr x) (inr y) = s.numbered.apart q r u v (there q u x e) (there r v y f) same
 
-      each : (q : ℕ) (u : Talk S) → IsAt after q u → (q ≡ p) ⊎ (q ≢ p) → TalkStands heard es first now u
-      each q u e (inl same) = subst (λ (x : Talk S). TalkStands heard es first now x) (sym (here q u same e)) stands
+      each : (q : ℕ) (u : Talk S) → IsAt after q u → (q ≡ p) ⊎ (q ≢ p) → TalkStands seen es first now u
+      each q u e (inl same) = subst (λ (x : Talk S). TalkStands seen es first now x) (sym (here q u same e)) stands
       each q u e (inr other) = s.each q u (there q u other e)
 
   -- one is taken out
   pub together_freed : (es : List SharedEvent) (first now : State) (last p : ℕ) (places : List (Option (Talk S)))
-      → StandTogether heard es first now last places → StandTogether heard es first now last (slice_set places p None)
+      → StandTogether seen es first now last places → StandTogether seen es first now last (slice_set places p None)
   together_freed es first now last p places s =
       together_kept es first now last places (slice_set places p None) (λ q t e. (t, at_freed places p q t e, refl, λ h. h)) s
 
   -- the system said something of the socket of one
   pub together_woken : (es : List SharedEvent) (first now : State) (last p : ℕ) (a b : Talk S) (places : List (Option (Talk S))) → p < length places
       → IsAt places p a
-      → b ≡ record a { socket = b.socket } → heard b.socket ≡ heard a.socket
-      → StandTogether heard es first now last places → StandTogether heard es first now last (slice_set places p (Some b))
+      → b ≡ record a { socket = b.socket } → (seen b.socket).heard ≡ (seen a.socket).heard
+      → StandTogether seen es first now last places → StandTogether seen es first now last (slice_set places p (Some b))
   together_woken es first now last p a b places within at same told s =
       together_kept es first now last places (slice_set places p (Some b)) (λ q t e. back q t e (same_or_not q p)) s
     where
-      stands : TalkStands heard es first now a → TalkStands heard es first now b
-      stands h = subst (λ (t : Talk S). TalkStands heard es first now t) (sym same)
+      stands : TalkStands seen es first now a → TalkStands seen es first now b
+      stands h = subst (λ (t : Talk S). TalkStands seen es first now t) (sym same)
           (record { octets = h.octets; written = h.written; come = h.come; carried = λ c e. h.carried c (sym told ∙ e) })
 
       back : (q : ℕ) (t : Talk S) → IsAt (slice_set places p (Some b)) q t → (q ≡ p) ⊎ (q ≢ p)
-          → (u : Talk S) × IsAt places q u × (t.number ≡ u.number) × (TalkStands heard es first now u → TalkStands heard es first now t)
+          → (u : Talk S) × IsAt places q u × (t.number ≡ u.number) × (TalkStands seen es first now u → TalkStands seen es first now t)
       back q t e (inl is) =
           let here : slice_get (slice_set places p (Some b)) p ≡ Some (Some t) = subst (λ (x : ℕ). slice_get (slice_set places p (Some b)) x ≡ Some (Some t)) is
           e in
@@ -178,16 +181,18 @@ module _ {S : Type 0} (heard : S → Option Carried) where
             a,
             subst (λ (x : ℕ). slice_get places x ≡ Some (Some a)) (sym is) at,
             ap (λ (x : Talk S). x.number) (t_is ∙ same),
-            λ h. subst (λ (x : Talk S). TalkStands heard es first now x) (sym t_is) (stands h),
+            λ h. subst (λ (x : Talk S). TalkStands seen es first now x) (sym t_is) (stands h),
           )
       back q t e (inr other) = (t, sym (get_other places p q (Some b) other) ∙ e, refl, λ h. h)
 
   -- one had a turn
-  pub together_turn : (es : List SharedEvent) (first before now : State) (last p : ℕ) (a b : Talk S) (places after : List (Option (Talk S)))
+  pub together_turn : {A : Type 0} (acts : A → Act → A → Type 0) (es : List SharedEvent) (first : State) (before now : State × A) (octets : List ℕ)
+      (last p : ℕ) (a b : Talk S) (places after : List (Option (Talk S)))
       → IsAt places p a → IsAt after p b → ((q : ℕ) → q ≢ p → slice_get after q ≡ slice_get places q) → b.number ≡ a.number
-      → StandTogether heard es first before last places → Went heard es first before now b → GoOn heard es first now last after
-  together_turn es first before now last p a b places after at put others same s w = record {
-    more = w.more;
+      → StandTogether seen es first before.0 last places → Went seen acts es first before now octets b → GoOn seen acts es first before.1 now last after
+  together_turn acts es first before now octets last p a b places after at put others same s w = record {
+    steps = w.steps;
+    acted = w.acted;
     stand = record {
       state_is = w.state_is;
       numbered = numbered_back last places after (λ q t e. back q t e (same_or_not q p)) s.numbered;
@@ -203,84 +208,110 @@ module _ {S : Type 0} (heard : S → Option Carried) where
       back q t f (inl e) = (a, subst (λ (x : ℕ). slice_get places x ≡ Some (Some a)) (sym e) at, ap (λ (x : Talk S). x.number) (here q t e f) ∙ same)
       back q t f (inr n) = (t, sym (others q n) ∙ f, refl)
 
-      each : (q : ℕ) (t : Talk S) → IsAt after q t → (q ≡ p) ⊎ (q ≢ p) → TalkStands heard (es ++ w.more) first now t
-      each q t f (inl e) = subst (λ (x : Talk S). TalkStands heard (es ++ w.more) first now x) (sym (here q t e f)) w.stands
+      each : (q : ℕ) (t : Talk S) → IsAt after q t → (q ≡ p) ⊎ (q ≢ p) → TalkStands seen (es ++ events_in w.steps) first now.0 t
+      each q t f (inl e) = subst (λ (x : Talk S). TalkStands seen (es ++ events_in w.steps) first now.0 x) (sym (here q t e f)) w.stands
       each q t f (inr n) =
           let was : IsAt places q t = sym (others q n) ∙ f in
-          stands_beside heard b.number es w.more first before now t (λ e. n (s.numbered.apart q p t a was at (e ∙ same))) w.others (s.each q t was)
+          stands_beside seen b.number es (events_in w.steps) first before.0 now.0 t (λ e. n (s.numbered.apart q p t a was at (e ∙ same))) w.others (s.each q t was)
 
   -- ---- one after the other
 
-  pub together_then : (first before mid now : State) (last last' last'' : ℕ) (a b c : List (Option (Talk S)))
-      → ((es : List SharedEvent) → StandTogether heard es first before last a → GoOn heard es first mid last' b)
-      → ((es : List SharedEvent) → StandTogether heard es first mid last' b → GoOn heard es first now last'' c)
-      → (es : List SharedEvent) → StandTogether heard es first before last a → GoOn heard es first now last'' c
-  together_then first before mid now last last' last'' a b c f h es s =
-      let w = f es s in
-      let v = h (es ++ w.more) w.stand in
-      record {
-        more = w.more ++ v.more;
-        stand = subst (λ (all : List SharedEvent). StandTogether heard all first now last'' c) (append_assoc es w.more v.more)
-            v.stand;
-      }
+  pub together_as : (es all : List SharedEvent) (first now : State) (last : ℕ) (places : List (Option (Talk S))) → es ≡ all
+      → StandTogether seen es first now last places → StandTogether seen all first now last places
+  together_as es all first now last places same s = subst (λ (x : List SharedEvent). StandTogether seen x first now last places) same s
 
-  module _ (readable writable : S → Bool) where
-    -- the places before this one had their turn
-    pub record RoundTo (n : ℕ) (before after : List (Option (Talk S))) : Type 0 where
-      pub count : length after ≡ length before
-      pub free : (p : ℕ) → IsFree before p → IsFree after p
-      pub each : (p : ℕ) (a : Talk S) → p < n → IsAt before p a → (b : Talk S) × IsAt after p b × HadTurn heard readable writable a b
-      pub still : (p : ℕ) → n ≤ p → slice_get after p ≡ slice_get before p
+  module _ {A : Type 0} (acts : A → Act → A → Type 0) where
+    pub go_none : (es : List SharedEvent) (first now : State) (x : A) (last : ℕ) (places : List (Option (Talk S)))
+        → StandTogether seen es first now last places → GoOn seen acts es first x (now, x) last places
+    go_none es first now x last places s =
+        record { steps = []; acted = refl; stand = together_as es (es ++ []) first now last places (sym (append-nil es)) s }
 
-    pub round_next : (n : ℕ) (before mid after : List (Option (Talk S))) → RoundTo n before mid → TurnsAt heard readable writable n mid after
-        → RoundTo (n + 1) before after
-    round_next n before mid after r t = record {
-      count = t.count ∙ r.count;
-      free = λ p f. free p f (same_or_not p n);
-      each = λ p a h e. each p a h e (same_or_not p n);
-      still = λ p h. t.others p (λ e. omega (arith, e, h)) ∙ r.still p (omega (arith, h));
-    }
-      where
-        free : (p : ℕ) → IsFree before p → (p ≡ n) ⊎ (p ≢ n) → IsFree after p
-        free p f (inl e) = subst (λ (x : ℕ). IsFree after x) (sym e) (t.free (subst (λ (x : ℕ). IsFree mid x) e (r.free p f)))
-        free p f (inr d) = t.others p d ∙ r.free p f
+    pub together_then : (first : State) (before mid now : State × A) (last last' last'' : ℕ) (a b c : List (Option (Talk S)))
+        → ((es : List SharedEvent) → StandTogether seen es first before.0 last a → GoOn seen acts es first before.1 mid last' b)
+        → ((es : List SharedEvent) → StandTogether seen es first mid.0 last' b → GoOn seen acts es first mid.1 now last'' c)
+        → (es : List SharedEvent) → StandTogether seen es first before.0 last a → GoOn seen acts es first before.1 now last'' c
+    together_then first before mid now last last' last'' a b c f h es s =
+        let w = f es s in
+        let v = h (es ++ events_in w.steps) w.stand in
+        record {
+          steps = w.steps ++ v.steps;
+          acted = acts_both acts (opened first) es w.steps v.steps before.1 mid.1 now.1 w.acted v.acted;
+          stand = together_as ((es ++ events_in w.steps) ++ events_in v.steps) (es ++ events_in (w.steps ++ v.steps)) first now.0 last'' c
+              (behind_both es w.steps v.steps) v.stand;
+        }
 
-        each : (p : ℕ) (a : Talk S) → p < n + 1 → IsAt before p a → (p ≡ n) ⊎ (p ≢ n) → (b : Talk S) × IsAt after p b × HadTurn heard readable writable a b
-        each p a h e (inl same) =
-            let was : IsAt mid n a = subst (λ (x : ℕ). IsAt mid x a) same (r.still p (omega (arith, same)) ∙ e) in
-            let turned = t.turn a was in
-            (turned.0, subst (λ (x : ℕ). IsAt after x turned.0) (sym same) turned.1, turned.2)
-        each p a h e (inr d) =
-            let less : p < n = below n p h d in
-            let had = r.each p a less e in
-            (had.0, t.others p d ∙ had.1, had.2)
+  -- the places before this one had their turn
+  pub record RoundTo (n : ℕ) (before after : List (Option (Talk S))) : Type 0 where
+    pub count : length after ≡ length before
+    pub free : (p : ℕ) → IsFree before p → IsFree after p
+    pub each : (p : ℕ) (a : Talk S) → p < n → IsAt before p a → (b : Talk S) × IsAt after p b × HadTurn seen a b
+    pub still : (p : ℕ) → n ≤ p → slice_get after p ≡ slice_get before p
 
-    pub round_whole : (n : ℕ) (before after : List (Option (Talk S))) → length before ≤ n → RoundTo n before after
-        → HadRound heard readable writable before after
-    round_whole n before after all r = record {
-      count = r.count;
-      free = r.free;
-      each = λ p a e. let within = get_within before p (Some a) e in r.each p a (omega (arith, within)) e;
-    }
+  pub round_next : (n : ℕ) (before mid after : List (Option (Talk S))) → RoundTo n before mid → TurnsAt seen n mid after
+      → RoundTo (n + 1) before after
+  round_next n before mid after r t = record {
+    count = t.count ∙ r.count;
+    free = λ p f. free p f (same_or_not p n);
+    each = λ p a h e. each p a h e (same_or_not p n);
+    still = λ p h. t.others p (λ e. omega (arith, e, h)) ∙ r.still p (omega (arith, h));
+  }
+    where
+      free : (p : ℕ) → IsFree before p → (p ≡ n) ⊎ (p ≢ n) → IsFree after p
+      free p f (inl e) = subst (λ (x : ℕ). IsFree after x) (sym e) (t.free (subst (λ (x : ℕ). IsFree mid x) e (r.free p f)))
+      free p f (inr d) = t.others p d ∙ r.free p f
 
-    -- ---- the conversation at a place has its turn
+      each : (p : ℕ) (a : Talk S) → p < n + 1 → IsAt before p a → (p ≡ n) ⊎ (p ≢ n) → (b : Talk S) × IsAt after p b × HadTurn seen a b
+      each p a h e (inl same) =
+          let was : IsAt mid n a = subst (λ (x : ℕ). IsAt mid x a) same (r.still p (omega (arith, same)) ∙ e) in
+          let turned = t.turn a was in
+          (turned.0, subst (λ (x : ℕ). IsAt after x turned.0) (sym same) turned.1, turned.2)
+      each p a h e (inr d) =
+          let less : p < n = below n p h d in
+          let had = r.each p a less e in
+          (had.0, t.others p d ∙ had.1, had.2)
 
-    pub put_turn : (places : List (Option (Talk S))) (p : ℕ) (a b : Talk S) → p < length places → IsAt places p a → HadTurn heard readable writable a b
-        → TurnsAt heard readable writable p places (slice_set places p (Some b))
-    put_turn places p a b within here had = record {
-      count = length-set places p (Some b);
-      others = λ q n. get_other places p q (Some b) n;
-      free = λ f. let no : Some (Some a) ≡ Some None = sym here ∙ f in cc;
-      turn = λ x e. let same : a ≡ x = cc (here, e) in
-          (b, get_same places p (Some b) within, subst (λ (t : Talk S). HadTurn heard readable writable t b) same had);
-    }
+  pub round_whole : (n : ℕ) (before after : List (Option (Talk S))) → length before ≤ n → RoundTo n before after
+      → HadRound seen before after
+  round_whole n before after all r = record {
+    count = r.count;
+    free = r.free;
+    each = λ p a e. let within = get_within before p (Some a) e in r.each p a (omega (arith, within)) e;
+  }
 
-    pub put_stand : (places : List (Option (Talk S))) (p : ℕ) (a b : Talk S) (first before now : State) (last : ℕ) → p < length places → IsAt places p a
-        → b.number ≡ a.number
-        → ((es : List SharedEvent) → (shared_over own_id (opened first) es).state ≡ before → TalkStands heard es first before a
-        → Went heard es first before now b)
-        → (es : List SharedEvent) → StandTogether heard es first before last places → GoOn heard es first now last (slice_set places p (Some b))
-    put_stand places p a b first before now last within here same went es s =
-        together_turn es first before now last p a b places (slice_set places p (Some b)) here
-        (get_same places p (Some b) within) (λ q n. get_other places p q (Some b) n) same s
-        (went es s.state_is (s.each p a here))
+  -- ---- the conversation at a place has its turn
+
+  pub put_turn : (places : List (Option (Talk S))) (p : ℕ) (a b : Talk S) → p < length places → IsAt places p a → HadTurn seen a b
+      → TurnsAt seen p places (slice_set places p (Some b))
+  put_turn places p a b within here had = record {
+    count = length-set places p (Some b);
+    others = λ q n. get_other places p q (Some b) n;
+    free = λ f. let no : Some (Some a) ≡ Some None = sym here ∙ f in cc;
+    turn = λ x e. let same : a ≡ x = cc (here, e) in
+        (b, get_same places p (Some b) within, subst (λ (t : Talk S). HadTurn seen t b) same had);
+  }
+
+  pub put_woken : (readiness : Readiness) (places : List (Option (Talk S))) (p : ℕ) (a b : Talk S) → p < length places → IsAt places p a
+      → WokeTalk seen readiness a b → WokeAt seen readiness p places (slice_set places p (Some b))
+  put_woken readiness places p a b within here woke = record {
+    count = length-set places p (Some b);
+    others = λ q n. get_other places p q (Some b) n;
+    free = λ f. let no : Some (Some a) ≡ Some None = sym here ∙ f in cc;
+    woke = λ x e. let same : a ≡ x = cc (here, e) in
+        (b, get_same places p (Some b) within, subst (λ (t : Talk S). WokeTalk seen readiness t b) same woke);
+  }
+
+  -- there is none at the place
+  pub woke_none : (readiness : Readiness) (places : List (Option (Talk S))) (p : ℕ) → ((a : Talk S) → IsAt places p a → ⊥)
+      → WokeAt seen readiness p places places
+  woke_none readiness places p none = record { count = refl; others = λ q n. refl; free = λ f. f; woke = λ a e. absurd (none a e) }
+
+  pub put_stand : {A : Type 0} (acts : A → Act → A → Type 0) (places : List (Option (Talk S))) (p : ℕ) (a b : Talk S) (first : State)
+      (before now : State × A) (last : ℕ) → p < length places → IsAt places p a → b.number ≡ a.number
+      → ((es : List SharedEvent) → (shared_over own_id (opened first) es).state ≡ before.0 → (s : TalkStands seen es first before.0 a)
+      → Went seen acts es first before now s.octets b)
+      → (es : List SharedEvent) → StandTogether seen es first before.0 last places → GoOn seen acts es first before.1 now last (slice_set places p (Some b))
+  put_stand acts places p a b first before now last within here same went es s =
+      let stood = s.each p a here in
+      together_turn acts es first before now stood.octets last p a b places (slice_set places p (Some b)) here
+      (get_same places p (Some b) within) (λ q n. get_other places p q (Some b) n) same s
+      (went es s.state_is stood)

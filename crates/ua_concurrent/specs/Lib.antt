@@ -1,4 +1,5 @@
 pub mod Carried
+pub mod Seen
 pub mod Talk
 pub mod Standing
 pub mod Turning

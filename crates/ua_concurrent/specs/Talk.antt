@@ -3,6 +3,7 @@ use Rattle.std.specs.Prelude.{ℕ, Bool, true, false, cond, List, [], ◌∷◌,
 use Rattle.ua_server.specs.declared.connection.Connection.{Connection}
 use Rattle.ua_server.specs.declared.step.End.{End}
 use Rattle.std.specs.Option.{option_map}
+use Rattle.ua_concurrent.specs.Seen.{Seen}
 use Rattle.ua_concurrent.specs.declared.outcome.Failure.{Failure}
 use Rattle.ua_concurrent.specs.declared.outcome.Released.{Released}
 use Rattle.ua_concurrent.specs.declared.outcome.Phase.{Phase}
@@ -42,8 +43,8 @@ abbrev pub ready_of : Option (Result End Failure) → List ℕ → Phase → Lis
 ready_of outcome waiting p unread readable writable =
     cond (is_some outcome) false (cond (are_there waiting) writable (cond (is_going p) (cond (are_there unread) true readable) true))
 
-abbrev pub is_ready : {S : Type 0} → (S → Bool) → (S → Bool) → Talk S → Bool
-is_ready readable writable t = ready_of t.outcome t.waiting t.phase t.unread (readable t.socket) (writable t.socket)
+abbrev pub is_ready : {S : Type 0} → (S → Seen) → Talk S → Bool
+is_ready seen t = ready_of t.outcome t.waiting t.phase t.unread (seen t.socket).readable (seen t.socket).writable
 
 -- the outcome, and its socket, once it is over
 abbrev pub released : {S : Type 0} → Talk S → Option (Released S)
@@ -58,6 +59,6 @@ abbrev pub released_at : {S : Type 0} → List (Option (Talk S)) → ℕ → Opt
 released_at places p = released_by (slice_index_or places p None)
 
 -- a turn at a place would do something
-abbrev pub is_place_ready : {S : Type 0} → (S → Bool) → (S → Bool) → Option (Talk S) → Bool
-is_place_ready readable writable None = false
-is_place_ready readable writable (Some t) = is_ready readable writable t
+abbrev pub is_place_ready : {S : Type 0} → (S → Seen) → Option (Talk S) → Bool
+is_place_ready seen None = false
+is_place_ready seen (Some t) = is_ready seen t

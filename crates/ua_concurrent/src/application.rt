@@ -18,8 +18,8 @@ pub trait Application {
         ensures acts { acts self.old (Acted services.old services.new result) self.new }
         ensures nodes { services.new ≡ with_nodes services.old services.new.nodes };
 
-    /// The connection of this number has taken a step, which stored these items. Its answer is not
-    /// written yet.
+    /// The connection of this number has taken this step, which stored these items. Its answer is
+    /// not written yet.
     fn after_step(&mut self, number: u32, services: &Services, step: &Step, written: &Written)
-        ensures { acts self.old (Told number written.now) self.new };
+        ensures { acts self.old (Told number step.now written.now) self.new };
 }

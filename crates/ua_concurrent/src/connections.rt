@@ -1,15 +1,13 @@
 //! All connections, each at a place.
 
 ghost use Rattle.std.specs.Prelude.{◌≡◌, ◌<◌, ◌+◌, ◌↔◌, ℕ, List, [], None, Some, is_some, length, replicate};
-ghost use Rattle.std.specs.Prelude.{slice_get, slice_set, IfOk, IfSome, IfNone, OnErr, IsErrOf, IsTrue};
+ghost use Rattle.std.specs.Prelude.{slice_set, IfOk, IfSome, IfNone, OnErr, IsErrOf, IsTrue};
 ghost use Rattle.std.specs.List.{list_any};
-ghost use Rattle.ua_server.specs.Sharing.{SharedEvent, Changed, opened as before_all, shared_over};
-ghost use Rattle.ua_server.specs.State.{State, with_nodes};
-ghost use Rattle.ua_nodes.specs.Table.{Nodes};
-ghost use Rattle.ua_concurrent.specs.Acts.{HasActed};
-ghost use Rattle.ua_concurrent.specs.All.{HadRound, IsFree, OpensTalk, TurnsAt, last_of, places_of};
-ghost use Rattle.ua_concurrent.specs.Standing.{GoOn, IsAt, IsFreshSocket, StandTogether, own_id};
-ghost use Rattle.ua_concurrent.specs.Talk.{Talk, is_place_ready, released_at};
+ghost use Rattle.ua_server.specs.Sharing.{SharedEvent};
+ghost use Rattle.ua_server.specs.State.{State};
+ghost use Rattle.ua_concurrent.specs.All.{HadRound, IsFree, OpensTalk, TurnsAt, WokeAt, last_of, places_of};
+ghost use Rattle.ua_concurrent.specs.Standing.{GoOn, IsFreshSocket, StandTogether};
+ghost use Rattle.ua_concurrent.specs.Talk.{is_place_ready, released_at};
 ghost use Rattle.ua_concurrent.specs.declared.connections.OpenFault.TheVariants as fault;
 
 use crate::application::Application;
@@ -53,7 +51,7 @@ impl<S: Socket> Connections<S> {
         ensures free { IfOk result (λ it. places_of it ≡ replicate count None) }
         ensures last { IfOk result (λ it. last_of it ≡ 0) }
         ensures stand { (first : State)
-            → IfOk result (λ it. StandTogether S.heard [] first first (last_of it) (places_of it)) }
+            → IfOk result (λ it. StandTogether S.seen [] first first (last_of it) (places_of it)) }
     {
         let mut places = Vec::with_capacity(alloc, count)?;
         'places: for _ in 0..count {
@@ -105,9 +103,9 @@ impl<S: Socket> Connections<S> {
         ensures not_free { IsErrOf result fault.NotFree → IsFree (places_of self.old) place → ⊥ }
         ensures too_many { IsErrOf result fault.TooMany → last_of self.old ≡ 4294967295 }
         ensures kept { OnErr result (self.new ≡ self.old) }
-        ensures stand { (es : List SharedEvent) (first now : State) → IsFreshSocket (S.heard socket)
-            → StandTogether S.heard es first now (last_of self.old) (places_of self.old)
-            → StandTogether S.heard es first now (last_of self.new) (places_of self.new) }
+        ensures stand { (es : List SharedEvent) (first now : State) → IsFreshSocket (S.seen socket)
+            → StandTogether S.seen es first now (last_of self.old) (places_of self.old)
+            → StandTogether S.seen es first now (last_of self.new) (places_of self.new) }
     {
         if !self.is_free(place) {
             return Err(OpenFault::NotFree);
@@ -127,10 +125,11 @@ impl<S: Socket> Connections<S> {
 
     /// Passes on what the system reports about the socket at a place.
     pub fn wake(&mut self, place: usize, readiness: Readiness)
+        ensures woke { WokeAt S.seen readiness place (places_of self.old) (places_of self.new) }
         ensures last { last_of self.new ≡ last_of self.old }
         ensures stand { (es : List SharedEvent) (first now : State)
-            → StandTogether S.heard es first now (last_of self.old) (places_of self.old)
-            → StandTogether S.heard es first now (last_of self.new) (places_of self.new) }
+            → StandTogether S.seen es first now (last_of self.old) (places_of self.old)
+            → StandTogether S.seen es first now (last_of self.new) (places_of self.new) }
     {
         if place < self.places.len()
             && let Some(conversation) = &mut self.places[place]
@@ -141,20 +140,19 @@ impl<S: Socket> Connections<S> {
 
     /// Whether a turn would do anything at some place.
     pub fn is_ready(&self) -> bool
-        ensures { result ≡ list_any (is_place_ready S.readable S.writable) (places_of self.now) }
+        ensures { result ≡ list_any (is_place_ready S.seen) (places_of self.now) }
     {
         self.places.iter().any(|place| is_place_ready(place))
     }
 
     /// Gives the connection at each place one turn, in the order of places.
-    #[tactic(auto, using(crate::proofs::Acting::acted_none))]
     pub fn go_round<A: Application>(&mut self, services: &mut Services, application: &mut A)
         ensures last { last_of self.new ≡ last_of self.old }
-        ensures round { HadRound S.heard S.readable S.writable (places_of self.old) (places_of self.new) }
+        ensures round { HadRound S.seen (places_of self.old) (places_of self.new) }
         ensures stand { (es : List SharedEvent) (first : State)
-            → StandTogether S.heard es first services.old (last_of self.old) (places_of self.old)
-            → GoOn S.heard es first services.new (last_of self.new) (places_of self.new) }
-        ensures acted { HasActed A.acts application.old application.new }
+            → StandTogether S.seen es first services.old (last_of self.old) (places_of self.old)
+            → GoOn S.seen A.acts es first application.old (services.new, application.new)
+            (last_of self.new) (places_of self.new) }
     {
         for place in 0..self.places.len() {
             self.turn(place, services, application);
@@ -162,15 +160,14 @@ impl<S: Socket> Connections<S> {
     }
 
     /// Gives the connection at a place one turn.
-    #[tactic(auto, using(crate::proofs::Acting::acted_none))]
     fn turn<A: Application>(&mut self, place: usize, services: &mut Services, application: &mut A)
         requires { place < length (places_of self.old) }
         ensures last { last_of self.new ≡ last_of self.old }
-        ensures turn { TurnsAt S.heard S.readable S.writable place (places_of self.old) (places_of self.new) }
+        ensures turn { TurnsAt S.seen place (places_of self.old) (places_of self.new) }
         ensures stand { (es : List SharedEvent) (first : State)
-            → StandTogether S.heard es first services.old (last_of self.old) (places_of self.old)
-            → GoOn S.heard es first services.new (last_of self.new) (places_of self.new) }
-        ensures acted { HasActed A.acts application.old application.new }
+            → StandTogether S.seen es first services.old (last_of self.old) (places_of self.old)
+            → GoOn S.seen A.acts es first application.old (services.new, application.new)
+            (last_of self.new) (places_of self.new) }
     {
         if let Some(conversation) = &mut self.places[place] {
             conversation.turn(services, application);
@@ -197,8 +194,8 @@ impl<S: Socket> Connections<S> {
         ensures kept { IfNone result (self.new ≡ self.old) }
         ensures last { last_of self.new ≡ last_of self.old }
         ensures stand { (es : List SharedEvent) (first now : State)
-            → StandTogether S.heard es first now (last_of self.old) (places_of self.old)
-            → StandTogether S.heard es first now (last_of self.new) (places_of self.new) }
+            → StandTogether S.seen es first now (last_of self.old) (places_of self.old)
+            → StandTogether S.seen es first now (last_of self.new) (places_of self.new) }
     {
         if !self.is_over(place) {
             return None;
@@ -212,7 +209,7 @@ impl<S: Socket> Connections<S> {
 
 /// Whether a turn would do anything at a place.
 fn is_place_ready<S: Socket>(place: &Option<Conversation<S>>) -> bool
-    ensures { result ≡ is_place_ready S.readable S.writable place.now }
+    ensures { result ≡ is_place_ready S.seen place.now }
 {
     match place {
         Some(conversation) => conversation.is_ready(),

@@ -1,15 +1,13 @@
 //! The conversation of one client.
 
-ghost use Rattle.std.specs.Prelude.{◌≡◌, ◌≢◌, ◌⊎◌, ◌<◌, ◌≤◌, ◌↔◌, ℕ, Bool, true, false, is_some, List};
-ghost use Rattle.std.specs.Prelude.{[], length, drop, take, IfOk, IfSome, OnOk, IsTrue, Some, None};
+ghost use Rattle.std.specs.Prelude.{◌≡◌, ◌<◌, ◌≤◌, true, List, [], length, drop, IfOk, None};
 ghost use Rattle.ua_server.specs.Sharing.{SharedEvent, opened, shared_over, told_by};
 ghost use Rattle.ua_server.specs.State.{State};
-ghost use Rattle.ua_server.specs.declared.step.End.TheVariants.{NoClose, Cut};
-ghost use Rattle.ua_concurrent.specs.Acts.{HasActed};
-ghost use Rattle.ua_concurrent.specs.Standing.{IsFreshSocket, TalkStands, Went, own_id};
-ghost use Rattle.ua_concurrent.specs.Talk.{Talk, is_going, is_ready, released};
+ghost use Rattle.ua_concurrent.specs.Acts.{own_id};
+ghost use Rattle.ua_concurrent.specs.Standing.{IsFreshSocket, TalkStands, Went};
+ghost use Rattle.ua_concurrent.specs.Talk.{is_ready, released};
 ghost use Rattle.ua_concurrent.specs.Turning.{SteppedAndWrote, FinishesTalk, HadTurn, Turned, IsTalkIdle};
-ghost use Rattle.ua_concurrent.specs.Turning.{KeepsStep, ReadsSocket, Stepped, WritesSocket, most_read};
+ghost use Rattle.ua_concurrent.specs.Turning.{KeepsStep, ReadsSocket, Stepped, WokeTalk, WritesSocket};
 ghost use Rattle.ua_concurrent.specs.declared.outcome.Phase.TheVariants as phase;
 
 use crate::application::Application;
@@ -77,8 +75,8 @@ impl<S: Socket> Conversation<S> {
         ensures number { IfOk result (λ t. t.number ≡ number) }
         ensures begins { IfOk result (λ t. (t.socket ≡ socket) × (t.outcome ≡ None) × IsTalkIdle t) }
         ensures stands { (es : List SharedEvent) (first now : State) → told_by number es ≡ []
-            → (shared_over own_id (opened first) es).state ≡ now → IsFreshSocket (S.heard socket)
-            → IfOk result (λ t. TalkStands S.heard es first now t) }
+            → (shared_over own_id (opened first) es).state ≡ now → IsFreshSocket (S.seen socket)
+            → IfOk result (λ t. TalkStands S.seen es first now t) }
     {
         let piece = Vec::from_elem(alloc, 0u8, PIECE)?;
         Ok(Conversation {
@@ -112,7 +110,7 @@ impl<S: Socket> Conversation<S> {
 
     /// Whether a turn would do anything.
     pub fn is_ready(&self) -> bool
-        ensures { result ≡ is_ready S.readable S.writable self.now }
+        ensures { result ≡ is_ready S.seen self.now }
     {
         if self.outcome.is_some() {
             false
@@ -134,8 +132,7 @@ impl<S: Socket> Conversation<S> {
 
     /// Passes on what the system reports about the socket.
     pub fn wake(&mut self, readiness: Readiness)
-        ensures same { self.new ≡ record self.old { socket = self.new.socket } }
-        ensures heard { S.heard self.new.socket ≡ S.heard self.old.socket }
+        ensures { WokeTalk S.seen readiness self.old self.new }
     {
         self.socket.wake(readiness);
     }
@@ -162,13 +159,12 @@ impl<S: Socket> Conversation<S> {
 
     /// One turn: writes what waits. Where nothing waits, it reads, unless bytes are still to be
     /// stepped, steps them, and writes the answers. While an answer waits, nothing is read.
-    #[tactic(auto, using(crate::proofs::Acting::acted_none))]
     pub fn turn<A: Application>(&mut self, services: &mut Services, application: &mut A)
-        ensures turn { HadTurn S.heard S.readable S.writable self.old self.new }
+        ensures turn { HadTurn S.seen self.old self.new }
         ensures went { (es : List SharedEvent) (first : State) → (shared_over own_id (opened first) es).state
-            ≡ services.old → TalkStands S.heard es first services.old self.old
-            → Went S.heard es first services.old services.new self.new }
-        ensures acted { HasActed A.acts application.old application.new }
+            ≡ services.old → (stood : TalkStands S.seen es first services.old self.old)
+            → Went S.seen A.acts es first (services.old, application.old) (services.new, application.new)
+            stood.octets self.new }
     {
         if !self.is_ready() {
             return;
@@ -190,11 +186,11 @@ impl<S: Socket> Conversation<S> {
         requires going { self.old.phase ≡ phase.Going }
         requires still { self.old.outcome ≡ None }
         requires none { self.old.waiting ≡ [] }
-        ensures turned { Turned S.heard S.readable S.writable self.old self.new }
+        ensures turned { Turned S.seen self.old self.new }
         ensures went { (es : List SharedEvent) (first : State) → (shared_over own_id (opened first) es).state
-            ≡ services.old → TalkStands S.heard es first services.old self.old
-            → Went S.heard es first services.old services.new self.new }
-        ensures acted { HasActed A.acts application.old application.new }
+            ≡ services.old → (stood : TalkStands S.seen es first services.old self.old)
+            → Went S.seen A.acts es first (services.old, application.old) (services.new, application.new)
+            stood.octets self.new }
     {
         if self.unread().is_empty() {
             self.read_and_answer(services, application);
@@ -204,16 +200,15 @@ impl<S: Socket> Conversation<S> {
     }
 
     /// Reads, steps what was read, and writes the answers.
-    #[tactic(auto, using(crate::proofs::Acting::acted_none))]
     fn read_and_answer<A: Application>(&mut self, services: &mut Services, application: &mut A)
         requires going { self.old.phase ≡ phase.Going }
         requires still { self.old.outcome ≡ None }
         requires none { (self.old.unread ≡ []) × (self.old.waiting ≡ []) }
-        ensures turned { Turned S.heard S.readable S.writable self.old self.new }
+        ensures turned { Turned S.seen self.old self.new }
         ensures went { (es : List SharedEvent) (first : State) → (shared_over own_id (opened first) es).state
-            ≡ services.old → TalkStands S.heard es first services.old self.old
-            → Went S.heard es first services.old services.new self.new }
-        ensures acted { HasActed A.acts application.old application.new }
+            ≡ services.old → (stood : TalkStands S.seen es first services.old self.old)
+            → Went S.seen A.acts es first (services.old, application.old) (services.new, application.new)
+            stood.octets self.new }
     {
         self.read_on();
         if !self.unread().is_empty() {
@@ -226,10 +221,11 @@ impl<S: Socket> Conversation<S> {
         requires going { self.old.phase ≡ phase.Going }
         requires still { self.old.outcome ≡ None }
         requires some { 0 < length self.old.unread }
-        ensures answered { SteppedAndWrote S.heard self.old self.new }
-        ensures went { (es : List SharedEvent) (first : State) → TalkStands S.heard es first services.old self.old
-            → Went S.heard es first services.old services.new self.new }
-        ensures acted { HasActed A.acts application.old application.new }
+        ensures answered { SteppedAndWrote S.seen self.old self.new }
+        ensures went { (es : List SharedEvent) (first : State)
+            → (stood : TalkStands S.seen es first services.old self.old)
+            → Went S.seen A.acts es first (services.old, application.old) (services.new, application.new)
+            stood.octets self.new }
     {
         self.step_on(services, application);
         if !self.waiting().is_empty() {
@@ -240,7 +236,7 @@ impl<S: Socket> Conversation<S> {
     /// Writes what waits, as far as the socket takes it at once.
     fn write_on(&mut self)
         requires some { 0 < length self.old.waiting }
-        ensures writes { WritesSocket S.heard S.writable self.old self.new }
+        ensures writes { WritesSocket S.seen self.old self.new }
     {
         match self.socket.write(&self.out[self.sent..]) {
             Ok(count) => self.wrote(count),
@@ -264,7 +260,7 @@ impl<S: Socket> Conversation<S> {
     /// Reads a fragment, where all bytes before it are stepped.
     fn read_on(&mut self)
         requires { self.old.unread ≡ [] }
-        ensures reads { ReadsSocket S.heard S.readable self.old self.new }
+        ensures reads { ReadsSocket S.seen self.old self.new }
     {
         self.filled = 0;
         self.stepped = 0;
@@ -299,9 +295,10 @@ impl<S: Socket> Conversation<S> {
         requires going { self.old.phase ≡ phase.Going }
         requires some { 0 < length self.old.unread }
         ensures stepped { Stepped self.old self.new }
-        ensures went { (es : List SharedEvent) (first : State) → TalkStands S.heard es first services.old self.old
-            → Went S.heard es first services.old services.new self.new }
-        ensures acted { HasActed A.acts application.old application.new }
+        ensures went { (es : List SharedEvent) (first : State)
+            → (stood : TalkStands S.seen es first services.old self.old)
+            → Went S.seen A.acts es first (services.old, application.old) (services.new, application.new)
+            stood.octets self.new }
     {
         self.step(services, application);
         for _ in 0..PIECE {
@@ -317,9 +314,10 @@ impl<S: Socket> Conversation<S> {
         requires going { self.old.phase ≡ phase.Going }
         requires some { 0 < length self.old.unread }
         ensures stepped { Stepped self.old self.new }
-        ensures went { (es : List SharedEvent) (first : State) → TalkStands S.heard es first services.old self.old
-            → Went S.heard es first services.old services.new self.new }
-        ensures acted { HasActed A.acts application.old application.new }
+        ensures went { (es : List SharedEvent) (first : State)
+            → (stood : TalkStands S.seen es first services.old self.old)
+            → Went S.seen A.acts es first (services.old, application.old) (services.new, application.new)
+            stood.octets self.new }
     {
         events_are_answered_in_parts();
         one_of_several_connections_stands_by_itself();

@@ -1,2 +1,2 @@
-mod Rounds
 mod Telling
+pub mod Flattened

@@ -1,2 +1,3 @@
 pub mod News
+pub mod Serving
 pub mod Rounds

@@ -1,13 +1,10 @@
 -- What is told of the connections of a server.
 use Rattle.std.specs.Prelude.{◌≡◌, ◌≤◌, ℕ, suc, List, [], ◌∷◌, Result, Ok, Err}
 use Rattle.ua_concurrent.specs.Acts.{Act}
-use Rattle.ua_concurrent.specs.Standing.{own_id}
 use Rattle.ua_concurrent.specs.declared.outcome.Failure.{Failure}
 use Rattle.ua_poll.specs.declared.endings.NotTaken.{NotTaken}
 use Rattle.ua_poll.specs.declared.serving.PollFault.{PollFault}
 use Rattle.ua_server.specs.Happening.{Leads}
-use Rattle.ua_server.specs.Sharing.{SharedEvent, opened, shared_over}
-use Rattle.ua_server.specs.State.{State}
 use Rattle.ua_server.specs.declared.step.End.{End}
 
 -- a connection resulted in this, a peer that came is not served, or the application acted
@@ -41,9 +38,3 @@ pub record WasToldOf {E : Type 0} (notes : E → News → E → Type 0) (count :
 abbrev pub TellsOfAll : {T E : Type 0} → (E → News → E → Type 0) → ℕ → Result T PollFault → E → E → Type 0
 TellsOfAll notes total (Ok value) before after = WasToldOf notes total before after
 TellsOfAll notes total (Err fault) before after = (count : ℕ) × (count ≤ total) × WasToldOf notes count before after
-
--- the state is left as by one server that handles every message in the order of completion, and
--- every change by the application between them
-pub record LeavesAsOne (before after : State) : Type 0 where
-  pub events : List SharedEvent
-  pub state_is : (shared_over own_id (opened before) events).state ≡ after

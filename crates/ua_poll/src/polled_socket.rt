@@ -1,12 +1,16 @@
 //! Nonblocking sockets.
 
+ghost use Rattle.std.specs.Prelude.{◌≡◌};
+ghost use Rattle.ua_channel.specs.Line.{one_more};
+ghost use Rattle.ua_concurrent.specs.declared.socket.Stop.TheVariants.{Failed};
+
 use mio::net::TcpStream;
 use std::io::{ErrorKind, Read, Write};
 use ua_concurrent::{Readiness, Socket, Stop};
 
 /// A socket with what the system reported about it. The system reports only once that bytes came,
-/// or that there is buffer space, so that is kept until a call finds no more. Its `heard`
-/// is `None`: its contract has nothing on its bytes.
+/// or that there is buffer space, so that is kept until a call finds no more. It does not tell its
+/// bytes.
 #[derive(Debug, Drop)]
 pub struct PolledSocket {
     stream: TcpStream,
@@ -15,6 +19,10 @@ pub struct PolledSocket {
     /// The peer sends no more, or the socket failed: reading is worthwhile until a read reports so
     /// itself.
     ended: bool,
+    /// A read found the end.
+    at_end: bool,
+    /// The number of calls that failed so far; after the greatest number it restarts at 0.
+    failures: u64,
 }
 
 impl PolledSocket {
@@ -25,7 +33,18 @@ impl PolledSocket {
             readable: true,
             writable: true,
             ended: false,
+            at_end: false,
+            failures: 0,
         }
+    }
+
+    /// Counts a call that failed.
+    fn fail(&mut self) -> Stop
+        ensures stop { result ≡ Failed }
+        ensures counted { self.new ≡ record self.old { failures = one_more self.old.failures } }
+    {
+        self.failures = self.failures.checked_add(1).unwrap_or(0);
+        Stop::Failed
     }
 
     /// The stream.
@@ -36,13 +55,9 @@ impl PolledSocket {
 }
 
 impl Socket for PolledSocket {
-    ghost use Rattle.std.specs.Prelude.{None};
+    ghost use Rattle.ua_poll.specs.Rounds.{seen_of};
 
-    ghost heard = { λ s. None };
-
-    ghost readable = { λ s. s.readable };
-
-    ghost writable = { λ s. s.writable };
+    ghost seen = { seen_of };
 
     fn is_readable(&self) -> bool {
         self.readable
@@ -66,26 +81,27 @@ impl Socket for PolledSocket {
                 if count < room && !self.ended {
                     self.readable = false;
                 }
+                self.at_end |= count == 0 && room > 0;
                 Ok(count)
             }
             Err(error) if error.kind() == ErrorKind::WouldBlock => {
                 self.readable = false;
                 Err(Stop::Blocked)
             }
-            Err(_) => Err(Stop::Failed),
+            Err(_) => Err(self.fail()),
         }
     }
 
     fn write(&mut self, octets: &[u8]) -> Result<usize, Stop> {
         match self.stream.write(octets) {
             // No byte was taken, and a further call need not take one.
-            Ok(0) if !octets.is_empty() => Err(Stop::Failed),
+            Ok(0) if !octets.is_empty() => Err(self.fail()),
             Ok(count) => Ok(count),
             Err(error) if error.kind() == ErrorKind::WouldBlock => {
                 self.writable = false;
                 Err(Stop::Blocked)
             }
-            Err(_) => Err(Stop::Failed),
+            Err(_) => Err(self.fail()),
         }
     }
 }

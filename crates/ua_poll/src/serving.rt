@@ -2,9 +2,10 @@
 
 ghost use Rattle.std.specs.Prelude.{◌≡◌, ◌≤◌, ◌<◌, ◌+◌, List, IfOk};
 ghost use Rattle.ua_concurrent.specs.All.{last_of, places_of};
-ghost use Rattle.ua_concurrent.specs.Standing.{GoOn, StandTogether};
-ghost use Rattle.ua_poll.specs.News.{LeavesAsOne, Missed, Over, TellsOfAll, notes_of};
-ghost use Rattle.ua_poll.specs.Rounds.{Tells, silent};
+ghost use Rattle.ua_concurrent.specs.Standing.{StandTogether};
+ghost use Rattle.ua_poll.specs.News.{Missed, Over};
+ghost use Rattle.ua_poll.specs.Rounds.{Goes, Tells, seen_of};
+ghost use Rattle.ua_poll.specs.Serving.{ServesAtOnce};
 ghost use Rattle.ua_server.specs.Sharing.{SharedEvent};
 ghost use Rattle.ua_server.specs.State.{State};
 
@@ -88,8 +89,7 @@ pub fn serve_at_once<R: Net + Clock, E: Endings + Application>(
     services: &mut Services,
     endings: &mut E,
 ) -> Result<(), PollFault>
-    ensures told { TellsOfAll (notes_of E.notes E.acts) asked.total result endings.old endings.new }
-    ensures left { LeavesAsOne services.old services.new }
+    ensures { ServesAtOnce E.notes E.acts asked.total result (services.old, endings.old) (services.new, endings.new) }
 {
     let mut connections = match Connections::new(alloc, asked.limits, asked.places) {
         Ok(connections) => connections,
@@ -153,10 +153,10 @@ impl Watched {
         endings: &mut E,
     ) -> Result<(), PollFault>
         requires { self.old.over ≤ self.old.total }
-        ensures stand { (es : List SharedEvent) (first : State)
-            → StandTogether silent es first services.old (last_of connections.old) (places_of connections.old)
-            → GoOn silent es first services.new (last_of connections.new) (places_of connections.new) }
-        ensures told { Tells (notes_of E.notes E.acts) self.old.over self.new.over endings.old endings.new }
+        ensures goes { (es : List SharedEvent) (first : State)
+            → StandTogether seen_of es first services.old (last_of connections.old) (places_of connections.old)
+            → Goes E.notes E.acts es first self.old.over self.new.over endings.old (services.new, endings.new)
+            (last_of connections.new) (places_of connections.new) }
         ensures within { self.new.over ≤ self.new.total }
         ensures total { self.new.total ≡ self.old.total }
     {
@@ -187,9 +187,9 @@ impl Watched {
         endings: &mut E,
     ) -> bool
         ensures stand { (es : List SharedEvent) (first now : State)
-            → StandTogether silent es first now (last_of connections.old) (places_of connections.old)
-            → StandTogether silent es first now (last_of connections.new) (places_of connections.new) }
-        ensures told { Tells (notes_of E.notes E.acts) self.old.over self.new.over endings.old endings.new }
+            → StandTogether seen_of es first now (last_of connections.old) (places_of connections.old)
+            → StandTogether seen_of es first now (last_of connections.new) (places_of connections.new) }
+        ensures told { Tells E.notes E.acts self.old.over self.new.over endings.old endings.new }
         ensures same { (self.new.over ≡ self.old.over) × (self.new.total ≡ self.old.total) }
     {
         self.door.lift(clock);
@@ -214,9 +214,9 @@ impl Watched {
         endings: &mut E,
     ) -> bool
         ensures stand { (es : List SharedEvent) (first now : State)
-            → StandTogether silent es first now (last_of connections.old) (places_of connections.old)
-            → StandTogether silent es first now (last_of connections.new) (places_of connections.new) }
-        ensures told { Tells (notes_of E.notes E.acts) self.old.over self.new.over endings.old endings.new }
+            → StandTogether seen_of es first now (last_of connections.old) (places_of connections.old)
+            → StandTogether seen_of es first now (last_of connections.new) (places_of connections.new) }
+        ensures told { Tells E.notes E.acts self.old.over self.new.over endings.old endings.new }
         ensures same { (self.new.over ≡ self.old.over) × (self.new.total ≡ self.old.total) }
     {
         match self.take(connections, place) {
@@ -255,8 +255,8 @@ impl Watched {
         place: usize,
     ) -> Result<(), NotTaken>
         ensures stand { (es : List SharedEvent) (first now : State)
-            → StandTogether silent es first now (last_of connections.old) (places_of connections.old)
-            → StandTogether silent es first now (last_of connections.new) (places_of connections.new) }
+            → StandTogether seen_of es first now (last_of connections.old) (places_of connections.old)
+            → StandTogether seen_of es first now (last_of connections.new) (places_of connections.new) }
         ensures same { (self.new.over ≡ self.old.over) × (self.new.total ≡ self.old.total) }
     {
         match self.listener.accept() {
@@ -277,8 +277,8 @@ impl Watched {
         mut stream: TcpStream,
     ) -> Result<(), NotTaken>
         ensures stand { (es : List SharedEvent) (first now : State)
-            → StandTogether silent es first now (last_of connections.old) (places_of connections.old)
-            → StandTogether silent es first now (last_of connections.new) (places_of connections.new) }
+            → StandTogether seen_of es first now (last_of connections.old) (places_of connections.old)
+            → StandTogether seen_of es first now (last_of connections.new) (places_of connections.new) }
     {
         let both = Interest::READABLE | Interest::WRITABLE;
         let registry = self.poll.registry();
@@ -314,8 +314,8 @@ impl Watched {
         events: &mut Events<Global>,
     ) -> Result<(), PollFault>
         ensures stand { (es : List SharedEvent) (first now : State)
-            → StandTogether silent es first now (last_of connections.old) (places_of connections.old)
-            → StandTogether silent es first now (last_of connections.new) (places_of connections.new) }
+            → StandTogether seen_of es first now (last_of connections.old) (places_of connections.old)
+            → StandTogether seen_of es first now (last_of connections.new) (places_of connections.new) }
         ensures same { (self.new.over ≡ self.old.over) × (self.new.total ≡ self.old.total) }
     {
         let patience = self.patience(clock, connections);
@@ -333,8 +333,8 @@ impl Watched {
     /// Passes on to a socket what the system reports about it.
     fn tell(&mut self, connections: &mut Connections<PolledSocket>, event: &Event)
         ensures stand { (es : List SharedEvent) (first now : State)
-            → StandTogether silent es first now (last_of connections.old) (places_of connections.old)
-            → StandTogether silent es first now (last_of connections.new) (places_of connections.new) }
+            → StandTogether seen_of es first now (last_of connections.old) (places_of connections.old)
+            → StandTogether seen_of es first now (last_of connections.new) (places_of connections.new) }
         ensures same { (self.new.over ≡ self.old.over) × (self.new.total ≡ self.old.total) }
     {
         let token = event.token().0;
@@ -357,9 +357,9 @@ impl Watched {
     ) -> bool
         requires { self.old.over ≤ self.old.total }
         ensures stand { (es : List SharedEvent) (first now : State)
-            → StandTogether silent es first now (last_of connections.old) (places_of connections.old)
-            → StandTogether silent es first now (last_of connections.new) (places_of connections.new) }
-        ensures told { Tells (notes_of E.notes E.acts) self.old.over self.new.over endings.old endings.new }
+            → StandTogether seen_of es first now (last_of connections.old) (places_of connections.old)
+            → StandTogether seen_of es first now (last_of connections.new) (places_of connections.new) }
+        ensures told { Tells E.notes E.acts self.old.over self.new.over endings.old endings.new }
         ensures within { self.new.over ≤ self.new.total }
         ensures total { self.new.total ≡ self.old.total }
     {
@@ -384,9 +384,9 @@ impl Watched {
     ) -> bool
         requires { self.old.over < self.old.total }
         ensures stand { (es : List SharedEvent) (first now : State)
-            → StandTogether silent es first now (last_of connections.old) (places_of connections.old)
-            → StandTogether silent es first now (last_of connections.new) (places_of connections.new) }
-        ensures told { Tells (notes_of E.notes E.acts) self.old.over self.new.over endings.old endings.new }
+            → StandTogether seen_of es first now (last_of connections.old) (places_of connections.old)
+            → StandTogether seen_of es first now (last_of connections.new) (places_of connections.new) }
+        ensures told { Tells E.notes E.acts self.old.over self.new.over endings.old endings.new }
         ensures within { self.new.over ≤ self.new.total }
         ensures total { self.new.total ≡ self.old.total }
     {

@@ -155,7 +155,7 @@ module _ {R O E : Type 0} (contents : O → Option (List ℕ)) where
       by (Over number outcome) kept = kept
       by (Missed why) kept = kept
       by (Acts (Acted before after moment)) kept = kept
-      by (Acts (Told number items)) kept = kept
+      by (Acts (Told number step items)) kept = kept
 
   -- what comes with the same terms
   comes_same : (h : Option Halt) (p mid : Host R O E) (count : ℕ) (new : Option (List ℕ)) → mid.goes_on ≡ p.goes_on → mid.writes ≡ p.writes
@@ -232,9 +232,9 @@ module _ {R O E : Type 0} (contents : O → Option (List ℕ)) where
       let printed = subst (λ x. PrintsBy (Acts (Acted before after moment)) p.writes p.goes_on x mid.halt (contents p.out.now) (contents mid.out.now)) is
       led.1.printed in
       missed mid.halt p mid q (count_over news) news refl led.1.same.1 led.1.same.2 printed.1 led.2 (λ none. comes mid q news none led.2)
-  comes p q (Acts (Told number items) ∷ news) is led =
+  comes p q (Acts (Told number step items) ∷ news) is led =
       let mid = led.0 in
-      let printed = subst (λ x. PrintsBy (Acts (Told number items)) p.writes p.goes_on x mid.halt (contents p.out.now) (contents mid.out.now)) is led.1.printed
+      let printed = subst (λ x. PrintsBy (Acts (Told number step items)) p.writes p.goes_on x mid.halt (contents p.out.now) (contents mid.out.now)) is led.1.printed
       in
       behind_stored mid.halt p.writes p mid q items (count_over news) news refl refl led.1.same.1 led.1.same.2 printed led.2
       (λ none. comes mid q news none led.2)

@@ -129,7 +129,7 @@ abbrev pub PrintsBy : News → Option Bool → Bool → Option Halt → Option H
 PrintsBy (Over number outcome) writes goes_on None after old new = SaysEnd goes_on number (outcome_of outcome) after old new
 PrintsBy (Missed why) writes goes_on None after old new = (after ≡ halt_unless goes_on why) × (new ≡ old)
 PrintsBy (Acts (Acted before now moment)) writes goes_on None after old new = (after ≡ None) × (new ≡ old)
-PrintsBy (Acts (Told number items)) writes goes_on None after old new = SaysStored writes goes_on items after old new
+PrintsBy (Acts (Told number step items)) writes goes_on None after old new = SaysStored writes goes_on items after old new
 PrintsBy news writes goes_on (Some halt) after old new = (after ≡ Some halt) × (new ≡ old)
 
 -- the lines went on by these news, over the same writers; faults are told only aloud
@@ -154,7 +154,7 @@ pub record SetsNodes {R O E : Type 0} (old : Host R O E) (before after : State) 
 -- what the program does beside connections
 abbrev pub DoesBeside : {R O E : Type 0} → Host R O E → Act → Host R O E → Type 0
 DoesBeside old (Acted before after moment) new = SetsNodes old before after moment new
-DoesBeside old (Told number items) new = new.live ≡ old.live
+DoesBeside old (Told number step items) new = new.live ≡ old.live
 
 -- it does this, and its lines go on
 pub record ActsBeside {R O E : Type 0} (contents : O → Option (List ℕ)) (old : Host R O E) (act : Act) (new : Host R O E) : Type 0 where

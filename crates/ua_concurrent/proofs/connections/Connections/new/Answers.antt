@@ -10,5 +10,5 @@ returns-clause-free g c = c.places.invariant ∙ ap (λ (n : ℕ). replicate n N
 
 pub returns-clause-stand : goal.returns-clause-stand
 returns-clause-stand g c = λ first.
-    subst (λ (all : List (Option (Talk _))). StandTogether g.S.Socket.heard [] first first 0 all) (sym c.places.invariant)
-    (together_none g.S.Socket.heard first c.places.counter)
+    subst (λ (all : List (Option (Talk _))). StandTogether g.S.Socket.seen [] first first 0 all) (sym c.places.invariant)
+    (together_none g.S.Socket.seen first c.places.counter)

@@ -23,7 +23,7 @@ returns-in-Ok-clause-stand g c = λ es first now fresh s.
     let free : IsFree places c.args.place = c.is_free.ensures.0 c.if-not-is_free.false in
     let more : c.in-Some.number ≡ last + 1 = c.in-Some.ensures.1 in
     let told = s.unheard c.in-Some.number (omega (arith, more)) in
-    subst (λ (n : ℕ). StandTogether g.S.Socket.heard es first now n (slice_set places c.args.place (Some c.in-Ok.conversation))) (sym more)
-    (together_opened g.S.Socket.heard es first now last c.args.place c.in-Ok.conversation places (get_within places c.args.place None free)
+    subst (λ (n : ℕ). StandTogether g.S.Socket.seen es first now n (slice_set places c.args.place (Some c.in-Ok.conversation))) (sym more)
+    (together_opened g.S.Socket.seen es first now last c.args.place c.in-Ok.conversation places (get_within places c.args.place None free)
     (c.in-Ok.ensures.number ∙ more)
     (c.in-Ok.ensures.stands es first now told s.state_is fresh) s)

@@ -35,6 +35,6 @@ returns-in-Some-clause-kept g c =
 
 pub returns-in-Some-clause-stand : goal.returns-in-Some-clause-stand
 returns-in-Some-clause-stand g c = λ es first now s.
-    subst (λ (gone : Option (Talk _)). StandTogether g.S.Socket.heard es first now c.args.self.now.opened
+    subst (λ (gone : Option (Talk _)). StandTogether g.S.Socket.seen es first now c.args.self.now.opened
     (slice_set c.args.self.now.places.items c.args.place gone)) (sym c.replace.ensures.after)
-    (together_freed g.S.Socket.heard es first now c.args.self.now.opened c.args.place c.args.self.now.places.items s)
+    (together_freed g.S.Socket.seen es first now c.args.self.now.opened c.args.place c.args.self.now.places.items s)

@@ -1,6 +1,6 @@
 use Rattle.std.proofs.Common.{refl, sym, ◌∙◌, []}
 use Rattle.ua_concurrent.proofs.Stepping.{sent_none}
-use Rattle.ua_concurrent.specs.Standing.{own_id}
+use Rattle.ua_concurrent.specs.Acts.{own_id}
 use Rattle.ua_server.specs.Sharing.{opened}
 use Rattle.ua_concurrent.proofs.conversation.Conversation.new.Goals as goal
 

@@ -1,15 +1,14 @@
 use Rattle.std.proofs.Common.{◌≡◌, List}
 use Rattle.ua_concurrent.specs.Standing.{StandTogether}
-use Rattle.ua_poll.specs.News.{notes_of}
-use Rattle.ua_poll.specs.Rounds.{Tells, silent}
+use Rattle.ua_poll.specs.Rounds.{Tells, seen_of}
 use Rattle.ua_server.specs.Sharing.{SharedEvent}
 use Rattle.ua_server.specs.State.{State}
 use Rattle.ua_poll.proofs.serving.Watched.take_in.Given as goal
 
 abbrev pub invariant-loop-peers : goal.invariant-loop-peers
 invariant-loop-peers g l = record {
-  stand : (es : List SharedEvent) (first now : State) → StandTogether silent es first now l.fn.connections.opened l.fn.connections.places.items
-      → StandTogether silent es first now l.connections.opened l.connections.places.items;
-  told : Tells (notes_of g.E.Endings.notes g.E.Application.acts) l.fn.self.over l.self.over l.fn.endings l.endings;
+  stand : (es : List SharedEvent) (first now : State) → StandTogether seen_of es first now l.fn.connections.opened l.fn.connections.places.items
+      → StandTogether seen_of es first now l.connections.opened l.connections.places.items;
+  told : Tells g.E.Endings.notes g.E.Application.acts l.fn.self.over l.self.over l.fn.endings l.endings;
   same : (l.self.over ≡ l.fn.self.over) × (l.self.total ≡ l.fn.self.total);
 }
