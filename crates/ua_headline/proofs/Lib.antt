@@ -20,3 +20,12 @@ mod SessionCalls
 mod AsAnswered
 mod SessionMade
 mod Questions
+mod Brought
+mod Singly
+mod TellsAll
+mod Pipelining
+mod ShortTold
+mod Larger
+mod ShortHeard
+mod Histories
+mod Declines

@@ -8,3 +8,4 @@ pub mod AsAnswered
 pub mod Questions
 pub mod Example
 pub mod Records
+pub mod Headline

@@ -11,5 +11,6 @@ pub mod laws;
 pub mod question_laws;
 mod records;
 pub mod reply_laws;
+pub mod short_law;
 
 pub use records::is_honest;
