@@ -7,7 +7,8 @@ end with status 0 and a last line `N passed, 0 failed`. What tools/install.py ma
 
   ua-VERSION-linux-x86_64.tar.gz     the installed tree, as a folder ua-VERSION
   RECORD                             its record; the gate's last line; what is trusted and not proved
-  SHA256SUMS                         of these two
+  DEFINITIONS.md                     the definitions that contracts of public calls name
+  SHA256SUMS                         of these three
 
 With --program FILE --library FILE it is a trial over these files, as tools/install.py takes them, and the record says so.
 Two runs of one commit on one machine give the same octets: names are sorted, times are the commit's, owners are 0.
@@ -28,6 +29,7 @@ sys.dont_write_bytecode = True
 HERE = os.path.dirname(os.path.abspath(__file__))
 sys.path.insert(0, HERE)
 import install
+import write_definitions
 from unproved import TOP, VERSION
 
 GATE = os.path.join(TOP, ".ci", "run")
@@ -141,7 +143,11 @@ def main(words: list[str]) -> int:
             file.write("\n".join(record) + "\n")
         name = f"ua-{words[0]}"
         moment = int(output("git", "log", "-1", "--format=%ct"))
-        put(to, {f"{name}-linux-x86_64.tar.gz": archive(root, name, moment), "RECORD": "\n".join(record + [""]).encode()})
+        put(to, {
+            f"{name}-linux-x86_64.tar.gz": archive(root, name, moment),
+            "RECORD": "\n".join(record + [""]).encode(),
+            "DEFINITIONS.md": write_definitions.definitions_page().encode(),
+        })
     return 0
 
 

@@ -1,7 +1,7 @@
 #!/usr/bin/env python3
-"""Writes docs/DEFINITIONS.md, and the copied parts of docs/THEOREMS.md: write_definitions [--check | --bare].
+"""Writes the copied parts of docs/THEOREMS.md, or a page of definitions: write_definitions [--check | --bare | --definitions FILE].
 
-docs/DEFINITIONS.md has each definition of specs/ that the contract of a public call of a library names: a row has its
+With --definitions the page goes into FILE, which a version has as DEFINITIONS.md. It has each definition of specs/ that the contract of a public call of a library names: a row has its
 name, its file and line, and the comment above it, or where it has none the comment above its block, or the one before.
 The crates stand from the lowest up; within one, a definition stands before what it is made of, as tools/trust.py has it.
 
@@ -10,8 +10,8 @@ docs/THEOREMS.md is written by hand but for what stands between a mark and the n
     <!-- contract ua_wire::Wire::read -->               the call with all its clauses, as its source has them
     <!-- rests ua_wire::Wire::read ua_wire::Wire::write -->   the definitions that their clauses name, and how many those rest on
 
-With --check nothing is written: the status is 1 where a page is not what the sources give, and each such page is named.
-With --bare it prints the definitions of docs/DEFINITIONS.md that no comment explains, and writes nothing.
+With --check nothing is written: the status is 1 where docs/THEOREMS.md is not what the sources give.
+With --bare it prints the definitions of that page that no comment explains, and writes nothing.
 """
 from __future__ import annotations
 
@@ -25,12 +25,12 @@ sys.dont_write_bytecode = True
 sys.path.insert(0, os.path.dirname(os.path.abspath(__file__)))
 from definitions import TOP, Unit, block_of, calls, code_of, docs, heads, in_order, place_of, rests_on, sources, text_of, unit
 
-DEFINITIONS, THEOREMS = "docs/DEFINITIONS.md", "docs/THEOREMS.md"
+THEOREMS = "docs/THEOREMS.md"
 MARK = re.compile(r"^<!-- (?P<kind>contract|rests) (?P<calls>[\w: ]+) -->\n(?P<body>.*?)^<!-- end -->\n", re.M | re.S)
 SAME = re.compile(r"the same(?=[,;:]| of\b| where\b| by\b| in\b|$)")
 HEAD = """# Definitions
 
-Each definition that the contract of a public call of a library names, with its file and line, in the words of the comment above it; [ARCHITECTURE.md](ARCHITECTURE.md#words) explains the words of names. The crates stand from the lowest up. Within a crate a definition stands before what it is made of. `tools/trust.py CALL` prints all definitions on which the contract of one call rests, also those that no contract names. [ENCODINGS.md](ENCODINGS.md) has the types, structures, messages and status codes as tables. `tools/write_definitions.py` writes this page.
+Each definition that the contract of a public call of a library names, with its file and line, in the words of the comment above it; docs/ARCHITECTURE.md explains the words of names. The crates stand from the lowest up. Within a crate a definition stands before what it is made of. `tools/trust.py CALL` prints all definitions on which the contract of one call rests, also those that no contract names. docs/ENCODINGS.md has the types, structures, messages and status codes as tables. Places are of the repository, from docs/. `tools/write_definitions.py --definitions FILE` writes this page.
 """
 
 
@@ -156,15 +156,18 @@ def main(words: list[str]) -> int:
     if "--bare" in words:
         print("".join(f"{os.path.relpath(it.path, TOP)}:{it.line}: {it.name}\n" for it in named_by_contracts() if not it.comment), end="")
         return 0
-    wrong = 0
-    for page, text in ((DEFINITIONS, definitions_page()), (THEOREMS, filled(docs.read(THEOREMS)))):
-        if "--check" not in words:
-            with open(os.path.join(TOP, page), "w", encoding="utf-8") as file:
-                file.write(text)
-        elif docs.read(page) != text:
-            print(f"{page} is not what the sources give: run tools/write_definitions.py")
-            wrong = 1
-    return wrong
+    if "--definitions" in words:
+        with open(words[words.index("--definitions") + 1], "w", encoding="utf-8") as file:
+            file.write(definitions_page())
+        return 0
+    text = filled(docs.read(THEOREMS))
+    if "--check" not in words:
+        with open(os.path.join(TOP, THEOREMS), "w", encoding="utf-8") as file:
+            file.write(text)
+    elif docs.read(THEOREMS) != text:
+        print(f"{THEOREMS} is not what the sources give: run tools/write_definitions.py")
+        return 1
+    return 0
 
 
 if __name__ == "__main__":

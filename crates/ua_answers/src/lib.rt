@@ -27,10 +27,9 @@ mod style;
 
 pub use answer::{push_endpoint_line, push_read_line, push_write_line};
 pub use fault::{AnswerFault, ScriptFault};
-pub use plain_answer::push_plain_read_line;
 pub use plain_lines::{exact_lines, exact_typed};
 pub use plain_read::parse_plain_value;
-pub use plain_reply::{push_plain_read_answers, push_read_answers_as};
+pub use plain_reply::push_read_answers_as;
 pub use reply::{has_bad_code, push_endpoints, push_read_answers, push_write_answers};
 pub use script::{ScriptLine, Step, parse_script};
 pub use style::{AnswerStyle, EndpointStyle, LineStyle};

@@ -35,7 +35,7 @@ use ua_variant::{DataValue, Elements, HeldVariant, Packed, Scalar, Scalars, Vari
 const MOST_EXACT: u64 = 9_007_199_254_740_992;
 
 /// Appends the result of a Read item.
-pub fn push_read_json(
+pub(crate) fn push_read_json(
     alloc: Global,
     out: &mut String,
     node: &NodeId,
@@ -54,7 +54,7 @@ pub fn push_read_json(
 }
 
 /// Appends the result of a Write item.
-pub fn push_write_json(
+pub(crate) fn push_write_json(
     alloc: Global,
     out: &mut String,
     node: &NodeId,
@@ -70,7 +70,7 @@ pub fn push_write_json(
 }
 
 /// Appends an endpoint.
-pub fn push_endpoint_json(
+pub(crate) fn push_endpoint_json(
     alloc: Global,
     out: &mut String,
     endpoint: &EndpointDescription,

@@ -16,7 +16,7 @@ use ua_variant::{DataValue, HeldVariant};
 /// Appends the result of a Read item as [`push_read_line`](crate::push_read_line) does, but the
 /// value as [`push_plain_variant`] does, and timestamps in RFC 3339. With JSON, a Float and a
 /// Double are numbers, or strings if JSON has no number for them.
-pub fn push_plain_read_line(
+pub(crate) fn push_plain_read_line(
     alloc: Global,
     out: &mut String,
     node: &NodeId,

@@ -34,7 +34,7 @@ use ua_variant::{
 };
 
 /// Appends the result of a Read item.
-pub fn push_plain_json(
+pub(crate) fn push_plain_json(
     alloc: Global,
     out: &mut String,
     node: &NodeId,

@@ -17,7 +17,7 @@ use ua_variant::DataValue;
 
 /// Appends the lines of the results of a Read of these nodes, in their order, in this style: each
 /// as [`push_plain_read_line`] appends it.
-pub fn push_plain_read_answers(
+pub(crate) fn push_plain_read_answers(
     alloc: Global,
     out: &mut String,
     nodes: &[NodeId],

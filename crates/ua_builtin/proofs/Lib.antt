@@ -7,5 +7,4 @@ pub mod LocalizedTextLawful
 pub mod ExpandedNodeIdLawful
 pub mod ExtensionObjectLawful
 pub mod Texts
-pub mod NamesOnce
 mod NullObject

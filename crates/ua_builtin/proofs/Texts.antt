@@ -6,14 +6,12 @@ use Rattle.std.proofs.lemmas.Bool.{eqb-true}
 use Rattle.std.proofs.lemmas.Str.Pattern.{IsSplitOnceResult, split_after, split_parts}
 use Rattle.uuid.specs.Text.{hyphenated_text, lower, parsed}
 use Rattle.uuid.proofs.TextLemmas.{by_index_length}
-use Rattle.base64.specs.Engines.{standard}
-use Rattle.base64.specs.GeneralPurpose.{encode_of, IsBytes}
 use Rattle.std.specs.Prelude.{codes}
 use Rattle.std.specs.Fmt.{decimal}
 use Rattle.std.proofs.lemmas.Str.Parse.{digit_at}
 use Rattle.std.proofs.lemmas.Fmt.{decimal_is_IsNumeral}
 use Rattle.ua_wire.proofs.Readers.{some_is}
-use Rattle.ua_builtin.specs.NodeText.{list_of, semicolon, namespace_text, identifier_text, node_text, IsDecimal, IsGuidText, NamesIdentifier}
+use Rattle.ua_builtin.specs.NodeText.{semicolon, namespace_text, identifier_text, node_text, IsDecimal, IsGuidText, NamesIdentifier}
 use Rattle.ua_builtin.specs.NodeText.{NamesNamespace, NamesNode, with_empty_identifier, filled_identifier, HasNoSemicolon, IsCutAtSemicolon, IsNodeTextRest}
 use Rattle.ua_builtin.specs.declared.guid.Guid.{Guid}
 use Rattle.ua_builtin.specs.declared.node_id.NodeId.{NodeId}
@@ -133,12 +131,6 @@ pub guid_names : (i : Identifier) (g : Guid) (shown : List ℕ) → i ≡ Global
 guid_names i g shown e is back =
     let named : NamesIdentifier (filled_identifier (Global g)) (identifier_text (Global g)) =
     (hyphenated_text lower g.uuid, refl, (by_index_length 36 _, ap parsed (sym is) ∙ sym back)) in
-    subst (λ (j : Identifier). NamesIdentifier (filled_identifier j) (identifier_text j)) (sym e) named
-
-pub opaque_names : (i : Identifier) (b : Option (List ℕ)) → i ≡ Opaque b → IsBytes (list_of b) → NamesIdentifier (filled_identifier i) (identifier_text i)
-opaque_names i b e bytes =
-    let named : NamesIdentifier (filled_identifier (Opaque b)) (identifier_text (Opaque b)) =
-    (encode_of standard (list_of b), list_of b, refl, (refl, bytes), refl) in
     subst (λ (j : Identifier). NamesIdentifier (filled_identifier j) (identifier_text j)) (sym e) named
 
 namespace_cases : (n : ℕ) (zero_is : Bool) → nat_eq n 0 ≡ zero_is → n < 2 ^ 16 → ((n ≡ 0) × (namespace_text n ≡ [])) ⊎ NamesNamespace n (namespace_text n)

@@ -1,21 +1,17 @@
 -- What a client sends when it is asked, and why it sends nothing.
-use Rattle.std.proofs.Common.{◌≡◌, ℕ, ◌+◌, ◌<◌, ◌↔◌, List, [], ◌∷◌, Bool, true, false, Option, Some, None, Result, Ok, Err, length, refl, sym, ◌∙◌, ap, subst}
+use Rattle.std.proofs.Common.{◌≡◌, ℕ, ◌+◌, ◌↔◌, List, [], ◌∷◌, Bool, true, false, Option, Some, None, Result, Ok, Err, length, refl, sym, ◌∙◌, ap}
 use Rattle.std.specs.Prelude.{is_none, is_some, MatchOption}
-use Rattle.std.specs.List.{AllByRecursion}
 use Rattle.ua_builtin.specs.Reasons.{first_reason}
 use Rattle.ua_builtin.specs.declared.date_time.DateTime.{DateTime}
 use Rattle.ua_frame.specs.declared.ack.Ack.{Ack}
 use Rattle.ua_frame.specs.declared.frame.Frame.{Frame}
 use Rattle.ua_frame.specs.declared.limits.Limits.{Limits}
-use Rattle.ua_frame.specs.Frames.{frame_octets}
-use Rattle.ua_chunk.specs.declared.chunk.Chunk.{Chunk}
 use Rattle.ua_opening.specs.declared.secure_channel.OpenResponse.{OpenResponse}
 use Rattle.ua_channel.specs.Asks.{Asking, Placed, asked_in, next_id, pending_calls, pending_renewals}
-use Rattle.ua_channel.specs.Client.{InPhase, IsCall, IsClosing, IsNotOpen, IsRenewal, ClientStands, ask_refusal}
+use Rattle.ua_channel.specs.Client.{InPhase, IsCall, IsNotOpen, IsRenewal, ClientStands, ask_refusal}
 use Rattle.ua_channel.specs.Client.{close_refusal, client_limits, phase_of, refusal_in, renew_refusal, talking_in}
-use Rattle.ua_channel.specs.ClientAsks.{Calls, IsCalled, IsCloseWith, IsRenewalWith, JudgesBy, AsksRenewal, Talks, ask_reasons, call_reasons, closing_octets}
+use Rattle.ua_channel.specs.ClientAsks.{Calls, IsCalled, IsRenewalWith, JudgesBy, AsksRenewal, Talks, ask_reasons, call_reasons}
 use Rattle.ua_channel.specs.ClientAsks.{closing_reasons, has_no_channel, is_too_large, reasons_of_call, reasons_of_renewal, renew_reasons, renewing_reasons}
-use Rattle.ua_channel.specs.ClientSends.{close_frame}
 use Rattle.ua_channel.specs.ClientTable.{of_ack}
 use Rattle.ua_channel.specs.ClientTokens.{first_channel, held_tokens, opened_ids, open_responses}
 use Rattle.ua_channel.specs.Received.{Received, has_some, listed, received}
@@ -74,18 +70,6 @@ module _ (limits : Limits) (before : Received) (asked : List Asking) where
       let o = open_sends p (λ (t : Talking). AsksRenewal t number moment id out next) h c in
       record { channel = o.0.channel; channel_is = o.1.channel_is; id_is = o.2.id_is ∙ o.1.next_is; out_is = o.2.out_is; next_is = o.2.next_is }
 
-  pub close_sent : (p : Phase) (number : ℕ) (moment : DateTime) (out : List ℕ) → InPhase limits p before asked → IsClosing p number moment out
-      → IsCloseWith before asked number moment out
-  close_sent p number moment out h c =
-      let o = open_sends p (λ (t : Talking). out ≡ closing_octets t number moment) h c in
-      record {
-        channel = o.0.channel;
-        newest = o.0.newest;
-        channel_is = o.1.channel_is;
-        newest_is = o.1.newest_is;
-        out_is = o.2 ∙ ap (λ (n : ℕ). frame_octets (close_frame o.0.channel o.0.newest number n moment)) o.1.next_is;
-      }
-
   -- why nothing is sent: by what runs, and by what was received and asked
   shut_there : (reasons : List (AskFault × Bool)) → open_responses before.openings ≡ []
       → Some NotOpen ≡ first_reason ((NotOpen, has_no_channel before) ∷ reasons)
@@ -123,13 +107,6 @@ module _ (limits : Limits) (before : Received) (asked : List Asking) where
 
   pub close_judged : (p : Phase) → InPhase limits p before asked → close_refusal p ≡ first_reason (closing_reasons before)
   close_judged p h = judged_by p (λ (t : Talking). []) [] h (λ t k. refl)
-
-  -- the chunks so far are of request ids below the next one
-  pub sent_below : (p : Phase) → InPhase limits p before asked → AllByRecursion (λ (c : Chunk). c.request < next_id asked) before.messages
-  sent_below Waiting h = subst (λ (b : Received). AllByRecursion (λ (c : Chunk). c.request < next_id asked) b.messages) (sym h.0) tt
-  sent_below (Agreed a) h = subst (λ (b : Received). AllByRecursion (λ (c : Chunk). c.request < next_id asked) b.messages) (sym h.0) tt
-  sent_below (Open t) h = subst (λ (n : ℕ). AllByRecursion (λ (c : Chunk). c.request < n) before.messages) h.next_is h.sent_below
-  sent_below Done h = absurd h
 
 -- ---- where no channel is open
 

@@ -83,7 +83,11 @@ fn tighter(a: u32, b: u32) -> u32
 }
 
 /// The agreement of a server with these limits on the body of a HEL.
-pub fn judge_hello(alloc: Global, limits: &Limits, body: &[u8]) -> Result<Agreement, EndFault>
+pub(crate) fn judge_hello(
+    alloc: Global,
+    limits: &Limits,
+    body: &[u8],
+) -> Result<Agreement, EndFault>
     ensures { JudgesHello limits.now body.now result }
 {
     let Some(hello) = Hello::read_whole(alloc, body)? else {

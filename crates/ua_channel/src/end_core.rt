@@ -154,7 +154,7 @@ impl<R: EndRules<P>, P: Drop> EndCore<R, P> {
     }
 
     /// Takes bytes up to the end of the first frame that has an event, or else the whole fragment.
-    pub fn next_event(&mut self, piece: &[u8]) -> Taken<Result<Option<R::Event>, EndFault>>
+    pub(crate) fn next_event(&mut self, piece: &[u8]) -> Taken<Result<Option<R::Event>, EndFault>>
         ensures nexts { (k : R.side.Key) (octets : List ℕ) (told : List R.side.Told)
             → EndGoes R.side self.old k octets told
             → EndNexts R.side piece.now result.size result.outcome self.new k octets told }

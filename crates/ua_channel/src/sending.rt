@@ -26,7 +26,7 @@ const OPENING_HEADERS: usize = 79;
 const OPENED_LEN: usize = 56;
 
 /// The ACK message of an agreement.
-pub fn agreed_octets(alloc: Global, agreement: &Agreement) -> Result<Vec<u8>, AllocError>
+pub(crate) fn agreed_octets(alloc: Global, agreement: &Agreement) -> Result<Vec<u8>, AllocError>
     ensures { IfOk result (λ out. out.items ≡ frame_octets (ack_frame agreement.now.ack)) }
 {
     let mut out = Vec::new(alloc);
@@ -35,7 +35,7 @@ pub fn agreed_octets(alloc: Global, agreement: &Agreement) -> Result<Vec<u8>, Al
 }
 
 /// Appends an OPN frame under the policy None up to its body, which will have so many bytes.
-pub fn append_opening(
+pub(crate) fn append_opening(
     channel: u32,
     sequence: u32,
     request: u32,
@@ -70,7 +70,7 @@ pub struct Opening {
 }
 
 /// The OPN frame of a response with this timestamp.
-pub fn opened_octets(
+pub(crate) fn opened_octets(
     alloc: Global,
     opening: &Opening,
     sequence: u32,
@@ -103,7 +103,7 @@ pub fn opened_octets(
 
 /// A reply: the chunks of its body, or an abort where the client does not accept the body. The
 /// SequenceNumbers continue after them.
-pub fn reply_octets(
+pub(crate) fn reply_octets(
     alloc: Global,
     lane: &Lane,
     body: &[u8],
@@ -147,7 +147,7 @@ const SMALL_BODY: usize = 256;
 /// The reply that [`reply_octets`] gives. The chunks of a small body, and of one that takes several,
 /// may be put in its own vector, which is then taken; after an error the body is as it was.
 #[inline(always)]
-pub fn reply_in_place(
+pub(crate) fn reply_in_place(
     alloc: Global,
     lane: &Lane,
     body: &mut Vec<u8>,

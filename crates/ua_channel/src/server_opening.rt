@@ -107,7 +107,7 @@ fn judge_asked(asked: &Asked, on: u32, channel: u32, issued: u32) -> Option<Stat
 
 /// The opening of an OPN on a channel with so many issued tokens. The caller checks its
 /// SequenceNumber, and whether a token is left.
-pub fn judge_opening(
+pub(crate) fn judge_opening(
     alloc: Global,
     channel: u32,
     issued: u32,

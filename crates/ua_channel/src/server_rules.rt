@@ -30,7 +30,7 @@ pub struct ServerRules {
 }
 
 /// The filter for a HEL.
-pub fn hello_gate() -> Gate
+pub(crate) fn hello_gate() -> Gate
     ensures { result ≡ first_gate }
 {
     Gate::new(LEAST_BUFFER_SIZE).taking(Kind::Hel)

@@ -1,8 +1,7 @@
 -- That a client stands as its laws say it behind any good frames, where its channel is open and no message is unfinished.
-use Rattle.std.specs.Prelude.{◌↔◌}
 use Rattle.std.proofs.Common.{◌≡◌, ℕ, ◌<◌, ◌≤◌, ◌^◌, Bool, true, false, IsTrue, ◌||◌, ltb, List, [], ◌∷◌, ◌++◌, Option}
 use Rattle.std.proofs.Common.{Some, None, length, map, refl, sym, ◌∙◌, ap, arith, append-nil, append_assoc}
-use Rattle.std.specs.List.{AllByRecursion, filter, range_with_len}
+use Rattle.std.specs.List.{AllByRecursion, filter}
 use Rattle.std.proofs.lemmas.Bool.{eqb-true, ltb-false}
 use Rattle.ua_wire.proofs.Readers.{some_is}
 use Rattle.ua_frame.specs.After.{AllAfter, AllFrom}
@@ -25,7 +24,6 @@ use Rattle.ua_chunk.specs.Open.{open_ids}
 use Rattle.ua_chunk.specs.Sequence.{may_follow}
 use Rattle.ua_chunk.specs.declared.chunk.Chunk.{Chunk}
 use Rattle.ua_channel.specs.Asks.{Asking, Placed, asked_before, asked_in, end_of, id_of, is_in, next_id, pending_calls, pending_renewals}
-use Rattle.ua_channel.specs.Client.{ClientStands, InPhase, client_limits, phase_of}
 use Rattle.ua_channel_laws.specs.ClientConversation.{IsGoodAck, IsGoodResponse, MayCarryBack}
 use Rattle.ua_channel_laws.specs.ClientReads.{AtClient, ClientReads, at_client, client_with}
 use Rattle.ua_channel.specs.ClientTable.{client_gate, client_rules, is_awaited, is_outside}
@@ -34,9 +32,6 @@ use Rattle.ua_channel.specs.ClientTold.{ClientTold}
 use Rattle.ua_channel.specs.Content.{Opening, content, content_by, opening_of, sends}
 use Rattle.ua_channel.specs.Content.Content.{Acks, Opens, Sends}
 use Rattle.ua_channel.specs.Received.{Received, after, latest, or_before, received}
-use Rattle.ua_channel.specs.declared.client.channel.ClientChannel.{ClientChannel}
-use Rattle.ua_channel.specs.declared.client.phase.Phase.{Phase}
-use Rattle.ua_channel.specs.declared.client.phase.Phase.TheVariants as phase
 use Rattle.ua_channel.proofs.Askings.{all-push, all_filter, pending_below, renewal_below}
 use Rattle.ua_channel_laws.proofs.ClientConversing.{IsPlaced, converses, no_close, nothing_placed, placed_next}
 use Rattle.ua_channel_laws.proofs.ClientTakes.{held_renewed, tokens_used}
@@ -235,10 +230,6 @@ module _ (limits : Limits) (asks : List Placed) (n : ℕ) (least : 2 ≤ n) (bel
 
 -- ---- the law
 
-said_by : (o : Option Ack) (rs : List OpenResponse) (c : ℕ) → (o ≡ None → rs ≡ []) → first_channel rs ≡ Some c → (a : Ack) × (o ≡ Some a)
-said_by None rs c placed is = let never : None ≡ Some c = sym (ap first_channel (placed refl)) ∙ is in absurd cc
-said_by (Some a) rs c placed is = (a, refl)
-
 -- the parts of a state
 stated : (o : Option Ack) (c n : Option ℕ) (tokens pending renewals : List ℕ) (next : ℕ) (at : AtClient)
     → client_with o c n tokens pending renewals next ≡ Some at
@@ -293,58 +284,3 @@ reads_at {limits = limits} {asks = asks} {at = at} frames run placed told_is is 
 pub stands_at : {limits : Limits} {asks : List Placed} {octets : List ℕ} {told : List ClientTold} {at : AtClient} (r : ClientReads limits asks octets told at)
     → at_client (received r.frames) (asked_in asks) at.next ≡ Some at
 stands_at r = rw (r.tokens_are, r.newest_is, r.pending_are, r.renewals_are, r.channel_is, r.ack_is) refl
-
-pub reads_by : (limits : Limits) (asks : List Placed) (octets : List ℕ) (told : List ClientTold) (at : AtClient) → ClientReads limits asks octets told at
-    ↔ ((frames : List Frame) × Run (client_rules limits asks) octets frames [] Going × AllByRecursion (λ (a : Placed). a.0 ≤ length octets) asks
-    × (events (client_rules limits asks) frames ≡ told) × (at_client (received frames) (asked_in asks) at.next ≡ Some at)
-    × AllByRecursion (λ (a : Asking). id_of a < next_id (asked_in asks)) (asked_in asks) × IsTrue (may_follow (received frames).last at.next)
-    × (at.next ≤ 4294966272) × (open_ids (received frames).messages ≡ []))
-reads_by limits asks octets told at = (
-  λ r. (r.frames, r.run, r.placed, r.told_is, stands_at r, r.asked_below, r.follows, r.next_small, r.none_open),
-  λ h. reads_at h.0 h.1 h.2 h.3 h.4 h.5 h.6 h.7 h.8,
-)
-
--- an open channel has a state
-pub open_at : (limits : Limits) (asks : List Placed) (octets : List ℕ) (frames : List Frame) (channel next : ℕ)
-    → Run (client_rules limits asks) octets frames [] Going → AllByRecursion (λ (a : Asking). id_of a < next_id (asked_in asks)) (asked_in asks)
-    → first_channel (open_responses (received frames).openings) ≡ Some channel → (at : AtClient) × (at_client (received frames) (asked_in asks) next ≡ Some at)
-open_at limits asks octets frames channel next run below is =
-    let all = all_known limits asks (next_id (asked_in asks)) (omega arith) below frames run.good in
-    let a = said_by (received frames).ack (open_responses (received frames).openings) channel all.0 is in
-    let t = all.1.newest channel is in (
-      record {
-        ack = a.0;
-        channel = channel;
-        tokens = held_tokens (received frames);
-        newest = t.0;
-        pending = pending_calls (received frames).messages (asked_in asks);
-        renewals = pending_renewals (opened_ids (received frames).openings) (asked_in asks);
-        next = next;
-      },
-      simp (a.1, is, t.1),
-    )
-
--- ---- the asks of a channel
-
-own_below : (limits : Limits) (p : Phase) (b : Received) (asked : List Asking) → InPhase limits p b asked
-    → AllByRecursion (λ (a : Asking). id_of a < next_id asked) asked
-own_below limits phase.Waiting b asked h = rw h.1 tt
-own_below limits (phase.Agreed g) b asked h = rw h.1 tt
-own_below limits (phase.Open t) b asked h = rw (← h.next_is) h.asked_below
-own_below limits phase.Done b asked h = absurd h
-
-own_counted : (limits : Limits) (p : Phase) (b : Received) (asked : List Asking) → InPhase limits p b asked → map id_of asked ≡ range_with_len 2 (length asked)
-own_counted limits phase.Waiting b asked h = rw h.1 refl
-own_counted limits (phase.Agreed g) b asked h = rw h.1 refl
-own_counted limits (phase.Open t) b asked h = h.counted
-own_counted limits phase.Done b asked h = absurd h
-
--- they were asked by the end of the octets, under ids below the next one, which are counted on from 2
-pub own_asks : (x : ClientChannel) (asks : List Placed) (octets : List ℕ) (frames : List Frame) (rest : List ℕ) → ClientStands x asks octets frames rest
-    → AllByRecursion (λ (a : Placed). a.0 ≤ length octets) asks × AllByRecursion (λ (a : Asking). id_of a < next_id (asked_in asks)) (asked_in asks)
-    × (map id_of (asked_in asks) ≡ range_with_len 2 (length (asked_in asks)))
-own_asks x asks octets frames rest s = (
-  s.placed,
-  own_below (client_limits x) (phase_of x) (received frames) (asked_in asks) s.phase_is,
-  own_counted (client_limits x) (phase_of x) (received frames) (asked_in asks) s.phase_is,
-)

@@ -1,13 +1,11 @@
 -- What a channel was told of octets that an end reads.
-use Rattle.std.proofs.Common.{◌≡◌, ℕ, List, [], ◌++◌, sym, ◌∙◌, ap}
-use Rattle.ua_frame.specs.Run.{Going, Over, events}
-use Rattle.ua_frame.proofs.Ends.{ends_stay}
-use Rattle.ua_frame.proofs.Unique.{unique}
+use Rattle.std.proofs.Common.{◌≡◌, ℕ, List, [], ◌++◌}
+use Rattle.ua_frame.specs.Run.{Going}
 use Rattle.ua_channel.specs.Asks.{Placed}
 use Rattle.ua_channel.specs.Client.{client_limits, client_rules_of, ClientEnded, ClientGoes}
 use Rattle.ua_channel_laws.specs.ClientReads.{AtClient, ClientReads}
 use Rattle.ua_channel.specs.ClientTold.{ClientTold, Why}
-use Rattle.ua_channel_laws.specs.ServerReads.{AtServer, ServerCloses, ServerReads}
+use Rattle.ua_channel_laws.specs.ServerReads.{AtServer, ServerReads}
 use Rattle.ua_channel.specs.ServerStands.{ClosedAt, Goes, RefusedAt, channel_of, limits_of, rules_of}
 use Rattle.ua_channel.specs.ServerTold.{Told}
 use Rattle.ua_channel.specs.declared.client.channel.ClientChannel.{ClientChannel}
@@ -20,10 +18,6 @@ pub server_begins : (x : ServerChannel) (octets more : List ℕ) (told all : Lis
     → ServerReads (limits_of x) (channel_of x) (octets ++ more) all at → (later : List Told) × (all ≡ told ++ later)
 server_begins x octets more told all at g r = begins (rules_of x) octets more g.frames r.frames g.rest told all Going g.stands.run g.told_is r.run r.told_is
 
-pub server_told : (x : ServerChannel) (octets : List ℕ) (told all : List Told) (at : AtServer) → Goes x octets told
-    → ServerReads (limits_of x) (channel_of x) octets all at → told ≡ all
-server_told x octets told all at g r = same_told (rules_of x) octets g.frames r.frames g.rest [] told all g.stands.run r.run g.told_is r.told_is
-
 pub server_not_refused : (x : ServerChannel) (octets more : List ℕ) (told all : List Told) (at : AtServer) (code : ℕ) → RefusedAt x octets told code
     → ServerReads (limits_of x) (channel_of x) (octets ++ more) all at → ⊥
 server_not_refused x octets more told all at code e r = never_refused (rules_of x) octets more e.frames r.frames e.rest code Going (λ s. cc) e.run r.run
@@ -31,28 +25,6 @@ server_not_refused x octets more told all at code e r = never_refused (rules_of 
 pub server_not_closed : (x : ServerChannel) (octets more : List ℕ) (told all : List Told) (at : AtServer) → ClosedAt x octets told
     → ServerReads (limits_of x) (channel_of x) (octets ++ more) all at → ⊥
 server_not_closed x octets more told all at e r = not_over (rules_of x) octets more e.frames r.frames [] e.run r.run
-
-pub server_begins_close : (x : ServerChannel) (octets more : List ℕ) (told all : List Told) → Goes x octets told
-    → ServerCloses (limits_of x) (channel_of x) (octets ++ more) all → (later : List Told) × (all ≡ told ++ later)
-server_begins_close x octets more told all g r = begins (rules_of x) octets more g.frames r.frames g.rest told all Over g.stands.run g.told_is r.run r.told_is
-
-pub server_closed : (x : ServerChannel) (octets more : List ℕ) (told all : List Told) → ClosedAt x octets told
-    → ServerCloses (limits_of x) (channel_of x) (octets ++ more) all → told ≡ all
-server_closed x octets more told all e r =
-    sym e.told_is
-    ∙ (ap (events (rules_of x))
-    (unique (rules_of x) (octets ++ more) e.frames r.frames more [] Over Over (ends_stay (rules_of x) octets more e.frames [] Over (λ s. cc) e.run)
-    r.run).frames ∙ r.told_is)
-
-pub server_close_not_refused : (x : ServerChannel) (octets more : List ℕ) (told all : List Told) (code : ℕ) → RefusedAt x octets told code
-    → ServerCloses (limits_of x) (channel_of x) (octets ++ more) all → ⊥
-server_close_not_refused x octets more told all code e r = never_refused (rules_of x) octets more e.frames r.frames e.rest code Over (λ s. cc) e.run r.run
-
-pub server_not_open : (x : ServerChannel) (octets : List ℕ) (told all : List Told) → Goes x octets told → ServerCloses (limits_of x) (channel_of x) octets all
-    → ⊥
-server_not_open x octets told all g r =
-    let ends : Going ≡ Over = (unique (rules_of x) octets g.frames r.frames g.rest [] Going Over g.stands.run r.run).ends in
-    cc
 
 -- ---- a client
 

@@ -1,4 +1,3 @@
-mod ServerMessages
 mod Holding
 pub mod ServerReadsOnce
 pub mod Replies
@@ -26,9 +25,6 @@ mod ClientMerges
 mod ClientRuns
 pub mod Groups
 mod Connected
-mod ExampleRounds
-mod ExampleMerges
-mod AskedOn
 mod AskedBefore
 pub mod Lists
 pub mod Further

@@ -1,12 +1,12 @@
 -- When a channel is open.
-use Rattle.std.proofs.Common.{◌≡◌, ◌↔◌, ℕ, ◌<◌, List, [], ◌∷◌, ◌++◌, Some, length, ◌∙◌, ap, arith}
+use Rattle.std.proofs.Common.{◌≡◌, ◌↔◌, ℕ, List, [], ◌∷◌, ◌++◌, Some, ◌∙◌, ap}
 use Rattle.ua_frame.specs.declared.frame.Frame.{Frame}
 use Rattle.ua_frame.specs.declared.limits.Limits.{Limits}
 use Rattle.ua_opening.specs.declared.secure_channel.OpenResponse.{OpenResponse}
 use Rattle.ua_channel.specs.Asks.{Asking, Placed, asked_in}
-use Rattle.ua_channel.specs.Client.{client_limits, ClientStands, InPhase, IsClientDone, IsNotOpen, phase_of}
+use Rattle.ua_channel.specs.Client.{client_limits, ClientStands, InPhase, IsNotOpen, phase_of}
 use Rattle.ua_channel.specs.ClientTokens.{first_channel, open_responses}
-use Rattle.ua_channel.specs.Content.{Opening, content}
+use Rattle.ua_channel.specs.Content.{content}
 use Rattle.ua_channel.specs.Content.Content.{Sends}
 use Rattle.ua_channel.specs.Received.{Received, received, after}
 use Rattle.ua_channel.specs.ServerStands as server
@@ -22,22 +22,6 @@ use Rattle.ua_channel.proofs.OneFrameMore.{received-push}
 use Rattle.ua_channel_laws.proofs.Replies.{asks_by}
 
 -- ---- at a server
-
-none_issued : (os : List Opening) (issued : ℕ) → length os ≡ issued → 0 < issued → os ≡ [] → ⊥
-none_issued os issued count some none = grind (ap (λ (xs : List Opening). length xs) none, count, some, arith)
-
-in_phase : (limits : Limits) (p : Phase) (before : Received) → server.InServerPhase limits p before → server.HasNoToken p ↔ (before.openings ≡ [])
-in_phase limits Waiting before h = (λ t. ap (λ (b : Received). b.openings) h, λ e. tt)
-in_phase limits (Greeted a) before h = (λ t. ap (λ (b : Received). b.openings) h.before_is, λ e. tt)
-in_phase limits (Open r) before h = (λ t. absurd t, λ e. none_issued before.openings r.issued h.issued_is h.some e)
-in_phase limits Done before h = absurd h
-
-pub server_open : (x : ServerChannel) (octets : List ℕ) (frames : List Frame) (rest : List ℕ) → server.ChannelStands x octets frames rest
-    → server.IsWithoutToken x ↔ ((received frames).openings ≡ [])
-server_open x octets frames rest s = in_phase (server.limits_of x) x.end.phase (received frames) s.phase_is
-
-pub server_done : (x : ServerChannel) → server.IsDone x → server.IsWithoutToken x
-server_done x d = rw d.phase tt
 
 -- where nothing was received but a Hello, no token was used
 none_used : (limits : Limits) (p : Phase) (before : Received) (token : ℕ) → server.InServerPhase limits p before → server.HasNoToken p
@@ -72,6 +56,3 @@ client_phase limits asking.Done before asked h = absurd h
 pub client_open : (x : ClientChannel) (asks : List Placed) (octets : List ℕ) (frames : List Frame) (rest : List ℕ) → ClientStands x asks octets frames rest
     → IsNotOpen (phase_of x) ↔ (open_responses (received frames).openings ≡ [])
 client_open x asks octets frames rest s = client_phase (client_limits x) (phase_of x) (received frames) (asked_in asks) s.phase_is
-
-pub client_done : (x : ClientChannel) → IsClientDone x → IsNotOpen (phase_of x)
-client_done x d = rw d.phase tt

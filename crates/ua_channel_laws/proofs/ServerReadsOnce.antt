@@ -4,14 +4,11 @@ use Rattle.ua_frame.specs.declared.frame.Frame.{Frame}
 use Rattle.ua_channel.specs.declared.server.ServerChannel.{ServerChannel}
 use Rattle.ua_channel.specs.ServerStands.{rules_of, ChannelStands, Goes, GoesTelling}
 use Rattle.ua_channel.specs.ServerTold.{Told}
-use Rattle.ua_channel_laws.proofs.ReadOn.{same_frames, same_told, told_behind}
+use Rattle.ua_channel_laws.proofs.ReadOn.{same_frames, told_behind}
 
 pub stands_once : (x : ServerChannel) (octets : List ℕ) (fs gs : List Frame) (rest more : List ℕ) → ChannelStands x octets fs rest
     → ChannelStands x octets gs more → (fs ≡ gs) × (rest ≡ more)
 stands_once x octets fs gs rest more s t = same_frames (rules_of x) octets fs gs rest more s.run t.run
-
-pub told_once : (x : ServerChannel) (octets : List ℕ) (told more : List Told) → Goes x octets told → Goes x octets more → told ≡ more
-told_once x octets told more g h = same_told (rules_of x) octets g.frames h.frames g.rest h.rest told more g.stands.run h.stands.run g.told_is h.told_is
 
 pub goes_behind : (x : ServerChannel) (octets : List ℕ) (told : List Told) (e : Told) → GoesTelling x octets told e → Goes x octets (told ++ e ∷ [])
 goes_behind x octets told e g =

@@ -1,8 +1,7 @@
 -- That a server stands as its laws say it behind any good frames, where its channel is open and no message is unfinished.
-use Rattle.std.specs.Prelude.{◌↔◌}
-use Rattle.std.proofs.Common.{◌≡◌, ℕ, ◌+◌, ◌<◌, ◌≤◌, ◌^◌, Bool, true, false, IsTrue, ◌&&◌, ◌||◌, eqb, leb, ltb, List, [], ◌∷◌, ◌++◌}
-use Rattle.std.proofs.Common.{Option, Some, None, length, refl, sym, ◌∙◌, ap, arith, append-nil, append_assoc, length-append}
-use Rattle.std.proofs.lemmas.Bool.{and_from, and_parts, eq-eqb, eqb-false, leb-false, leb-true, lt-ltb, ltb-false, or_left, or_right}
+use Rattle.std.proofs.Common.{◌≡◌, ℕ, ◌+◌, ◌<◌, ◌≤◌, ◌^◌, Bool, true, false, IsTrue, ◌&&◌, ◌||◌, leb, ltb, List, [], ◌∷◌, ◌++◌}
+use Rattle.std.proofs.Common.{Option, Some, None, length, sym, ◌∙◌, ap, arith, append-nil, append_assoc, length-append}
+use Rattle.std.proofs.lemmas.Bool.{and_parts, eqb-false, leb-true, ltb-false}
 use Rattle.ua_wire.proofs.Readers.{some_is}
 use Rattle.ua_frame.specs.After.{AllAfter, AllFrom}
 use Rattle.ua_frame.specs.Hello.{hello_in}
@@ -125,28 +124,6 @@ module _ (limits : Limits) (channel : ℕ) where
 
 -- ---- the law
 
-said_by : (o : Option Hello) (n : ℕ) → (o ≡ None → n ≡ 0) → 0 < n → (h : Hello) × (o ≡ Some h)
-said_by None n placed some = absurd (omega (arith, placed refl, some))
-said_by (Some h) n placed some = (h, refl)
-
-next_by : (small : Bool) (s : ℕ) → leb s 4294966271 ≡ small → (next : ℕ) × (follows s next ≡ true) × (next ≤ 4294966272)
-next_by true s e = (
-  s + 1,
-  or_left (eqb (s + 1) (s + 1)) (ltb 4294966271 s && ltb (s + 1) 1024) (eq-eqb (s + 1) (s + 1) refl),
-  omega (arith, leb-true s 4294966271 e),
-)
-next_by false s e = (
-  1,
-  or_right (eqb 1 (s + 1)) (ltb 4294966271 s && ltb 1 1024)
-      (and_from (ltb 4294966271 s) (ltb 1 1024) (lt-ltb 4294966271 s (omega (arith, leb-false s 4294966271 e))) refl),
-  omega arith,
-)
-
--- there is a number that may follow
-pub some_follows : (last : Option ℕ) → (next : ℕ) × IsTrue (may_follow last next) × (next ≤ 4294966272)
-some_follows None = (1, refl, omega arith)
-some_follows (Some s) = next_by (leb s 4294966271) s refl
-
 -- the parts of a state
 stated : (o : Option Hello) (issued used next : ℕ) (at : AtServer) → server_with o issued used next ≡ Some at
     → (o ≡ Some at.hello) × (issued ≡ at.issued) × (used ≡ at.used)
@@ -178,26 +155,3 @@ reads_at {limits = limits} {channel = channel} {at = at} frames run told_is is f
       next_small = small;
       none_open = none;
     }
-
--- and they say it where it stands so
-stands_at : {limits : Limits} {channel : ℕ} {octets : List ℕ} {told : List Told} {at : AtServer} (r : ServerReads limits channel octets told at)
-    → at_server (received r.frames) at.next ≡ Some at
-stands_at r = rw (r.issued_is, r.used_is, r.hello_is) refl
-
-pub reads_by : (limits : Limits) (channel : ℕ) (octets : List ℕ) (told : List Told) (at : AtServer) → ServerReads limits channel octets told at
-    ↔ ((frames : List Frame) × Run (server_rules limits channel) octets frames [] Going × (events (server_rules limits channel) frames ≡ told)
-    × (at_server (received frames) at.next ≡ Some at) × IsTrue (may_follow (received frames).last at.next) × (at.next ≤ 4294966272)
-    × (open_ids (received frames).messages ≡ []))
-reads_by limits channel octets told at = (
-  λ r. (r.frames, r.run, r.told_is, stands_at r, r.follows, r.next_small, r.none_open),
-  λ h. reads_at h.0 h.1 h.2 h.3 h.4 h.5 h.6,
-)
-
--- an open channel has a state
-pub open_at : (limits : Limits) (channel : ℕ) (octets : List ℕ) (frames : List Frame) (next : ℕ) → Run (server_rules limits channel) octets frames [] Going
-    → 0 < issued (received frames) → (at : AtServer) × (at_server (received frames) next ≡ Some at)
-open_at limits channel octets frames next run some =
-    let h = said_by (received frames).hello (issued (received frames)) (all_known limits channel frames run.good).0 some in (
-      record { hello = h.0; issued = issued (received frames); used = last_used (received frames); next = next },
-      ap (λ (o : Option Hello). server_with o (issued (received frames)) (last_used (received frames)) next) h.1,
-    )

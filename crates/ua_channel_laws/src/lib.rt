@@ -17,8 +17,6 @@
 #![tactic(auto)]
 
 pub mod asking_laws;
-pub mod both_ends;
 pub mod client_laws;
 pub mod group_laws;
 pub mod laws;
-pub mod merge_laws;

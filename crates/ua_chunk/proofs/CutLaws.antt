@@ -1,5 +1,5 @@
 -- What is cut is taken and delivered.
-use Rattle.std.proofs.Common.{◌≡◌, ℕ, ◌+◌, ◌<◌, ◌≤◌, Bool, true, false, cond, not, ◌&&◌, eqb, ltb, Option, Some}
+use Rattle.std.proofs.Common.{◌≡◌, ℕ, ◌+◌, ◌<◌, ◌≤◌, Bool, true, false, cond, not, ◌&&◌, eqb, ltb, Some}
 use Rattle.std.proofs.Common.{None, List, [], ◌∷◌, ◌++◌, refl, sym, ◌∙◌, ap, subst, arith, length, map, append_assoc}
 use Rattle.std.proofs.lemmas.Bool.{or_parts, or_left, or_right, and_parts, and_from, eq-eqb, eqb-true, lt-ltb, not-true}
 use Rattle.std.specs.List.{list_any, list_all, flat_map}
@@ -13,12 +13,11 @@ use Rattle.ua_chunk.specs.Item.Item.{Whole}
 use Rattle.ua_chunk.specs.Merge.{Part, part_of, Sent, more_part, parts_of, IsMessageWithin, AllWithin, Interleaves, Merges}
 use Rattle.ua_chunk.specs.Merge.Interleaves.{none, left}
 use Rattle.ua_chunk.specs.Open.{open_ids}
-use Rattle.ua_chunk.specs.Refusal.{passes, TakesAllChunks, TakesMessages, FewOpen}
-use Rattle.ua_chunk.specs.Sequence.{follows, may_follow, ordered, next_number}
+use Rattle.ua_chunk.specs.Refusal.{passes, TakesMessages, FewOpen}
+use Rattle.ua_chunk.specs.Sequence.{follows, next_number}
 use Rattle.ua_chunk.proofs.Fresh.{cut_behind, some_pieces}
 use Rattle.ua_chunk.proofs.Interleaved.{merge_by_id}
 use Rattle.ua_chunk.proofs.Merged.{messages_behind}
-use Rattle.ua_chunk.proofs.Numbers.{takes_all}
 use Rattle.ua_chunk.proofs.OneMore.{delivered_from}
 use Rattle.ua_chunk.proofs.Pieces.{joined_pieces}
 
@@ -83,13 +82,6 @@ follows_next_by false s e = or_left (eqb (s + 1) (s + 1)) (ltb 4294966271 s && l
 pub follows_next : (s : ℕ) → follows s (next_number s) ≡ true
 follows_next s = follows_next_by (eqb s 4294966272) s refl
 
-numbered_ordered : (lane : Lane) (last : Option ℕ) (s id : ℕ) (p : List ℕ) (ps : List (List ℕ)) → may_follow last s ≡ true
-    → ordered last (numbered lane s id (p ∷ ps)) ≡ true
-numbered_ordered lane last s id p [] h = and_from (may_follow last s) true h refl
-numbered_ordered lane last s id p (q ∷ qs) h =
-    and_from (may_follow last s) (ordered (Some s) (numbered lane (next_number s) id (q ∷ qs))) h
-    (numbered_ordered lane (Some s) (next_number s) id q qs (follows_next s))
-
 -- ---- one request id alone
 
 all_front : {X : Type 0} (p : X → Bool) (xs ys : List X) → list_all p (xs ++ ys) ≡ true → list_all p xs ≡ true
@@ -153,17 +145,6 @@ cut_messages octets chunks lane b s id pos some o c =
     (ap (λ (t : List (List ℕ)). passes octets (length (flat_map (λ p. p) t))) (sym ps.are)
     ∙ ap (λ (t : List ℕ). passes octets (length t)) (joined_pieces lane.room b pos some) ∙ o)
     (ap (λ (t : List (List ℕ)). passes chunks (length t)) (sym ps.are) ∙ c))
-
-cut_ordered : (lane : Lane) (last : Option ℕ) (b : List ℕ) (s id : ℕ) → 0 < length b → may_follow last s ≡ true → ordered last (chunks_of lane b s id) ≡ true
-cut_ordered lane last b s id some h =
-    let ps = some_pieces lane.room b some in
-    ap (λ (t : List (List ℕ)). ordered last (numbered lane s id t)) ps.are ∙ numbered_ordered lane last s id ps.first ps.others h
-
-pub cut_taken : (octets chunks : ℕ) (last : Option ℕ) (lane : Lane) (b : List ℕ) (s id : ℕ) → 0 < lane.room → 0 < length b → may_follow last s ≡ true
-    → passes octets (length b) ≡ false → passes chunks (length (pieces lane.room b)) ≡ false
-    → TakesAllChunks octets chunks last [] (chunks_of lane b s id)
-cut_taken octets chunks last lane b s id pos some h o c =
-    takes_all octets chunks last [] (chunks_of lane b s id) (cut_ordered lane last b s id some h) (cut_messages octets chunks lane b s id pos some o c)
 
 pub cut_delivered : (lane : Lane) (b : List ℕ) (s id : ℕ) → 0 < lane.room → 0 < length b → delivered (chunks_of lane b s id) ≡ Whole id b ∷ []
 cut_delivered lane b s id pos some =

@@ -1,28 +1,24 @@
 -- Chunks behind chunks that leave nothing unfinished, and what a cut body delivers.
-use Rattle.std.proofs.Common.{◌≡◌, ℕ, ◌<◌, Bool, true, false, cond, not, ◌&&◌, ◌||◌, eqb, ltb, Option, Some, List, []}
-use Rattle.std.proofs.Common.{◌∷◌, ◌++◌, refl, sym, ◌∙◌, ap, arith, length, map, append-nil, append_assoc, take, drop}
+use Rattle.std.proofs.Common.{◌≡◌, ℕ, ◌<◌, Bool, true, false, cond, not, ◌&&◌, ◌||◌, eqb, ltb, List, []}
+use Rattle.std.proofs.Common.{◌∷◌, ◌++◌, refl, sym, ◌∙◌, ap, arith, length, append-nil, append_assoc, take, drop}
 use Rattle.std.proofs.lemmas.Bool.{cond-true, eq-eqb}
 use Rattle.std.specs.List.{list_any, filter, flat_map}
-use Rattle.ua_chunk.specs.declared.assembler.Assembler.{Assembler}
 use Rattle.ua_chunk.specs.declared.chunk.Chunk.{Chunk}
 use Rattle.ua_chunk.specs.declared.flag.Flag.{Flag}
 use Rattle.ua_chunk.specs.declared.flag.Flag.TheVariants.{F, C, A}
 use Rattle.ua_chunk.specs.declared.lane.Lane.{Lane}
-use Rattle.ua_chunk.specs.Assembling.{Stands}
 use Rattle.ua_chunk.specs.Cutting.{pieces, pieces_in, numbered, chunk_of}
 use Rattle.ua_chunk.specs.Delivered.{given, given_by, delivered, delivered_behind}
 use Rattle.ua_chunk.specs.declared.fault.AssembleFault.{AssembleFault}
-use Rattle.ua_chunk.specs.declared.fault.AssembleFault.TheVariants.{Sequence, Unreadable, TooManyOpen, MessageTooLarge, TooManyChunks}
+use Rattle.ua_chunk.specs.declared.fault.AssembleFault.TheVariants.{Unreadable, TooManyOpen, MessageTooLarge, TooManyChunks}
 use Rattle.ua_chunk.specs.Abort.{is_readable_abort}
 use Rattle.ua_chunk.specs.Flag.{is_abort_flag}
 use Rattle.ua_chunk.specs.Gathered.{is_of, is_more, ends, after_last, unfinished, gathered, joined}
 use Rattle.ua_chunk.specs.Item.Item.{Whole}
-use Rattle.ua_chunk.specs.Kept.{kept}
 use Rattle.ua_chunk.specs.Open.{open_ids}
 use Rattle.ua_builtin.specs.Reasons.{first_reason}
-use Rattle.ua_chunk.specs.Refusal.{passes, most_open, message_reasons, message_refusal, chunk_refusal}
-use Rattle.ua_chunk.specs.Sequence.{next_number, may_follow}
-use Rattle.ua_chunk.proofs.Bounds.{none_within}
+use Rattle.ua_chunk.specs.Refusal.{passes, most_open, message_reasons, message_refusal}
+use Rattle.ua_chunk.specs.Sequence.{next_number}
 use Rattle.ua_chunk.proofs.Lists.{filter_append}
 use Rattle.ua_chunk.proofs.OneMore.{delivered_from, not_open, unfinished_more}
 use Rattle.ua_chunk.proofs.KeptMessages.{joined_push}
@@ -112,19 +108,6 @@ same_reasons octets chunks cs ds c none =
 pub fresh_message : (octets chunks : ℕ) (cs ds : List Chunk) (c : Chunk) → open_ids cs ≡ []
     → message_refusal octets chunks (cs ++ ds) c ≡ message_refusal octets chunks ds c
 fresh_message octets chunks cs ds c none = ap (first_reason) (same_reasons octets chunks cs ds c none)
-
-pub fresh_refusal : (octets chunks : ℕ) (last : Option ℕ) (cs ds : List Chunk) (c : Chunk) → open_ids cs ≡ []
-    → chunk_refusal octets chunks last (cs ++ ds) c ≡ chunk_refusal octets chunks last ds c
-fresh_refusal octets chunks last cs ds c none = ap (λ o. cond (not (may_follow last c.sequence)) (Some Sequence) o) (fresh_message octets chunks cs ds c none)
-
--- an assembler without unfinished messages stands as after no chunks
-pub stands_fresh : (a : Assembler) (cs : List Chunk) → Stands a cs → open_ids cs ≡ [] → Stands a []
-stands_fresh a cs s none = record {
-  goes_on = s.goes_on;
-  unfinished = s.unfinished ∙ ap (map (λ id. kept id (unfinished id cs))) none;
-  few = omega arith;
-  within = λ id. none_within a.octets;
-}
 
 -- ---- what a cut body delivers
 

@@ -1,8 +1,8 @@
 -- That each of merged messages is delivered once, and that an open id is named once.
-use Rattle.std.proofs.Common.{◌≡◌, ℕ, Bool, true, false, cond, not, ◌&&◌, eqb, Option, Some, None, List, [], ◌∷◌, ◌++◌, refl, sym, ◌∙◌, ap, map, append-nil}
-use Rattle.std.proofs.lemmas.Bool.{or_parts, and_parts, eqb-true, not-true}
+use Rattle.std.proofs.Common.{◌≡◌, ℕ, Bool, true, false, cond, not, eqb, Option, Some, None, List, [], ◌∷◌, ◌++◌, refl, sym, ◌∙◌, ap, map, append-nil}
+use Rattle.std.proofs.lemmas.Bool.{eqb-true}
 use Rattle.std.proofs.lemmas.List.Concat.{flat_map-append}
-use Rattle.std.specs.List.{list_any, filter, flat_map, AllByRecursion, IsDistinct}
+use Rattle.std.specs.List.{filter, flat_map}
 use Rattle.ua_builtin.specs.declared.status_code.StatusCode.{StatusCode}
 use Rattle.ua_chunk.specs.declared.chunk.Chunk.{Chunk}
 use Rattle.ua_chunk.specs.declared.flag.Flag.{Flag}
@@ -10,14 +10,12 @@ use Rattle.ua_chunk.specs.declared.flag.Flag.TheVariants.{F, C, A}
 use Rattle.ua_chunk.specs.Abort.{abort_of}
 use Rattle.ua_chunk.specs.Delivered.{aborted, delivered}
 use Rattle.ua_chunk.specs.Flag.{is_more_flag}
-use Rattle.ua_chunk.specs.Gathered.{is_of, is_more, ends}
+use Rattle.ua_chunk.specs.Gathered.{is_of, ends}
 use Rattle.ua_chunk.specs.Item.{Item}
 use Rattle.ua_chunk.specs.Merge.{Part, part_of, Sent, more_part, last_part, sent_under, parts_under}
 use Rattle.ua_chunk.specs.Merge.{outcome_by, outcome, outcome_under, outcomes, is_item_of, IsMerge}
-use Rattle.ua_chunk.specs.Open.{open_ids}
 use Rattle.ua_chunk.proofs.Lists.{filter_append}
 use Rattle.ua_chunk.proofs.Merged.{merged}
-use Rattle.ua_chunk.proofs.OneMore.{open_none, eqb_comm}
 
 -- ---- the items of one id
 
@@ -98,25 +96,3 @@ once ms cs id merge =
     ∙ of_id id ms cs
     ∙ ap (flat_map (at_part ms)) (merge id)
     ∙ parts_outcome id ms (sent_under id ms) refl
-
--- ---- open ids
-
-none_after : (r : ℕ) (ids : List ℕ) → list_any (λ j. eqb j r) ids ≡ false → AllByRecursion (λ j. eqb r j ≡ false) ids
-none_after r [] h = tt
-none_after r (j ∷ ids) h =
-    let parts = or_parts (eqb j r) (list_any (λ j. eqb j r) ids) h in
-    (eqb_comm j r false parts.0, none_after r ids parts.1)
-
-distinct_step : (b : Bool) (r : ℕ) (ids : List ℕ) → (b ≡ true → list_any (λ j. eqb j r) ids ≡ false) → IsDistinct eqb ids
-    → IsDistinct eqb (cond b (r ∷ ids) ids)
-unfolding IsDistinct
-distinct_step true r ids h d = (none_after r ids (h refl), d)
-distinct_step false r ids h d = d
-
-pub open_distinct : (cs : List Chunk) → IsDistinct eqb (open_ids cs)
-unfolding IsDistinct
-open_distinct [] = tt
-open_distinct (c ∷ cs) =
-    distinct_step (is_more c && not (list_any (is_of c.request) cs)) c.request (open_ids cs)
-    (λ h. open_none c.request cs (not-true (list_any (is_of c.request) cs) ((and_parts (is_more c) (not (list_any (is_of c.request) cs)) h).1)))
-    (open_distinct cs)

@@ -1,20 +1,17 @@
 -- The definitions in other words, for readers.
 use Rattle.std.proofs.Common.{◌≡◌, ℕ, ◌<◌, ◌^◌, Bool, true, false, cond, not, ◌&&◌, ◌||◌, ◌↔◌, eqb}
-use Rattle.std.proofs.Common.{ltb, Option, Some, None, List, [], ◌∷◌, refl, sym, ◌∙◌, ap, subst}
+use Rattle.std.proofs.Common.{ltb, Option, Some, None, List, [], ◌∷◌, refl, ◌∙◌, ap, subst}
 use Rattle.std.proofs.lemmas.Bool.{or_parts, and_from, eqb-true, lt-ltb, false_from_ne_true}
 use Rattle.std.specs.List.{list_any, filter}
 use Rattle.ua_wire.specs.Counted.{text, counted}
-use Rattle.ua_wire.proofs.Readers.{some_is}
 use Rattle.ua_builtin.specs.Status.{status_code}
 use Rattle.ua_builtin.specs.declared.status_code.StatusCode.{StatusCode}
-use Rattle.ua_frame.specs.declared.frame.Frame.{Frame}
 use Rattle.ua_frame.proofs.Wholes.{encodes_whole, whole_encodes}
 use Rattle.ua_chunk.specs.declared.chunk.Chunk.{Chunk}
 use Rattle.ua_chunk.specs.Abort.{abort_body, abort_of}
 use Rattle.ua_chunk.specs.Gathered.{is_of, is_more, ends, after_last, unfinished}
 use Rattle.ua_chunk.specs.Layout.{IsChunkOf, token_header, sequence_header, frame_of}
 use Rattle.ua_chunk.specs.Open.{open_ids}
-use Rattle.ua_chunk.proofs.Carried.{chunk_found}
 use Rattle.ua_chunk.proofs.Lists.{left_any}
 use Rattle.ua_chunk.proofs.OneMore.{not_open}
 use Rattle.ua_chunk.proofs.HeadersLawful.{sound_token_header, sound_sequence_header, sound_abort_body}
@@ -59,9 +56,6 @@ pub open_is_unfinished : (id : ℕ) (cs : List Chunk) → (list_any (λ j. eqb j
 open_is_unfinished id cs = (λ h. not_open id cs h, λ e. false_from_ne_true (list_any (λ j. eqb j id) (open_ids cs)) (λ h. open_some id cs h e))
 
 -- ---- chunks of frames
-
-pub one_chunk : (f : Frame) (c d : Chunk) → IsChunkOf f c → IsChunkOf f d → c ≡ d
-one_chunk f c d h k = some_is c d (sym (chunk_found f c h) ∙ chunk_found f d k)
 
 pub frame_of_chunk : (c : Chunk) → c.channel < 2 ^ 32 → c.token < 2 ^ 32 → c.sequence < 2 ^ 32 → c.request < 2 ^ 32 → IsChunkOf (frame_of c) c
 frame_of_chunk c channel token sequence request = record {

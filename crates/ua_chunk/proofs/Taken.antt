@@ -1,6 +1,6 @@
 -- Chunks that are taken.
-use Rattle.std.proofs.Common.{◌≡◌, ℕ, ◌*◌, ◌≤◌, ◌<◌, Bool, true, false, cond, not, ◌&&◌, ltb, Option, Some, None, is_some}
-use Rattle.std.proofs.Common.{List, [], ◌∷◌, ◌++◌, refl, sym, ◌∙◌, ap, subst, arith, length, map, append_assoc, append-nil}
+use Rattle.std.proofs.Common.{◌≡◌, ℕ, ◌≤◌, Bool, true, false, cond, not, ◌&&◌, ltb, Option, Some, None, is_some}
+use Rattle.std.proofs.Common.{List, [], ◌∷◌, ◌++◌, refl, ◌∙◌, ap, length, map}
 use Rattle.std.proofs.lemmas.Bool.{ltb-false}
 use Rattle.std.specs.List.{filter}
 use Rattle.ua_builtin.specs.declared.status_code.StatusCode.{StatusCode}
@@ -12,10 +12,9 @@ use Rattle.ua_chunk.specs.Delivered.{given, given_by, delivered, delivered_behin
 use Rattle.ua_chunk.specs.Flag.{is_more_flag, is_abort_flag}
 use Rattle.ua_chunk.specs.Gathered.{ends, gathered, joined}
 use Rattle.ua_chunk.specs.Merge.{id_of_item}
-use Rattle.ua_chunk.specs.Open.{open_ids, open_octets}
-use Rattle.ua_chunk.specs.Refusal.{passes, most_open, message_refusal, OpenWithin, TakesMessages}
+use Rattle.ua_chunk.specs.Open.{open_ids}
+use Rattle.ua_chunk.specs.Refusal.{passes, most_open, message_refusal, TakesMessages}
 use Rattle.ua_chunk.proofs.Assembles.{few_after, large_after, unreadable_after}
-use Rattle.ua_chunk.proofs.Bounds.{none_within, within_push, bounded}
 use Rattle.ua_chunk.proofs.Lists.{map_push}
 use Rattle.ua_chunk.proofs.OneMore.{delivered_from}
 
@@ -36,25 +35,6 @@ good octets chunks cs c none =
       few = ltb-false most_open (length (open_ids (cs ++ c ∷ []))) (few_after true unreadable crowded large many none);
       fits = large_after true unreadable crowded large many none;
     }
-
--- ---- what is held
-
--- what these chunks leave unfinished is few, and within the limit
-record Bounded (octets : ℕ) (cs : List Chunk) : Type 0 where
-  within : OpenWithin octets cs
-  few : length (open_ids cs) ≤ most_open
-
-bounded_behind : (octets chunks : ℕ) (before cs : List Chunk) → Bounded octets before → TakesMessages octets chunks before cs → Bounded octets (before ++ cs)
-bounded_behind octets chunks before [] b taken = subst (Bounded octets) (sym (append-nil before)) b
-bounded_behind octets chunks before (c ∷ cs) b taken =
-    let g = good octets chunks before c taken.0 in
-    subst (Bounded octets) (append_assoc before (c ∷ []) cs)
-    (bounded_behind octets chunks (before ++ c ∷ []) cs (record { within = within_push octets before c b.within g.fits; few = g.few }) taken.1)
-
-pub held_bounded : (octets chunks : ℕ) (cs : List Chunk) → 0 < octets → TakesMessages octets chunks [] cs → open_octets cs ≤ 4 * octets
-held_bounded octets chunks cs some taken =
-    let b = bounded_behind octets chunks [] cs (record { within = λ id. none_within octets; few = omega arith }) taken in
-    bounded octets cs some b.within b.few
 
 -- ---- what is delivered
 

@@ -7,7 +7,7 @@ use ua_wire::split_number;
 
 /// A SequenceNumber and a RequestId, and the bytes after them.
 #[inline]
-pub fn split_sequence(octets: &[u8]) -> Option<(u32, u32, &[u8])>
+pub(crate) fn split_sequence(octets: &[u8]) -> Option<(u32, u32, &[u8])>
     ensures { MatchOption result (sequence_header.decode octets.now ≡ None)
         (λ r. sequence_header.decode octets.now ≡ Some ((r.0, r.1), r.2.now)) }
 {

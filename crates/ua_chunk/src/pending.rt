@@ -108,7 +108,7 @@ impl PendingMessages {
 
     /// Takes out the message that has partly arrived under a RequestId.
     #[inline(always)]
-    pub fn take_out(&mut self, request: u32) -> Pending
+    pub(crate) fn take_out(&mut self, request: u32) -> Pending
         ensures taken { result ≡ message_under_id request self.old }
         ensures rest { self.new ≡ without (is_under request) self.old }
     {

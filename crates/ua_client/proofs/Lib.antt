@@ -12,7 +12,6 @@ pub mod Renewings
 pub mod Requests
 pub mod Askings
 pub mod Filling
-mod Followed
 pub mod Fronts
 pub mod Answering
 pub mod Incoming

@@ -109,7 +109,7 @@ impl Connection {
 
     /// Checks a group of calls as a whole, writes its frames, waits for its replies and appends
     /// them.
-    pub fn call_group<L: Line>(
+    pub(crate) fn call_group<L: Line>(
         &mut self,
         line: &mut L,
         reads: &mut u64,

@@ -20,7 +20,7 @@ use ua_channel::Line;
 use ua_channel_laws::client_laws::client_goes_on;
 
 /// No replies, with memory reserved for this many unless the allocation fails.
-pub fn no_replies(alloc: Global, count: usize) -> Vec<Reply>
+pub(crate) fn no_replies(alloc: Global, count: usize) -> Vec<Reply>
     ensures { result.items ≡ [] }
 {
     let mut replies = Vec::new(alloc);

@@ -65,7 +65,7 @@ impl Connection {
 
     /// Goes on to the next event: takes the bytes that were read, and reads further ones where
     /// these have none.
-    pub fn hear<L: Line>(
+    pub(crate) fn hear<L: Line>(
         &mut self,
         line: &mut L,
         reads: &mut u64,

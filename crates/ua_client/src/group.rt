@@ -122,7 +122,7 @@ fn fault_at(place: usize, fault: ClientFault) -> CallsFault
 }
 
 /// The body of a request that is a group by itself, where a channel would send it.
-pub fn judge_one(
+pub(crate) fn judge_one(
     alloc: Global,
     channel: &ClientChannel,
     message: &Request,
@@ -141,7 +141,7 @@ pub fn judge_one(
 
 /// The bodies of a group of requests, where a channel would send all of them; else the first of them
 /// that it would not send.
-pub fn judge_group(
+pub(crate) fn judge_group(
     alloc: Global,
     channel: &ClientChannel,
     requests: &[Request],
@@ -219,7 +219,7 @@ fn frame_len_of(call: Option<AskedCall>) -> usize
 }
 
 /// Sends a call of each request of a group, in order.
-pub fn ask_group<'a>(
+pub(crate) fn ask_group<'a>(
     alloc: Global,
     channel: &mut ClientChannel,
     requests: &'a [Request],

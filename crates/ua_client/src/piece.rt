@@ -41,7 +41,7 @@ impl Piece {
     }
 
     /// The bytes that are not yet taken.
-    pub fn untaken(&self) -> &[u8]
+    pub(crate) fn untaken(&self) -> &[u8]
         ensures value { result.now ≡ self.now }
         ensures few { length self.now ≤ 4096 }
     {

@@ -171,7 +171,7 @@ fn put_reply(
 }
 
 /// Puts the reply that an event brings at the index of its request.
-pub fn place_reply(
+pub(crate) fn place_reply(
     alloc: Global,
     requests: &[Request],
     first: u32,
@@ -193,7 +193,7 @@ pub fn place_reply(
 }
 
 /// The reply of a group of one.
-pub fn only_reply(mut replies: Vec<Reply>) -> Reply
+pub(crate) fn only_reply(mut replies: Vec<Reply>) -> Reply
     requires { length replies.items ≡ 1 }
     ensures { replies.items ≡ result ∷ [] }
 {

@@ -8,7 +8,7 @@ ghost use Rattle.ua_client.specs.Sent.{asked_len};
 use ua_channel::{AskedCall, Line, LineFault, write_whole};
 
 /// Writes all the bytes, or the first of them where the transport fails.
-pub fn send_whole<L: Line>(line: &mut L, octets: &[u8]) -> Result<(), LineFault>
+pub(crate) fn send_whole<L: Line>(line: &mut L, octets: &[u8]) -> Result<(), LineFault>
     ensures written { IfTrafficKnown (Writes result octets.now) (L.traffic line.old) (L.traffic line.new) }
     ensures some { OnErr result (0 < length octets.now) }
     ensures failed { L.failures line.new ≡ failures_after (L.failures line.old) result }
@@ -65,7 +65,7 @@ fn call_end(octets: &[u8], at: usize, call: &AskedCall) -> usize
 /// Writes the frames of calls completely, each by one write where the transport takes it so.
 /// `octets` are the frames of all the calls, in order, `calls` all but the last of them, and
 /// `frame_len` is the length in bytes of each frame of the last call but its last one.
-pub fn write_calls<L: Line>(
+pub(crate) fn write_calls<L: Line>(
     line: &mut L,
     octets: &[u8],
     calls: &[AskedCall],

@@ -169,7 +169,7 @@ impl Slots {
 
     /// Whether a reply is missing.
     #[inline]
-    pub fn is_waiting(&self) -> bool
+    pub(crate) fn is_waiting(&self) -> bool
         ensures { result ≡ list_any is_none self.now.slots }
     {
         if self.replies.len() - self.had + self.late.len() < self.count {
@@ -212,7 +212,7 @@ impl Slots {
     }
 
     /// The replies that the caller had, and behind them those before the first that is missing.
-    pub fn into_replies(self) -> Vec<Reply>
+    pub(crate) fn into_replies(self) -> Vec<Reply>
         ensures { result.items ≡ self.had ++ front_of self.slots }
     {
         let Slots {

@@ -25,7 +25,7 @@ pub enum Phase {
 
 impl Phase {
     /// Whether the client's bytes are still processed.
-    pub fn is_going(self) -> bool
+    pub(crate) fn is_going(self) -> bool
         ensures { result ≡ is_going self }
     {
         match self {

@@ -259,7 +259,7 @@ fn append_texts(
 }
 
 /// Appends the canonical encoding of a DiagnosticInfo whose fields can be encoded.
-pub fn append_diagnostic(value: &DiagnosticInfo, out: &mut Vec<u8>) -> Result<(), AllocError>
+pub(crate) fn append_diagnostic(value: &DiagnosticInfo, out: &mut Vec<u8>) -> Result<(), AllocError>
     requires { diagnostic_fits (diagnostic_of value.now) ≡ true }
     ensures ok { OnOk result (out.new.items ≡ out.old.items ++ diagnostic_canonical (diagnostic_of value.now)) }
     ensures err { OnErr result (Extends out.old.items out.new.items) }

@@ -21,7 +21,7 @@ pub fn count_of<T>(field: &Option<T>) -> u64
 
 /// 1 if the String is not null, else 0.
 #[inline]
-pub fn count_of_text(text: &UaString) -> u64
+pub(crate) fn count_of_text(text: &UaString) -> u64
     ensures value { result ≡ there text.now }
     ensures within { result ≤ 1 }
 {
@@ -60,7 +60,7 @@ pub fn read_field<T: Wire + Drop, S: Source>(
 
 /// Appends the encoding of a field, if it is present.
 #[inline]
-pub fn append_field<T: Wire>(field: &Option<T>, out: &mut Vec<u8>) -> Result<(), AllocError>
+pub(crate) fn append_field<T: Wire>(field: &Option<T>, out: &mut Vec<u8>) -> Result<(), AllocError>
     requires { IsTrue (optional_fits T.format.encodable field.now) }
     ensures ok { OnOk result (out.new.items ≡ out.old.items ++ optional_canonical T.format.canonical field.now) }
     ensures err { OnErr result (Extends out.old.items out.new.items) }

@@ -24,9 +24,7 @@ mod dimensions;
 pub mod field;
 
 pub use diagnostic_info::{BoxedDiagnostic, DiagnosticInfo};
-pub use diagnostic_wire::{
-    append_boxed_diagnostic, append_diagnostic, read_diagnostic, skip_diagnostic,
-};
+pub use diagnostic_wire::{append_boxed_diagnostic, read_diagnostic, skip_diagnostic};
 pub use dimensions::{
     Dimensions, append_dims, dims_fit, is_counted, read_dims, read_no_dims, skip_dims,
 };

@@ -1,9 +1,8 @@
 -- What a client over a line to a server comes to that has the turns of an exchange.
-use Rattle.std.proofs.Common.{◌≡◌, ◌≤◌, ℕ, IsTrue, List, [], ◌++◌, Option, Some, None, Result, Ok}
+use Rattle.std.proofs.Common.{◌≡◌, ◌≤◌, ℕ, List, [], ◌++◌, Option, Some, None, Result, Ok}
 use Rattle.std.proofs.Common.{Err, map, take, drop, refl, sym, ◌∙◌, ap, subst, append-nil, arith}
 use Rattle.std.specs.Prelude.{IfErr, OnOk, codes}
 use Rattle.std.proofs.lemmas.List.{take-append-drop}
-use Rattle.ua_builtin.specs.DateTime.{date_time}
 use Rattle.ua_builtin.specs.declared.date_time.DateTime.{DateTime}
 use Rattle.ua_frame.specs.Agreement.{url_length}
 use Rattle.ua_frame.specs.Run.{Over}
@@ -21,7 +20,6 @@ use Rattle.ua_loopback.specs.Faults.{FailsAtStage}
 use Rattle.ua_loopback.specs.Says.{answer_times}
 use Rattle.ua_loopback.specs.declared.conversation.ConversationLog.{ConversationLog}
 use Rattle.ua_loopback.specs.declared.stage.Stage.{Stage}
-use Rattle.ua_loopback.proofs.Conversing.{conversation_read}
 use Rattle.ua_loopback.proofs.Saying.{said_by_run}
 use Rattle.ua_exchange.specs.Accepted.{AreAccepted, fault_at}
 use Rattle.ua_exchange.specs.Exchanged.{IsRefusedFor, all_said}
@@ -32,22 +30,15 @@ use Rattle.ua_exchange.specs.declared.fault.PairFault.TheVariants.{Request}
 use Rattle.ua_exchange.specs.declared.turn.Turn.{Turn}
 use Rattle.ua_exchange.specs.inside.Conversed.{IsConversed}
 use Rattle.ua_exchange.specs.inside.Counting.{FindsCrowded, FirstCrowded, HaveRoom, turns_before}
-use Rattle.ua_exchange.proofs.Judging.{accepted-all, crowded-refused, front-is, refused-for, served-all}
+use Rattle.ua_exchange.proofs.Judging.{accepted-all, crowded-refused, front-is, refused-for}
 use Rattle.ua_exchange.proofs.Texts.{word_fits}
-use Rattle.ua_exchange.proofs.Words.{hello_fits, url_fits}
+use Rattle.ua_exchange.proofs.Words.{url_fits}
 
 -- what the server says of itself can be written
 pub endpoint_fits : (e : Endpoint) → e ≡ endpoint → IsEndpointEncodable e
 endpoint_fits e is =
     subst IsEndpointEncodable (sym is)
     (record { url = url_fits; application_uri = word_fits (codes "urn:ua:server") refl refl; name = word_fits (codes "ua") refl refl })
-
--- a server reads what a client says of turns that are accepted
-pub turns-closed : (moment : DateTime) (turns : List Turn) → IsTrue (date_time.encodable moment) → AreAccepted turns
-    → ServerCloses program_limits channel (up_octets moment turns) (all_told turns)
-unfolding up_octets all_told
-turns-closed moment turns dated accepted = conversation_read program_limits program_limits (Some url) channel moment (omega arith) dated hello_fits
-    (omega arith) (served_turns turns) (served-all turns accepted)
 
 -- ---- the turns that it was to take
 

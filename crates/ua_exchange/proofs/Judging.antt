@@ -1,6 +1,6 @@
 -- That a client takes the turns that are accepted, and refuses the first that is not for the reason that is given; but for a renewal that is
 -- asked with requests in front of it.
-use Rattle.std.proofs.Common.{◌≡◌, ℕ, Bool, true, false, leb, List, [], ◌∷◌, ◌++◌, Option, Some, None}
+use Rattle.std.proofs.Common.{◌≡◌, ℕ, Bool, true, false, List, [], ◌∷◌, ◌++◌, Option, Some}
 use Rattle.std.proofs.Common.{option_map, length, take, nat_le, refl, sym, ◌∙◌, ap, subst, arith, append_assoc}
 use Rattle.std.proofs.lemmas.Bool.{leb-false, lt-leb}
 use Rattle.std.proofs.lemmas.List.{length-map, take_at}
@@ -25,7 +25,6 @@ use Rattle.ua_exchange.specs.inside.Counting.{FirstCrowded, HaveRoom, is_crowded
 use Rattle.ua_exchange.proofs.Counting.{held-within}
 use Rattle.ua_exchange.proofs.Lists.{from-front, from-place}
 use Rattle.ua_exchange.proofs.Words.{served-push}
-use Rattle.ua_channel_laws.proofs.Groups.{none_parts}
 
 -- ---- one turn
 
@@ -111,28 +110,6 @@ accepted-from start (t ∷ ts) h room = (
 pub accepted-all : (turns : List Turn) → judged.AreAcceptedUnder exchange_ack (served_turns turns) → HaveRoom turns → AreAccepted turns
 unfolding AllAfter
 accepted-all turns h room = accepted-from [] turns h room
-
--- a turn that is accepted a client takes
-room-accepted : (before : List Turn) (t : Turn) → IsAccepted before t → is_crowded before t ≡ false
-room-accepted before (Ask m) e = refl
-room-accepted before Renew e = (none_parts (leb most_tokens (tokens_counted before)) _ _ e).0
-
-none_named : (n : ℕ) (o : Option ClientFault) → option_map (fault_at n) o ≡ None → o ≡ None
-none_named n None e = refl
-none_named n (Some fault) e = absurd cc
-
-served-from : (start turns : List Turn) → AllFrom IsAccepted start turns
-    → AllFrom (judged.IsAcceptedUnder exchange_ack) (served_turns start) (served_turns turns)
-served-from start [] h = tt
-served-from start (t ∷ ts) h = (
-  none_named (length start) (refusal_served start t) (sym (refusal-same start t (room-accepted start t h.0)) ∙ h.0),
-  subst (λ (us : List (Option (List Message))). AllFrom (judged.IsAcceptedUnder exchange_ack) us (served_turns ts)) (served-push start t)
-      (served-from (start ++ t ∷ []) ts h.1),
-)
-
-pub served-all : (turns : List Turn) → AreAccepted turns → judged.AreAcceptedUnder exchange_ack (served_turns turns)
-unfolding AllAfter
-served-all turns h = served-from [] turns h
 
 -- the first that is not taken
 refused-first : (turns : List Turn) (place : ℕ) (fault : ClientFault) → judged.FirstRefusedUnder exchange_ack (served_turns turns) place fault → HaveRoom turns

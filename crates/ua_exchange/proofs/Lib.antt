@@ -1,10 +1,6 @@
 mod Lists
 mod Texts
 mod Words
-mod Waiting
-mod Saying
-mod Hearing
-mod Heard
 mod Held
 mod Counting
 mod Finding

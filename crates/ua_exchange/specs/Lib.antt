@@ -7,5 +7,4 @@ pub mod Turns
 pub mod Accepted
 pub mod Replies
 pub mod Exchanged
-pub mod Reading
 pub mod inside

@@ -5,8 +5,6 @@ use Rattle.ua_builtin.specs.declared.date_time.DateTime.{DateTime}
 use Rattle.ua_frame.specs.Limits.{HasSizes}
 use Rattle.ua_frame.specs.declared.ack.Ack.{Ack}
 use Rattle.ua_frame.specs.declared.limits.Limits.{Limits}
-use Rattle.ua_channel.specs.Agreement.{Agreement, agreement_of}
-use Rattle.ua_channel.specs.ClientSends.{hello_to}
 use Rattle.ua_nodes.specs.Table.{Nodes}
 use Rattle.ua_server.specs.State.{State, fresh}
 use Rattle.ua_server.specs.declared.endpoint.Endpoint.{Endpoint}
@@ -50,10 +48,6 @@ channel = 1
 -- what the server acknowledges to the client
 abbrev pub exchange_ack : Ack
 exchange_ack = judged.acknowledged program_limits program_limits (Some url)
-
--- what they agree to
-abbrev pub agreement : Agreement
-agreement = agreement_of program_limits (hello_to program_limits (Some url))
 
 -- the server's state when the connection begins
 abbrev pub begun_over : Nodes → State

@@ -1,11 +1,11 @@
 -- What a client sends for its operations, and what that tells a server: the definitions of
 -- `ua_loopback` for operations that make one request each, or renew.
-use Rattle.std.specs.Prelude.{ℕ, map, List, [], ◌∷◌, ◌++◌, Option, Some, None}
+use Rattle.std.specs.Prelude.{ℕ, map, List, [], ◌∷◌, Option, Some, None}
 use Rattle.ua_builtin.specs.declared.date_time.DateTime.{DateTime}
 use Rattle.ua_channel.specs.ServerTold.{Told}
 use Rattle.ua_services.specs.declared.request.Request.{Request}
 use Rattle.ua_loopback.specs.Sends.{conversation_octets}
-use Rattle.ua_loopback.specs.Turns.{conversation_told, ids_behind, opening_told, tokens_behind, turns_told}
+use Rattle.ua_loopback.specs.Turns.{conversation_told, ids_behind}
 use Rattle.ua_exchange.specs.Programs.{channel, program_limits, url}
 use Rattle.ua_exchange.specs.declared.turn.Turn.{Turn}
 use Rattle.ua_exchange.specs.declared.turn.Turn.TheVariants.{Ask, Renew}
@@ -24,18 +24,9 @@ served_turns turns = map served_turn turns
 abbrev pub id_behind : List Turn → ℕ
 id_behind before = ids_behind 2 (served_turns before)
 
--- the newest token after these operations: tokens are 1, 2, 3, .., and each renewal brings the next
--- one
-abbrev pub token_behind : List Turn → ℕ
-token_behind before = tokens_behind 1 (served_turns before)
-
 -- the bytes of a client with these operations, from the HEL to the CLO
 unfoldable pub up_octets : DateTime → List Turn → List ℕ
 up_octets moment turns = conversation_octets program_limits program_limits (Some url) channel moment (served_turns turns)
-
--- what it tells a server up to and including these operations: the opening, and each operation
-abbrev pub asking_told : List Turn → List Told
-asking_told turns = opening_told program_limits program_limits (Some url) ++ turns_told 1 2 (served_turns turns)
 
 -- all that it tells: the same, and the CLO
 unfoldable pub all_told : List Turn → List Told

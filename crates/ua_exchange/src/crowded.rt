@@ -60,7 +60,7 @@ impl Last {
 }
 
 /// The place of the first renewal for which too many tokens count as held, if there is one.
-pub fn find_crowded(turns: &[Turn]) -> Option<usize>
+pub(crate) fn find_crowded(turns: &[Turn]) -> Option<usize>
     ensures found { FindsCrowded turns.now result }
 {
     let mut last = Last {

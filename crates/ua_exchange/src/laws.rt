@@ -1,49 +1,18 @@
 //! Laws of what two ends send to each other, and of what each holds meanwhile. Each is the contract
 //! of a function that does nothing, or only looks.
 
-ghost use Rattle.std.specs.Prelude.{ℕ, ◌≤◌, IsTrue, List};
-ghost use Rattle.std.specs.List.{AllByRecursion};
-ghost use Rattle.ua_builtin.specs.DateTime.{date_time};
-ghost use Rattle.ua_builtin.specs.declared.date_time.DateTime.{DateTime};
-ghost use Rattle.ua_frame.specs.declared.limits.Limits.{Limits};
+ghost use Rattle.std.specs.Prelude.{ℕ, ◌≤◌, List};
 ghost use Rattle.ua_frame.specs.declared.frame.Frame.{Frame};
 ghost use Rattle.ua_channel.specs.Asks.{Placed};
 ghost use Rattle.ua_channel.specs.Client.{ClientStands, client_bound_behind, held_octets, client_limits};
 ghost use Rattle.ua_channel.specs.Received.{received};
-ghost use Rattle.ua_channel_laws.specs.ServerReads.{ServerCloses};
 ghost use Rattle.ua_channel.specs.ServerStands.{ChannelStands as ServerStands, bound_after};
 ghost use Rattle.ua_channel.specs.ServerStands.{held_after, limits_of as server_limits};
 ghost use Rattle.ua_server.specs.Served.{channel_in};
-ghost use Rattle.ua_server.specs.State.{State};
-ghost use Rattle.ua_exchange.specs.Accepted.{AreAccepted};
-ghost use Rattle.ua_exchange.specs.Exchanged.{all_said};
-ghost use Rattle.ua_exchange.specs.Programs.{AreOurs, channel, most_held};
-ghost use Rattle.ua_exchange.specs.Reading.{EndsAtRenewal, TellsClient, all_heard, asks_of, in_order};
-ghost use Rattle.ua_exchange.specs.Turns.{all_told, up_octets};
-ghost use Rattle.ua_exchange.specs.declared.turn.Turn.{Turn};
+ghost use Rattle.ua_exchange.specs.Programs.{AreOurs, most_held};
 
 use ua_channel::ClientChannel;
 use ua_server::Server;
-
-/// A server reads what a client sends of operations that are accepted: it refuses no frame of it,
-/// and its events are just these operations, in their order.
-pub fn turns_reach_the_server()
-    ensures { (limits : Limits) (moment : DateTime) (turns : List Turn) → AreOurs limits
-        → IsTrue (date_time.encodable moment) → AreAccepted turns
-        → ServerCloses limits channel (up_octets moment turns) (all_told turns) }
-{}
-
-/// A client asks operations that are accepted, in any groups in which a renewal comes last, each
-/// group where the answers to the operations before it end. It reads what a server sends for them:
-/// it refuses no frame of it, and its events are, in order, the reply to each request under its own
-/// RequestId, or that the server gave it up, and the token that each renewal brings.
-pub fn answers_reach_the_client()
-    ensures { (limits : Limits) (first : State) (moment : DateTime) (groups : List (List Turn)) → AreOurs limits
-        → IsTrue (date_time.encodable moment)
-        → AllByRecursion EndsAtRenewal groups → AreAccepted (in_order groups)
-        → TellsClient limits (asks_of first moment groups) (all_said first moment (in_order groups))
-        (all_heard first moment (in_order groups)) }
-{}
 
 /// A server never holds more than was agreed, whatever came and however it was fragmented, and so
 /// after each prefix of what a client sends. With the limits of the program that is at most 4259839

@@ -7,7 +7,7 @@ use Rattle.ua_texts.specs.PlainLeaf.{Either}
 use Rattle.ua_fields.specs.declared.style.FieldStyle.{FieldStyle}
 use Rattle.ua_fields.specs.Styles.{exact_field_style}
 use Rattle.ua_fields.specs.Messages.{AreMessageLines, message_lines}
-use Rattle.ua_fields.specs.Tree.{exact_leaf_text, Leaf, IsText, Tree, Array, Elements, Fields, text, opened, array, structure, null, elements}
+use Rattle.ua_fields.specs.Tree.{Leaf, IsText, Tree, Array, Elements, Fields, text, opened, array, structure, null, elements}
 use Rattle.ua_fields.specs.Tree.{no_elements, element, no_fields, field, count, deeper, line, lines, array_lines, element_lines, field_lines}
 use Rattle.ua_fields.specs.Tree.{field_margin, field_path, element_path, IsBehind, IsArrayBehind, AreElementsBehind, AreFieldsBehind}
 
@@ -110,53 +110,6 @@ mutual
       exact_fields names margin path h.0 others new h.2
       ∙ ap (λ (t : List ℕ). t ++ field_lines names margin path others) (exact_behind names (field_margin margin tree) (field_path path name) old tree h.0 h.1)
       ∙ append_assoc old (lines names (field_margin margin tree) (field_path path name) tree) (field_lines names margin path others)
-
--- and the lines of a tree are such ones
-mutual
-  behind_exact : (names : Bool) (margin path old : List ℕ) (tree : Tree) (new : List ℕ) → new ≡ old ++ lines names margin path tree
-      → IsBehind (exact_field_style names) margin path old tree new
-  behind_exact names margin path old (text leaf) new h = (exact_leaf_text names leaf, h, refl)
-  behind_exact names margin path old (opened leaf inner) new h = (
-    exact_leaf_text names leaf,
-    old ++ line margin path (exact_leaf_text names leaf),
-    refl,
-    refl,
-    h,
-  )
-  behind_exact names margin path old (array items) new h = array_exact names margin path old items new h
-  behind_exact names margin path old (structure inner) new h = fields_exact names margin path old inner new h
-
-  array_exact : (names : Bool) (margin path old : List ℕ) (items : Array) (new : List ℕ) → new ≡ old ++ array_lines names margin path items
-      → IsArrayBehind (exact_field_style names) margin path old items new
-  array_exact names margin path old null new h = h
-  array_exact names margin path old (elements items) new h =
-      elements_exact names (deeper margin) path 0 (old ++ line margin path (decimal (count items))) items new
-      (h ∙ sym (append_assoc old (line margin path (decimal (count items))) (element_lines names (deeper margin) path 0 items)))
-
-  elements_exact : (names : Bool) (margin path : List ℕ) (index : ℕ) (old : List ℕ) (items : Elements) (new : List ℕ)
-      → new ≡ old ++ element_lines names margin path index items → AreElementsBehind (exact_field_style names) margin path index old items new
-  elements_exact names margin path index old no_elements new h = h ∙ append-nil old
-  elements_exact names margin path index old (element tree others) new h =
-      let mid = old ++ lines names margin (element_path path index) tree in (
-        mid,
-        behind_exact names margin (element_path path index) old tree mid refl,
-        elements_exact names margin path (index + 1) mid others new
-            (h ∙ sym (append_assoc old (lines names margin (element_path path index) tree) (element_lines names margin path (index + 1) others))),
-      )
-
-  fields_exact : (names : Bool) (margin path old : List ℕ) (inner : Fields) (new : List ℕ) → new ≡ old ++ field_lines names margin path inner
-      → AreFieldsBehind (exact_field_style names) margin path old inner new
-  fields_exact names margin path old no_fields new h = h ∙ append-nil old
-  fields_exact names margin path old (field name tree others) new h =
-      let mid = old ++ lines names (field_margin margin tree) (field_path path name) tree in (
-        mid,
-        behind_exact names (field_margin margin tree) (field_path path name) old tree mid refl,
-        fields_exact names margin path mid others new
-            (h ∙ sym (append_assoc old (lines names (field_margin margin tree) (field_path path name) tree) (field_lines names margin path others))),
-      )
-
-pub message_exact : (names : Bool) (tree : Tree) → AreMessageLines (exact_field_style names) tree (message_lines names tree)
-message_exact names tree = behind_exact names (codes "  ") [] [] tree (message_lines names tree) refl
 
 -- a message's lines, where they are exact, are those of its tree
 pub exact_message : (names : Bool) (tree : Tree) (told : List ℕ) → AreMessageLines (exact_field_style names) tree told → told ≡ message_lines names tree

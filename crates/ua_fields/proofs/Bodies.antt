@@ -3,7 +3,6 @@ use Rattle.std.specs.Prelude.{◌≡◌, ℕ, Bool, List, ◌++◌, Option, Some
 use Rattle.std.proofs.Common.{refl, ap, ◌∙◌}
 use Rattle.ua_opening.specs.SecureChannel.{open_request, close_request}
 use Rattle.ua_opening.proofs.SecureChannelLawful.{lawful_open_request, lawful_close_request}
-use Rattle.ua_opening.specs.Header.{service_fault}
 use Rattle.ua_opening.specs.Message.{body_of, message}
 use Rattle.ua_opening.specs.Open.{answer_read}
 use Rattle.ua_opening.proofs.MessageRead.{body_of-found, answer_read-is}
@@ -13,14 +12,12 @@ use Rattle.ua_services.proofs.ResponseLawful.{lawful_response}
 use Rattle.ua_services.specs.Request.{request}
 use Rattle.ua_services.specs.Response.{response}
 use Rattle.ua_texts.specs.PlainLeaf.{Adds}
-use Rattle.ua_fields.proofs.Behind.{exact_message, message_exact}
+use Rattle.ua_fields.proofs.Behind.{exact_message}
 use Rattle.ua_fields.specs.Styles.{exact_field_style}
 use Rattle.ua_fields.specs.Tree.{Tree}
 use Rattle.ua_fields.specs.Messages.{AreMessageLines, message_lines, request_tree, response_tree}
-use Rattle.ua_fields.specs.Messages.{open_request_tree, open_answer_tree, close_request_tree, service_fault_tree}
-use Rattle.ua_fields.specs.Bodies.{AreBodyFields, AreFields, IsBodyText, IsFound, IsHeaderText, behind_id, body_fields, fields_found, header_fields}
-use Rattle.ua_fields.specs.declared.side.Side.{Side}
-use Rattle.ua_fields.specs.declared.side.Side.TheVariants.{Client, Server}
+use Rattle.ua_fields.specs.Messages.{open_request_tree, open_answer_tree, close_request_tree}
+use Rattle.ua_fields.specs.Bodies.{AreBodyFields, AreFields, IsBodyText, IsFound, body_fields, fields_found}
 use Rattle.ua_fields.specs.declared.body.BodyKind.{BodyKind}
 use Rattle.ua_fields.specs.declared.body.BodyKind.TheVariants.{Request, Response, OpenRequest, OpenResponse, CloseRequest}
 
@@ -47,23 +44,6 @@ exact_found : {A : Type 0} (names : Bool) (tree : A → Tree) (found : Option A)
 exact_found names tree None text h = h
 exact_found names tree (Some m) text h = exact_message names (tree m) text h
 
-found_exact : {A : Type 0} (names : Bool) (tree : A → Tree) (found : Option A)
-    → IsFound (λ m. AreMessageLines (exact_field_style names) (tree m)) found (fields_found (λ m. message_lines names (tree m)) found)
-found_exact names tree None = refl
-found_exact names tree (Some m) = message_exact names (tree m)
-
-pub text_exact : (names : Bool) (kind : BodyKind) (octets : List ℕ) → IsBodyText (exact_field_style names) kind octets (body_fields names kind octets)
-unfolding body_fields
-text_exact names Request octets = found_exact names request_tree (body_of request octets)
-text_exact names Response octets = found_exact names response_tree (body_of response octets)
-text_exact names OpenRequest octets = found_exact names open_request_tree (body_of (message 446 open_request) octets)
-text_exact names OpenResponse octets = found_exact names open_answer_tree (answer_read octets)
-text_exact names CloseRequest octets = found_exact names close_request_tree (body_of (message 452 close_request) octets)
-
-pub header_exact : (names : Bool) (side : Side) (octets : List ℕ) → IsHeaderText (exact_field_style names) side octets (header_fields names side octets)
-header_exact names Client octets = found_exact names close_request_tree (behind_id close_request octets)
-header_exact names Server octets = found_exact names service_fault_tree (behind_id service_fault octets)
-
 pub exact_text_of : (names : Bool) (kind : BodyKind) (octets text : List ℕ) → IsBodyText (exact_field_style names) kind octets text
     → text ≡ body_fields names kind octets
 unfolding body_fields
@@ -72,11 +52,6 @@ exact_text_of names Response octets text h = exact_found names response_tree (bo
 exact_text_of names OpenRequest octets text h = exact_found names open_request_tree (body_of (message 446 open_request) octets) text h
 exact_text_of names OpenResponse octets text h = exact_found names open_answer_tree (answer_read octets) text h
 exact_text_of names CloseRequest octets text h = exact_found names close_request_tree (body_of (message 452 close_request) octets) text h
-
-pub exact_header : (names : Bool) (side : Side) (octets text : List ℕ) → IsHeaderText (exact_field_style names) side octets text
-    → text ≡ header_fields names side octets
-exact_header names Client octets text h = exact_found names close_request_tree (behind_id close_request octets) text h
-exact_header names Server octets text h = exact_found names service_fault_tree (behind_id service_fault octets) text h
 
 pub exact_body : {E : Type 0} (r : Result (Unit {0}) E) (names : Bool) (kind : BodyKind) (octets old new : List ℕ)
     → Adds r old new (IsBodyText (exact_field_style names) kind octets) → OnOk r (new ≡ old ++ body_fields names kind octets)

@@ -8,7 +8,6 @@ use Rattle.ua_fields.specs.declared.style.FieldStyle.{FieldStyle}
 use Rattle.ua_fields.specs.Messages.{AreMessageLines}
 use Rattle.ua_fields.specs.Printing.{BreaksOffLines, EachHasText, PrintsText, PrintsLines}
 use Rattle.ua_texts.specs.PlainLeaf.{Either}
-use Rattle.ua_fields.specs.Tree.{IsPlainText, exact_leaf_text}
 use Rattle.ua_fields.specs.Tree.{Tree, Array, Elements, Fields, text, opened, array, structure, null, elements}
 use Rattle.ua_fields.specs.Tree.{no_elements, element, no_fields, field, count, deeper, line, field_margin, field_path, element_path}
 use Rattle.ua_fields.specs.Tree.{IsBehind, IsArrayBehind, AreElementsBehind, AreFieldsBehind}
@@ -59,12 +58,6 @@ prints_then a b c ka kb kc First Second Both f h k = record {
 }
 
 -- ---- the lines that there are, where each value has a text
-
--- exact texts are there
-pub each_has_text : (style : FieldStyle) → style.plain ≡ false → EachHasText style
-each_has_text style exact leaf =
-    let shown = exact_leaf_text style.names leaf in
-    (shown, subst (λ (b : Bool). Either b (IsPlainText style.names leaf shown) (shown ≡ shown)) (sym exact) refl)
 
 opened_has : (plain : Bool) (mid : List ℕ) (Is : List ℕ → List ℕ → Type 0) → ((new : List ℕ) × Is mid new)
     → (new : List ℕ) × Either plain (Is mid new) (new ≡ mid)

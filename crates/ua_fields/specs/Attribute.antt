@@ -1,4 +1,3 @@
--- Written by `tools/add_service.py --write` from `schema/attribute.txt`.
 -- The fields of the structures of the services Read and Write.
 use Rattle.std.specs.Prelude.{[], codes, ◌∷◌}
 use Rattle.ua_structures.specs.declared.attribute.ReadRequest.{ReadRequest}

@@ -1,4 +1,3 @@
--- Written by `tools/add_service.py --write` from `schema/discovery.txt`.
 -- The fields of the structures of the service GetEndpoints.
 use Rattle.std.specs.Prelude.{[], codes, ◌∷◌}
 use Rattle.ua_structures.specs.declared.discovery.ApplicationDescription.{ApplicationDescription}

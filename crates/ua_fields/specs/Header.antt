@@ -1,4 +1,3 @@
--- Written by `tools/add_service.py --write` from `schema/header.txt`.
 -- The fields of the structures of the headers and the ServiceFault.
 use Rattle.std.specs.Prelude.{[], codes, ◌∷◌}
 use Rattle.ua_opening.specs.declared.header.RequestHeader.{RequestHeader}

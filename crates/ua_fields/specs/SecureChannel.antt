@@ -1,4 +1,3 @@
--- Written by `tools/add_service.py --write` from `schema/secure_channel.txt`.
 -- The fields of the structures of the SecureChannel services.
 use Rattle.std.specs.Prelude.{[], codes, ◌∷◌}
 use Rattle.ua_opening.specs.declared.secure_channel.CloseRequest.{CloseRequest}

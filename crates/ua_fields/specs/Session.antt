@@ -1,4 +1,3 @@
--- Written by `tools/add_service.py --write` from `schema/session.txt`.
 -- The fields of the structures of the Session services.
 use Rattle.std.specs.Prelude.{[], codes, ◌∷◌}
 use Rattle.ua_structures.specs.declared.session.ActivateSessionRequest.{ActivateSessionRequest}

@@ -1,4 +1,3 @@
-//! Written by `tools/add_service.py --write` from `schema/attribute.txt`.
 //! The structures of the services Read and Write, as lines.
 
 use crate::lines::{Lines, Place, push_fields};

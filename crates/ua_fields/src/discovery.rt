@@ -1,4 +1,3 @@
-//! Written by `tools/add_service.py --write` from `schema/discovery.txt`.
 //! The structures of the service GetEndpoints, as lines.
 
 use crate::lines::{Lines, Place, push_fields};

@@ -1,4 +1,3 @@
-//! Written by `tools/add_service.py --write` from `schema/header.txt`.
 //! The structures of the headers and the ServiceFault, as lines.
 
 use crate::lines::{Lines, Place, push_fields};

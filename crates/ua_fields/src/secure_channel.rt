@@ -1,4 +1,3 @@
-//! Written by `tools/add_service.py --write` from `schema/secure_channel.txt`.
 //! The structures of the SecureChannel services, as lines.
 
 use crate::lines::{Lines, Place, push_fields};

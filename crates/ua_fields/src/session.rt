@@ -1,4 +1,3 @@
-//! Written by `tools/add_service.py --write` from `schema/session.txt`.
 //! The structures of the Session services, as lines.
 
 use crate::lines::{Lines, Place, push_fields};

@@ -9,7 +9,6 @@ pub mod Parts
 pub mod RawFrames
 pub mod Readers
 pub mod Readings
-pub mod RunFrames
 pub mod SameRules
 pub mod Streams
 pub mod Unique

@@ -1,9 +1,9 @@
 -- Values whose encoding is the whole of some octets.
-use Rattle.std.proofs.Common.{◌≡◌, ℕ, ◌≤◌, List, [], ◌∷◌, Option, Some, None, refl, sym, ◌∙◌, ap, subst, arith, append-nil}
+use Rattle.std.proofs.Common.{◌≡◌, ℕ, List, [], ◌∷◌, Option, Some, None, refl, sym, ◌∙◌, ap, subst, arith, append-nil}
 use Rattle.ua_wire.specs.Exact.{Exact}
-use Rattle.ua_wire.specs.Format.{Flat, Format, flat, most_levels, Within, IsSound, IsLawful, IsWhole}
+use Rattle.ua_wire.specs.Format.{Flat, flat, IsSound, IsWhole}
 use Rattle.ua_wire.proofs.Readers.{some_is}
-use Rattle.ua_frame.specs.Whole.{if_nothing_left, whole_of, decoded_whole}
+use Rattle.ua_frame.specs.Whole.{if_nothing_left, whole_of}
 
 -- ---- by an exact reader
 
@@ -40,17 +40,3 @@ no_value f sound octets h (Some v) e = absurd (h v (omega arith) (encodes_whole 
 pub whole_read : {A : Type 0} (f : Flat A) → IsSound f → (octets : List ℕ) (read : Option A) → IsWhole (flat f) octets read → whole_of f octets ≡ read
 whole_read f sound octets None h = no_value f sound octets h (whole_of f octets) refl
 whole_read f sound octets (Some v) h = whole_encodes f sound octets v h.0
-
--- ---- of any format
-
--- what the octets encode, within the levels that are read, is the body that they are
-pub body_encodes : {A : Type 0} (f : Format A) → IsLawful f → (octets : List ℕ) (v : A) → f.depth v ≤ most_levels → f.encodes v octets
-    → decoded_whole f octets ≡ Some v
-unfolding decoded_whole
-body_encodes f lawful octets v within h = all_read (Within f.encodes f.depth most_levels) (f.decode most_levels) (lawful.exact most_levels) octets v (h, within)
-
-pub encodes_body : {A : Type 0} (f : Format A) → IsLawful f → (octets : List ℕ) (v : A) → decoded_whole f octets ≡ Some v
-    → f.encodes v octets × (f.depth v ≤ most_levels)
-unfolding decoded_whole
-encodes_body f lawful octets v h = found_all (Within f.encodes f.depth most_levels) (f.decode most_levels) (lawful.exact most_levels) octets v
-    (f.decode most_levels octets) refl h

@@ -1,10 +1,9 @@
 -- Laws of streams.
-use Rattle.std.specs.Prelude.{◌≡◌, ◌↔◌, ℕ, List, ◌++◌, map}
+use Rattle.std.specs.Prelude.{◌≡◌, ◌↔◌, ℕ, List}
 use Rattle.ua_frame.specs.declared.frame.Frame.{Frame}
 use Rattle.ua_frame.specs.FirstWrong.{FirstWrong}
-use Rattle.ua_frame.specs.Frames.{Frames, frame_octets}
-use Rattle.ua_frame.specs.Run.{Rules, Run, End, Going, Stopped}
-use Rattle.ua_frame.specs.Same.{SameOn, SameBehind, renamed, end_renamed}
+use Rattle.ua_frame.specs.Frames.{Frames}
+use Rattle.ua_frame.specs.Run.{Rules, Run, End, Stopped}
 
 -- two readings of a stream are one
 pub record IsSame {X : Type 0} (fs gs : List Frame) (x y : List ℕ) (e d : End X) : Type 0 where
@@ -52,40 +51,3 @@ pub record Framing (octets : List ℕ) : Type 0 where
 -- any bytes are frames and a rest
 abbrev pub HaveFrames : Type 0
 HaveFrames = (octets : List ℕ) → Framing octets
-
--- bytes by their sizes are these frames, and then some more
-pub record BeginWith (frames : List Frame) (raws : List (List ℕ)) : Type 0 where
-  pub behind : List (List ℕ)
-  pub parts : raws ≡ map frame_octets frames ++ behind
-
--- the frames of a reading are the first frames of the bytes
-abbrev pub ReadsFirstFrames : {E X : Type 0} → Rules E X → Type 0
-ReadsFirstFrames {X = X} R =
-    (octets : List ℕ) (frames : List Frame) (rest : List ℕ) (end : End X) (raws : List (List ℕ)) (r : List ℕ)
-    → Run R octets frames rest end → Frames octets raws r → BeginWith frames raws
-
--- where a stream goes on, they are all its frames
-abbrev pub ReadsAllFrames : {E X : Type 0} → Rules E X → Type 0
-ReadsAllFrames R = (octets : List ℕ) (frames : List Frame) (rest : List ℕ) → Run R octets frames rest Going → Frames octets (map frame_octets frames) rest
-
--- after a rejected or a last frame the bytes are ignored
-abbrev pub EndsStay : {E X : Type 0} → Rules E X → Type 0
-EndsStay {X = X} R =
-    (octets more : List ℕ) (frames : List Frame) (rest : List ℕ) (end : End X) → (end ≡ Going → ⊥)
-    → Run R octets frames rest end → Run R (octets ++ more) frames (rest ++ more) end
-
--- rules that agree on the frames of a stream that goes on read it alike
-abbrev pub ReadsAlike : {E F X : Type 0} → Rules E X → Rules F X → Type 0
-ReadsAlike R S = (octets : List ℕ) (frames : List Frame) (rest : List ℕ) → SameOn R S frames → Run R octets frames rest Going → Run S octets frames rest Going
-
--- rules that agree also after these frames see it end alike
-abbrev pub EndsAlike : {E F X : Type 0} → Rules E X → Rules F X → Type 0
-EndsAlike {X = X} R S =
-    (octets : List ℕ) (frames : List Frame) (rest : List ℕ) (end : End X) → SameBehind R S frames
-    → Run R octets frames rest end → Run S octets frames rest end
-
--- by whatever names the reasons go, a stream is read alike
-abbrev pub ReadsByOtherNames : {E X Y : Type 0} → (X → Y) → Rules E X → Type 0
-ReadsByOtherNames {X = X} name R =
-    (octets : List ℕ) (frames : List Frame) (rest : List ℕ) (end : End X)
-    → Run R octets frames rest end → Run (renamed name R) octets frames rest (end_renamed name end)

@@ -1,7 +1,6 @@
 pub mod Kinds
 pub mod Frames
 pub mod Limits
-pub mod LimitsBuilder
 pub mod Messages
 pub mod Whole
 pub mod Agreement

@@ -1,6 +1,6 @@
 -- Values whose encoding is the whole of some bytes.
 use Rattle.std.specs.Prelude.{ℕ, List, [], ◌∷◌, Option, Some, None}
-use Rattle.ua_builtin.specs.Format.{Flat, Format, most_levels}
+use Rattle.ua_builtin.specs.Format.{Flat}
 
 -- the value that was read, if no bytes are left after it
 abbrev pub if_nothing_left : {A : Type 0} → Option (A × List ℕ) → Option A
@@ -11,8 +11,3 @@ if_nothing_left (Some (v, x ∷ rest)) = None
 -- the value whose encoding is the whole of the bytes, if there is one
 unfoldable pub whole_of : {A : Type 0} → Flat A → List ℕ → Option A
 whole_of f octets = if_nothing_left (f.decode octets)
-
--- the value with at most the greatest nesting depth whose encoding is the whole of the bytes, if
--- there is one: 01 alone is a Boolean, and 01 00 is none
-unfoldable pub decoded_whole : {A : Type 0} → Format A → List ℕ → Option A
-decoded_whole f octets = if_nothing_left (f.decode most_levels octets)

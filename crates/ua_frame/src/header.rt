@@ -88,7 +88,7 @@ pub fn judge(gate: &Gate, header: &[u8]) -> Option<FrameFault>
 /// The frame of a header and of all bytes after it.
 #[tactic(auto, using(crate::proofs::Fronts::header_frame))]
 #[inline(always)]
-pub fn make_frame(header: &[u8], body: Bytes) -> Frame
+pub(crate) fn make_frame(header: &[u8], body: Bytes) -> Frame
     requires head { length header.now ≡ 8 }
     requires sized { size_of header.now ≡ 8 + length body }
     requires known { IsSome (kind_of header.now) }
@@ -106,7 +106,7 @@ pub fn make_frame(header: &[u8], body: Bytes) -> Frame
 /// The size of the frame with which a fragment begins, where the filter accepts it and the fragment has
 /// all of it.
 #[inline(always)]
-pub fn whole_size(gate: &Gate, piece: &[u8]) -> Option<usize>
+pub(crate) fn whole_size(gate: &Gate, piece: &[u8]) -> Option<usize>
     ensures { IfSome result (BeginsWhole gate.now piece.now) }
 {
     if piece.len() < HEADER_LEN {
@@ -125,7 +125,7 @@ pub fn whole_size(gate: &Gate, piece: &[u8]) -> Option<usize>
 
 /// The frame that these bytes are. Its body is a copy, in memory of its own.
 #[inline(always)]
-pub fn read_frame(alloc: Global, octets: &[u8]) -> Result<Frame, AllocError>
+pub(crate) fn read_frame(alloc: Global, octets: &[u8]) -> Result<Frame, AllocError>
     requires raw { IsRawFrame octets.now }
     requires known { IsSome (kind_of octets.now) }
     ensures octets { IfOk result (λ frame. octets.now ≡ frame_octets frame) }

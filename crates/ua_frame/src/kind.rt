@@ -39,7 +39,7 @@ impl Kind {
 
     /// The minimum size of a frame of this kind, in bytes with its header.
     #[inline]
-    pub fn least_size(self) -> u32
+    pub(crate) fn least_size(self) -> u32
         ensures { result ≡ least_size self }
     {
         match self {

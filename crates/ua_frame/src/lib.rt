@@ -29,7 +29,6 @@ mod hello;
 mod kind;
 pub mod laws;
 mod limits;
-mod limits_builder;
 mod reader;
 mod unfinished;
 
@@ -43,5 +42,4 @@ pub use header::{HEADER_LEN, header_octets};
 pub use hello::Hello;
 pub use kind::Kind;
 pub use limits::{LEAST_BUFFER_SIZE, Limits};
-pub use limits_builder::{LimitsBuilder, LimitsFault};
 pub use reader::FrameReader;

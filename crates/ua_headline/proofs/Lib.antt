@@ -12,7 +12,6 @@ mod Answering
 mod Steps
 mod Settling
 mod Doing
-mod Examples
 mod Honest
 mod Calling
 mod Replied

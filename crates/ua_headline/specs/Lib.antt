@@ -6,6 +6,4 @@ pub mod Clients
 pub mod Calling
 pub mod AsAnswered
 pub mod Questions
-pub mod Example
-pub mod Records
 pub mod Headline

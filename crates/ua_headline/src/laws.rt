@@ -26,7 +26,6 @@ ghost use Rattle.ua_server.specs.Stepping.{ServerStands};
 ghost use Rattle.ua_headline.specs.Clients.{Deed, IsLinked, turn_of, turns_of};
 ghost use Rattle.ua_headline.specs.EachCall.{body_answered, client_events, id_after, operations_of};
 ghost use Rattle.ua_headline.specs.EachCall.{reply_to_call, server_bytes};
-ghost use Rattle.ua_headline.specs.Example.{example_ends, example_turns_told, example_turns};
 ghost use Rattle.ua_headline.specs.Talk.{AreRoundsAccepted, AreFirstOf, CanOpen, Ends, GotOf, IsPrefix, TookOf};
 ghost use Rattle.ua_headline.specs.Talk.{asks_in, both_opened, heard_in, rounds_in};
 ghost use Rattle.ua_headline.specs.Talk.{sent_in, state_behind_turns, told_by_turns};
@@ -140,12 +139,3 @@ pub fn each_call_has_its_reply()
     ends_connect();
     rounds_reach_both_ends();
 }
-
-/// There are such conversations: with the least limits, two calls with a renewal between them, sent
-/// at once, and a call after the answers to these, which goes under the new token.
-pub fn there_are_conversations()
-    ensures opens { CanOpen example_ends }
-    ensures accepted { AreRoundsAccepted example_ends (both_opened example_ends)
-        (rounds_in example_ends example_turns) }
-    ensures told { told_by_turns example_ends example_turns ≡ example_turns_told }
-{}

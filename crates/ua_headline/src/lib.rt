@@ -12,5 +12,3 @@ pub mod question_laws;
 mod records;
 pub mod reply_laws;
 pub mod short_law;
-
-pub use records::is_honest;

@@ -110,14 +110,14 @@ fn limits_of_hello(hello: Option<&Hello>) -> Limits
 }
 
 /// The limits of a server, by its bytes.
-pub fn limits_of_server(alloc: Global, octets: &[u8]) -> Result<Limits, AllocError>
+pub(crate) fn limits_of_server(alloc: Global, octets: &[u8]) -> Result<Limits, AllocError>
     ensures { IfOk result (AreServerLimits octets.now) }
 {
     Ok(limits_of_ack(first_ack(alloc, octets)?))
 }
 
 /// The limits of a client, by its bytes.
-pub fn limits_of_client(alloc: Global, octets: &[u8]) -> Result<Limits, AllocError>
+pub(crate) fn limits_of_client(alloc: Global, octets: &[u8]) -> Result<Limits, AllocError>
     ensures { IfOk result (AreClientLimits octets.now) }
 {
     let hello = first_hello(alloc, octets)?;

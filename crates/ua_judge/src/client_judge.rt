@@ -78,7 +78,7 @@ fn take_next(server: &mut ServerChannel, octets: &[u8], at: usize) -> Result<Tak
 
 /// The verdict of a server with these limits, whose channel has this SecureChannelId, on the bytes of
 /// a client.
-pub fn judge_client(
+pub(crate) fn judge_client(
     alloc: Global,
     limits: Limits,
     channel: u32,

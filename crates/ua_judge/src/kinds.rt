@@ -32,7 +32,7 @@ fn encoding_of<S: Source>(alloc: Global, body: &mut S) -> Result<Option<u32>, Al
 }
 
 /// The kind of request that a body begins as.
-pub fn request_kind_of(alloc: Global, body: &[u8]) -> Result<Option<RequestKind>, AllocError>
+pub(crate) fn request_kind_of(alloc: Global, body: &[u8]) -> Result<Option<RequestKind>, AllocError>
     ensures { IfOk result (λ kind. kind ≡ request_kind_of body.now) }
 {
     match encoding_of(alloc, &mut Octets::new(body))? {
@@ -65,7 +65,7 @@ fn kind_asked(requests: &[Named], id: u32) -> Option<RequestKind>
 }
 
 /// Whether a reply to one of these requests is of another kind.
-pub fn is_misfit(
+pub(crate) fn is_misfit(
     alloc: Global,
     requests: &[Named],
     id: u32,

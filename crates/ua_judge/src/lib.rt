@@ -33,14 +33,12 @@ mod start;
 mod taken;
 mod verdict;
 
-pub use client_judge::judge_client;
 pub use field::Field;
 pub use guess::guess_marks;
 pub use judging::{judge_down, judge_up};
 pub use mark::Mark;
 pub use named::Named;
 pub use openings::Opened;
-pub use renumbering::renumber;
 pub use server_judge::judge_server;
 pub use start::frame_start;
 pub use verdict::Verdict;

@@ -14,7 +14,7 @@ fn or_most(limit: u32) -> u32
 
 /// Limits of these numbers as an end names them: 0 is no limit of messages, and a buffer below the
 /// least size, which the other end judges, has the least.
-pub fn limits_with(receive: u32, send: u32, message: u32, chunks: u32) -> Limits
+pub(crate) fn limits_with(receive: u32, send: u32, message: u32, chunks: u32) -> Limits
     ensures { HasLimits result receive send message chunks }
 {
     Limits {

@@ -26,7 +26,7 @@ fn is_known(name: &Named, number: u32, end: usize) -> bool
 
 /// Which of the names a number is that stands before a place: the last one of this number, counted
 /// from 1; 0 where there is none.
-pub fn rank_of(names: &[Named], number: u32, end: usize) -> usize
+pub(crate) fn rank_of(names: &[Named], number: u32, end: usize) -> usize
     ensures within { result ≤ length names.now }
     ensures rank { result ≡ rank (is_known number end) names.now }
 {

@@ -57,7 +57,7 @@ fn push_opened(alloc: Global, frame: &[u8], found: &mut Vec<Opened>) -> Result<(
 }
 
 /// What the OPN responses of a server brought, in order.
-pub fn openings_in(alloc: Global, octets: &[u8]) -> Result<Vec<Opened>, AllocError>
+pub(crate) fn openings_in(alloc: Global, octets: &[u8]) -> Result<Vec<Opened>, AllocError>
     ensures { IfOk result (λ found. AreOpenings octets.now found.items) }
 {
     let mut found = Vec::new(alloc);

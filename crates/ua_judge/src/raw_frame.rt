@@ -9,7 +9,7 @@ use ua_frame::Kind;
 use ua_wire::{front_number, split_counted, split_number};
 
 /// The UInt32 at a place.
-pub fn number_from(octets: &[u8], place: usize) -> u32
+pub(crate) fn number_from(octets: &[u8], place: usize) -> u32
     requires { place + 4 ≤ length octets.now }
     ensures { result ≡ number_from place octets.now }
 {
@@ -93,7 +93,7 @@ fn opening_place(frame: &[u8]) -> Option<usize>
 }
 
 /// The place of the TokenId of a frame that has one.
-pub fn token_place(frame: &[u8]) -> Option<usize>
+pub(crate) fn token_place(frame: &[u8]) -> Option<usize>
     requires { 8 ≤ length frame.now }
     ensures place { result ≡ token_place frame.now }
     ensures within { IfSome result (λ place. place + 4 ≤ length frame.now) }
@@ -105,7 +105,7 @@ pub fn token_place(frame: &[u8]) -> Option<usize>
 }
 
 /// The place of the RequestId of a frame that has one.
-pub fn id_place(frame: &[u8]) -> Option<usize>
+pub(crate) fn id_place(frame: &[u8]) -> Option<usize>
     requires { 8 ≤ length frame.now }
     ensures place { result ≡ id_place frame.now }
     ensures within { IfSome result (λ place. place + 4 ≤ length frame.now) }

@@ -47,7 +47,7 @@ fn push_renumbered(
 }
 
 /// The bytes of a stream, each frame renumbered by the numbers that the other end chose.
-pub fn renumber(
+pub(crate) fn renumber(
     alloc: Global,
     field: Field,
     names: &[Named],

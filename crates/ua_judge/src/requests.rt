@@ -126,7 +126,7 @@ fn push_request(
 
 /// The requests that a client sent, in order: each OPN, and each message that is not aborted, where
 /// its last chunk ends.
-pub fn requests_in(alloc: Global, octets: &[u8]) -> Result<Vec<Named>, AllocError>
+pub(crate) fn requests_in(alloc: Global, octets: &[u8]) -> Result<Vec<Named>, AllocError>
     ensures { IfOk result (λ requests. AreRequests octets.now requests.items) }
 {
     let mut requests = Vec::new(alloc);

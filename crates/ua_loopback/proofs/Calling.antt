@@ -1,5 +1,5 @@
 -- What calls of a client over a line to a server come to, behind a talk so far.
-use Rattle.std.proofs.Common.{◌≡◌, ◌⊎◌, inl, inr, ℕ, IsTrue, List, [], ◌∷◌, ◌++◌, Option, Some, None, Result, Ok, Err, ◌≤◌, map, refl, sym, ◌∙◌, subst}
+use Rattle.std.proofs.Common.{◌≡◌, ◌⊎◌, inl, inr, ℕ, IsTrue, List, [], ◌∷◌, ◌++◌, Option, Some, None, Result, Ok, Err, ◌≤◌, map, refl, sym, subst}
 use Rattle.std.specs.Prelude.{IfErr, IfOk, OnOk}
 use Rattle.ua_builtin.specs.DateTime.{date_time}
 use Rattle.ua_builtin.specs.declared.date_time.DateTime.{DateTime}
@@ -30,15 +30,14 @@ use Rattle.ua_loopback.specs.Accepted.{IsTurnFault, tokens_held, turn_refusal_un
 use Rattle.ua_loopback.specs.Beginning.{Beginning}
 use Rattle.ua_loopback.specs.Faults.{FailsBehind, IsOutside}
 use Rattle.ua_loopback.specs.Replies.{HaveMisanswer, lane_back_by_token, requests_replies, turn_state}
-use Rattle.ua_loopback.specs.Says.{services_after, server_output}
-use Rattle.ua_loopback.specs.Sends.{closing_behind}
+use Rattle.ua_loopback.specs.Says.{services_after}
 use Rattle.ua_loopback.specs.Talking.{IsBehindFirst, IsLineTo, IsSentOver, IsTalking, Reads, SoFar, StopsOver, acked_in, answers_in}
 use Rattle.ua_loopback.specs.Talking.{closed_octets, id_in, newest_in, octets_of_turn, opening, state_in, told_so_far, with_turn}
 use Rattle.ua_loopback.specs.Turns.{turn_told}
 use Rattle.ua_loopback.specs.inside.Talking.{CanOpenTo}
 use Rattle.ua_loopback.proofs.Begun.{SettlesOpened, opened_ready, opened_talk, settled_there}
-use Rattle.ua_loopback.proofs.Faults.{calls_fail, calls_stop, close_fails, close_stops, open_fails, open_stops, renewal_fails, renewal_stops, sent_over}
-use Rattle.ua_loopback.proofs.OneTurn.{calls_refused, calls_replied, calls_sent, calls_talk, closes_left, closes_read, closes_silent}
+use Rattle.ua_loopback.proofs.Faults.{calls_fail, calls_stop, close_stops, open_fails, open_stops, renewal_fails, renewal_stops, sent_over}
+use Rattle.ua_loopback.proofs.OneTurn.{calls_refused, calls_replied, calls_sent, calls_talk, closes_read}
 use Rattle.ua_loopback.proofs.OneTurn.{closing_is, first_talk, renewing_not, renewing_sent, renewing_talks, turn_left, turn_read, used_so_far}
 use Rattle.ua_loopback.proofs.Sounds.{always_answered}
 use Rattle.ua_loopback.proofs.Staying.{ToldBehind}
@@ -267,24 +266,6 @@ module _ (t : SoFar) (x : Client) (before : Option Traffic) (k : IsTalking t x b
   module _ (moment : DateTime) where
     pub closes_there : ServerCloses t.server.limits t.server.channel (closed_octets t moment) (told_so_far t ++ Closed ∷ [])
     closes_there = closes_read t k.site (connection_of x) before k.talks moment
-
-    pub silent_there : server_output t.server (closed_octets t moment) ≡ server_output t.server t.octets
-    silent_there = closes_silent t k.site (connection_of x) before k.talks moment
-
-    pub left_there : services_after t.server (closed_octets t moment) ≡ state_in t
-    left_there = closes_left t k.site (connection_of x) before k.talks moment
-
-    pub closes_sent : (after : Option Traffic) (result : Result (Unit {0}) ClientFault) → Closes moment (client_channel x) before after result
-        → OnOk result (IsSentOver (closing_behind (acked_in t) t.server.channel moment t.turns) before after)
-    closes_sent after (Err f) c = tt
-    closes_sent after (Ok done) c =
-        sent_over [] c.sent (closing_behind (acked_in t) t.server.channel moment t.turns) before after
-        (c.answers k.site stands_there ∙ closing_is t k.site (connection_of x) before k.talks moment) c.carried
-
-    pub closes_fails : (after : Option Traffic) (result : Result (Unit {0}) ClientFault) → Closes moment (client_channel x) before after result
-        → IfErr result (λ f. IsOutside f)
-    closes_fails after (Ok done) c = tt
-    closes_fails after (Err f) c = close_fails (Unit {0}) k.site moment c.sent f (c.answers k.site stands_there)
 
     pub closes_stop : (after : Option Traffic) (result : Result (Unit {0}) ClientFault) → Closes moment (client_channel x) before after result
         → IfErr result (λ f. StopsOver f t.server t.octets before after)

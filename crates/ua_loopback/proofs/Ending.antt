@@ -16,7 +16,6 @@ use Rattle.ua_chunk.specs.Cutting.{abort_chunk, chunks_octets, chunks_of, cut_re
 use Rattle.ua_chunk.specs.Layout.{frame_of}
 use Rattle.ua_chunk.specs.declared.chunk.Chunk.{Chunk}
 use Rattle.ua_chunk.specs.declared.fault.CutFault.{CutFault}
-use Rattle.ua_chunk.specs.declared.flag.Flag.TheVariants.{C}
 use Rattle.ua_chunk.specs.declared.lane.Lane.{Lane}
 use Rattle.ua_chunk.proofs.Fresh.{some_pieces}
 use Rattle.ua_chunk.proofs.Lists.{map_push}
@@ -31,7 +30,6 @@ use Rattle.ua_channel_laws.proofs.ReadOn.{one_octets}
 use Rattle.ua_channel.proofs.ChunkFrames.{chunk_size}
 use Rattle.ua_channel_laws.proofs.Sized.{all_last, frames_behind, sized_chunks}
 use Rattle.ua_channel_laws.proofs.Written.{IsNumbered, IsOf, chunk_carried, chunks_are}
-use Rattle.ua_loopback.proofs.OneCall.{AreCut, Cut, cut_numbered}
 
 -- ---- the last of a list
 
@@ -46,10 +44,6 @@ last_of x [] = record { front = []; last = x; parts = refl }
 last_of {A = A} x (y ∷ ys) =
     let l = last_of y ys in
     record { front = x ∷ l.front; last = l.last; parts = ap (λ (zs : List A). x ∷ zs) l.parts }
-
-all_first : {A : Type 0} (P : A → Type 0) (xs : List A) (y : A) → AllByRecursion P (xs ++ y ∷ []) → AllByRecursion P xs
-all_first P [] y h = tt
-all_first P (x ∷ xs) y h = (h.0, all_first P xs y h.1)
 
 -- ---- octets that end in a chunk
 
@@ -126,52 +120,3 @@ module _ (limits : Limits) (asks : List Placed) (octets : List ℕ) (told : List
   -- behind a reply
   pub replied_ends : (body : List ℕ) → 0 < length body → LastChunk limits asks (octets ++ (replied lane body at.next id).0)
   replied_ends body some = ends_so body (cut_refusal lane body) some
-
-  -- ---- its chunks
-
-  numbered_on : (cs : List Chunk) → AllByRecursion (IsOf lane id) cs → AllByRecursion (λ (c : Chunk). c.flag ≡ C) cs
-      → AllByRecursion (λ (c : Chunk). IsNumbered c × (c.flag ≡ C)) cs
-  numbered_on [] are continued = tt
-  numbered_on (c ∷ cs) are continued = ((numbered_of c are.0, continued.0), numbered_on cs are.1 continued.1)
-
-  cut_of : (cs : List Chunk) → Cut cs → AllByRecursion (IsOf lane id) cs → AllByRecursion IsSized (map frame_of cs) → AreCut (chunks_octets cs)
-  cut_of cs l are sized =
-      let all : AllByRecursion (IsOf lane id) (l.front ++ l.last ∷ []) = subst (AllByRecursion (IsOf lane id)) l.parts are in
-      record {
-        front = l.front;
-        last = l.last;
-        are = ap (λ (ds : List Chunk). chunks_octets ds) l.parts;
-        continued = numbered_on l.front (all_first (IsOf lane id) l.front l.last all) l.continued;
-        small = numbered_of l.last (all_last (IsOf lane id) l.front l.last all);
-        sized = subst (λ (ds : List Chunk). AllByRecursion IsSized (map frame_of ds)) l.parts sized;
-      }
-
-  reply_cut : (body : List ℕ) → 0 < length body → AreCut (chunks_octets (chunks_of lane body at.next id))
-  reply_cut body some =
-      let ps = some_pieces lane.room body some in
-      let are : AllByRecursion (IsOf lane id) (numbered lane at.next id (ps.first ∷ ps.others)) =
-      subst (λ (t : List (List ℕ)). AllByRecursion (IsOf lane id) (numbered lane at.next id t)) ps.are
-      (chunks_are lane body at.next id r.next_small back.some some) in
-      subst (λ (t : List (List ℕ)). AreCut (chunks_octets (numbered lane at.next id t))) (sym ps.are)
-      (cut_of (numbered lane at.next id (ps.first ∷ ps.others)) (cut_numbered lane at.next id ps.first ps.others) are
-      (sized_chunks lane id at.ack.send_buffer_size (numbered lane at.next id (ps.first ∷ ps.others)) back.fits r.sized are))
-
-  abort_cut : (code : StatusCode) → AreCut (frame_octets (frame_of (abort_chunk lane at.next id code)))
-  abort_cut code =
-      let c : Chunk = abort_chunk lane at.next id code in
-      record {
-        front = [];
-        last = c;
-        are = sym (one_octets (frame_of c));
-        continued = tt;
-        small = record { channel = back.on_small; token = back.token_small; sequence = omega (arith, r.next_small); request = few };
-        sized = (omega (arith, chunk_size c, abort_length code), tt);
-      }
-
-  cut_so : (body : List ℕ) (o : Option CutFault) → 0 < length body → AreCut (replied_by o lane body at.next id).0
-  cut_so body None some = reply_cut body some
-  cut_so body (Some fault) some = abort_cut (of_code 0x80B9_0000)
-
-  -- those of a reply
-  pub replied_cut : (body : List ℕ) → 0 < length body → AreCut (replied lane body at.next id).0
-  replied_cut body some = cut_so body (cut_refusal lane body) some

@@ -4,7 +4,6 @@ pub mod Stepped
 mod Pieces
 mod Lines
 pub mod Reaching
-mod OneCall
 mod Ending
 mod Untaken
 pub mod Opened
@@ -20,10 +19,7 @@ mod Faults
 mod Sounds
 mod Refused
 mod Begun
-mod Openings
-mod Called
 pub mod Pushes
-pub mod Conversing
 mod Courses
 mod Failing
 mod Outcomes

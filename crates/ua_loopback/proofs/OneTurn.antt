@@ -38,7 +38,7 @@ use Rattle.ua_loopback.specs.Talking.{octets_of_turn, state_in, newest_in, told_
 use Rattle.ua_loopback.specs.Turns.{id_behind_turn, ids_behind, opening_told, token_behind_turn, turn_told, turns_told}
 use Rattle.ua_loopback.proofs.Pushes.{held_push, ids_push, number_push, state_push, told_push, tokens_push}
 use Rattle.ua_loopback.proofs.Reaching.{closing_read}
-use Rattle.ua_loopback.proofs.Replying.{calls_used, state_closed, state_renewal}
+use Rattle.ua_loopback.proofs.Replying.{calls_used, state_renewal}
 use Rattle.ua_loopback.proofs.Rounds.{Behind, closing_there}
 use Rattle.ua_loopback.proofs.Saying.{left_by_run, said_by_run, said_over}
 use Rattle.ua_loopback.proofs.Staying.{said_there}
@@ -272,8 +272,3 @@ module _ (t : SoFar) (site : ClientPlace) (x : Connection) (now : Option Traffic
   closes_silent =
       closing_said t.server t.octets (closed_octets t moment) (told_so_far t) closes_read
       (said_there t.server t.octets (told_so_far t) s.talking.served.at_server s.talking.served.serving.together.server_reads)
-
-  pub closes_left : services_after t.server (closed_octets t moment) ≡ state_in t
-  closes_left =
-      left_by_run t.server (closed_octets t moment) closes_read.frames [] Over closes_read.run
-      ∙ (ap (λ (ts : List Told). state_told t.server ts) closes_read.told_is ∙ (state_closed t.server (told_so_far t) ∙ s.state_is))

@@ -10,7 +10,6 @@ mod answer_clock;
 mod conversation;
 mod cuts;
 mod fragments;
-pub mod laws;
 mod operation;
 mod served_line;
 mod server_setup;

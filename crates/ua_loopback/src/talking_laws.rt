@@ -8,7 +8,7 @@
 //! it left; and the talk goes on with this operation more, so that the laws apply to the next call
 //! again. Where it fails, the server's output is not the cause. `Client::open` begins a talk.
 
-ghost use Rattle.std.specs.Prelude.{◌≡◌, ◌⊎◌, ◌≤◌, ◌∷◌, ◌++◌, [], ℕ, List, Ok, Option, None, Some, Result};
+ghost use Rattle.std.specs.Prelude.{◌≡◌, ◌⊎◌, ◌≤◌, ◌++◌, [], ℕ, List, Option, None, Some, Result};
 ghost use Rattle.std.specs.Prelude.{IfErr, IfOk, IsTrue, OnOk, map};
 ghost use Rattle.ua_wire.specs.Counted.{text};
 ghost use Rattle.ua_builtin.specs.DateTime.{date_time};
@@ -17,10 +17,8 @@ ghost use Rattle.ua_builtin.specs.declared.node_id.NodeId.{NodeId};
 ghost use Rattle.ua_frame.specs.Agreement.{url_length};
 ghost use Rattle.ua_services.specs.declared.request.Request.{Request};
 ghost use Rattle.ua_channel.specs.Line.{Traffic};
-ghost use Rattle.ua_channel.specs.ServerTold.{Closed};
-ghost use Rattle.ua_channel_laws.specs.ServerReads.{ServerCloses};
 ghost use Rattle.ua_client.specs.Calls.{CallsAll};
-ghost use Rattle.ua_client.specs.Client.{Closes, IsLeft, OpensClient, OpensNothing, client_channel, connection_of};
+ghost use Rattle.ua_client.specs.Client.{IsLeft, OpensClient, OpensNothing, connection_of};
 ghost use Rattle.ua_client.specs.Hearing.{fault_alone};
 ghost use Rattle.ua_client.specs.Kept.{CallsInto};
 ghost use Rattle.ua_client.specs.Renewing.{Renews};
@@ -32,20 +30,18 @@ ghost use Rattle.ua_client.specs.declared.fault.ClientFault.{ClientFault};
 ghost use Rattle.ua_client.specs.declared.fault.ClientFault.TheVariants.{UnknownResponse};
 ghost use Rattle.ua_client.specs.declared.reply.Reply.{Reply};
 ghost use Rattle.ua_server.specs.Sound.{IsSoundState};
-ghost use Rattle.ua_loopback.specs.Accepted.{IsAcceptedUnder, IsTurnFault, turn_refusal_under};
+ghost use Rattle.ua_loopback.specs.Accepted.{IsTurnFault, turn_refusal_under};
 ghost use Rattle.ua_loopback.specs.Beginning.{Beginning};
 ghost use Rattle.ua_loopback.specs.Faults.{FailsBehind, IsOutside};
 ghost use Rattle.ua_loopback.specs.Replies.{HaveMisanswer, lane_back_by_token, requests_replies, turn_state};
-ghost use Rattle.ua_loopback.specs.Says.{services_after, server_output};
-ghost use Rattle.ua_loopback.specs.Sends.{closing_behind};
+ghost use Rattle.ua_loopback.specs.Says.{services_after};
 ghost use Rattle.ua_loopback.specs.Talking.{CanBegin, FailsSession, IsBehindFirst, IsLineTo, IsSentOver, IsTalking};
 ghost use Rattle.ua_loopback.specs.Talking.{Reads, SoFar, StopsOver, acked_in};
-ghost use Rattle.ua_loopback.specs.Talking.{answers_in, closed_octets, id_in, newest_in};
+ghost use Rattle.ua_loopback.specs.Talking.{answers_in, id_in, newest_in};
 ghost use Rattle.ua_loopback.specs.Talking.{octets_of_turn, opening, session_requests};
 ghost use Rattle.ua_loopback.specs.Talking.{state_in, told_so_far, with_turn};
 ghost use Rattle.ua_loopback.specs.Turns.{turn_told};
 
-use std::alloc::Global;
 use ua_builtin::DateTime;
 use ua_client::laws::{calls_are_told_behind, clients_are_settled};
 use ua_frame::Limits;
@@ -84,28 +80,6 @@ pub fn dated_openings_begin_talks(limits: Limits)
         IfOk result (λ client. IsTalking (opening b limits url moment) client after) }
 {
     clients_are_settled();
-}
-
-/// There are talks, whatever the server, the limits of both ends, the URL and the times: a client
-/// and its transport to such a server can be as these laws suppose them.
-pub fn there_are_talks(alloc: Global, limits: Limits, moment: DateTime)
-    ensures begins { (b : Beginning) (url : Option (List ℕ)) → CanBegin b → IsTrue (text.encodable url) →
-        url_length url ≤ 4095 →
-        (x : Client) × (now : Option Traffic) × IsTalking (opening b limits url moment) x now }
-{}
-
-/// A call can be what `calls_go_on` supposes: after any talk with a server with sound services, as
-/// those of each server are, there are a reply, a client and its transport behind a call of any
-/// request that is accepted. The talk then goes on, so there are such talks of any length.
-pub fn there_are_calls()
-    ensures answered { (t : SoFar) (request : Request) (x : Client) (before : Option Traffic) → IsTalking t x before →
-        IsSoundState t.server.first → IsAcceptedUnder (acked_in t) t.turns (Some (request ∷ [])) →
-        (y : Client) × (after : Option Traffic) × (reply : Reply)
-        × CallsAll (λ (found : Reply). found ∷ []) (request ∷ []) (connection_of x) (connection_of y) before after
-        (Ok reply) × IsLeft {A = Reply} (Ok reply) y }
-{
-    clients_are_settled();
-    calls_are_told_behind();
 }
 
 /// In a talk that goes on with an operation, the server reads just this operation more.
@@ -240,32 +214,5 @@ pub fn renewals_go_on(moment: DateTime)
     ensures stops { (t : SoFar) (x y : Client) (before after : Option Traffic)
         (result : Result (Unit {0}) ClientFault) → IsTalking t x before →
         Renews moment (connection_of x) (connection_of y) before after result →
-        IfErr result (λ fault. StopsOver fault t.server t.octets before after) }
-{}
-
-/// `Client::close` ends a talk.
-pub fn closings_end_talks()
-    // Just the bytes of a CLO are sent.
-    ensures sends { (t : SoFar) (moment : DateTime) (x : Client) (before after : Option Traffic)
-        (result : Result (Unit {0}) ClientFault) → IsTalking t x before →
-        Closes moment (client_channel x) before after result →
-        OnOk result (IsSentOver (closing_behind (acked_in t) t.server.channel moment t.turns) before after) }
-    // The server reads just this CLO more, which closes its channel.
-    ensures reaches { (t : SoFar) (moment : DateTime) (x : Client) (before : Option Traffic) → IsTalking t x before →
-        ServerCloses t.server.limits t.server.channel (closed_octets t moment) (told_so_far t ++ Closed ∷ []) }
-    // The server answers nothing to that, so that the client took all of its output; and its
-    // services are as the talk left them.
-    ensures silent { (t : SoFar) (moment : DateTime) (x : Client) (before : Option Traffic) → IsTalking t x before →
-        server_output t.server (closed_octets t moment) ≡ server_output t.server t.octets }
-    ensures state { (t : SoFar) (moment : DateTime) (x : Client) (before : Option Traffic) → IsTalking t x before →
-        services_after t.server (closed_octets t moment) ≡ state_in t }
-    // The server's output does not make it fail.
-    ensures fails { (t : SoFar) (moment : DateTime) (x : Client) (before after : Option Traffic)
-        (result : Result (Unit {0}) ClientFault) → IsTalking t x before →
-        Closes moment (client_channel x) before after result → IfErr result (λ fault. IsOutside fault) }
-    // Where the transport failed, the server refused nothing of what was sent, and waits for more.
-    ensures stops { (t : SoFar) (moment : DateTime) (x : Client) (before after : Option Traffic)
-        (result : Result (Unit {0}) ClientFault) → IsTalking t x before →
-        Closes moment (client_channel x) before after result →
         IfErr result (λ fault. StopsOver fault t.server t.octets before after) }
 {}

@@ -7,9 +7,7 @@ pub mod Fits
 pub mod IdFits
 pub mod Judged
 pub mod Limits
-pub mod LimitKept
 pub mod Memories
-pub mod OneLoad
 pub mod Parsed
 pub mod Pieces
 pub mod Placed

@@ -6,9 +6,8 @@ use Rattle.ua_builtin.specs.declared.node_id.NodeId.{NodeId}
 use Rattle.ua_nodes.specs.declared.fault.LineReason.{LineReason}
 use Rattle.ua_nodes.specs.declared.fault.LineReason.TheVariants.{Fields, Node, Access, Name, Kind, Value, Duplicate}
 use Rattle.ua_nodes.specs.declared.node.Access.{Access as Rights}
-use Rattle.ua_nodes.specs.declared.node.Variable.{Variable}
 use Rattle.ua_variant.specs.Data.{VariantData}
-use Rattle.ua_nodes.specs.NodeFile.{fields, field, NamesId, access_denoted, name_denoted, WritesNode, HoldsAgainstLine, place, IsFirstReason}
+use Rattle.ua_nodes.specs.NodeFile.{fields, field, NamesId, access_denoted, name_denoted, HoldsAgainstLine, place, IsFirstReason}
 use Rattle.ua_nodes.specs.Table.{Nodes}
 use Rattle.ua_nodes.specs.TypeName.{type_denoted}
 use Rattle.ua_nodes.specs.ValueText.{value_denoted}
@@ -132,18 +131,3 @@ pub bad_value : (line a b c d e : List ℕ) (id : NodeId) (r : Rights) (n : Opti
     → type_denoted d ≡ Some t → value_denoted t.0 t.1 e ≡ None → (before : Nodes) → IsFirstReason Value before line
 bad_value line a b c d e id r n t k h p q w none before =
     record { holds = both_is line a b c d e t k w ∙ none; first = pass_kind line a b c d e before id r n t k h p q w }
-
--- ---- a node whose NodeId is there
-
--- no reason but the last holds against a line that writes a node
-pub pass_written : (line : List ℕ) (node : NodeId × Variable) (before : Nodes) → WritesNode line node → Passes 6 before line
-pass_written line node before w = pass Value before line
-    (pass Kind before line
-    (pass Name before line
-    (pass Access before line
-    (pass Node before line
-    (pass Fields before line (pass_none before line) (λ h. h w.five)) (λ h. h node.0 w.id)) (none_some (access_denoted (field 1 line)) node.1.access w.access))
-    (none_some (name_denoted (field 2 line)) node.1.name w.name))
-    (none_some (type_denoted (field 3 line)) (node.1.kind, node.1.array) w.kind))
-    (none_some (both (field 3 line) (field 4 line)) node.1.value (ap (λ (o : Option (ℕ × Bool)). o >>= λ t. value_denoted t.0 t.1 (field 4 line)) w.kind
-    ∙ w.value))

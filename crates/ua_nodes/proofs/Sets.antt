@@ -15,7 +15,6 @@ use Rattle.ua_nodes.specs.declared.fault.SetFault.{SetFault}
 use Rattle.ua_nodes.specs.declared.fault.SetFault.TheVariants.{Mismatch, NotWritable}
 use Rattle.ua_nodes.specs.declared.node.Variable.{Variable}
 use Rattle.ua_nodes.specs.declared.set.Reading.{Reading}
-use Rattle.ua_nodes.proofs.Writes.{same_id_is}
 
 -- by the node that the NodeId names
 pub set_some : (id : NodeId) (r : Reading) (nodes : Nodes) (v : Variable) → node_at nodes id ≡ Some v
@@ -91,42 +90,3 @@ pub kept_at : {A : Type 0} (id : NodeId) (r : Reading) (nodes new : Nodes) (resu
     → MatchResult result (λ _. set_refusal (node_at nodes id) r ≡ None) (λ fault. set_refusal (node_at nodes id) r ≡ Some fault) → OnErr result (new ≡ nodes)
 kept_at id r nodes new (Ok x) e a = tt
 kept_at id r nodes new (Err fault) e a = e ∙ kept_by id r nodes fault a
-
--- ---- one node, and the others
-
-value_other : (id other : NodeId) (w : Variable) (nodes : Nodes) → same_id other id ≡ false
-    → node_at (set_value (same_id id) nodes w) other ≡ node_at nodes other
-value_other id other w [] apart = refl
-value_other id other w (node ∷ nodes) apart = by (same_id id node.0) refl (value_other id other w nodes apart)
-  where
-    by : (t : Bool) → same_id id node.0 ≡ t → node_at (set_value (same_id id) nodes w) other ≡ node_at nodes other
-        → node_at (cond t ((node.0, w) ∷ nodes) (node ∷ set_value (same_id id) nodes w)) other ≡ cond (same_id other node.0) (Some node.1) (node_at nodes other)
-    by true e more =
-        let differ : same_id other node.0 ≡ false = ap (λ (k : NodeId). same_id other k) (sym ((same_id_is id node.0).0 e)) ∙ apart in
-        ap (λ (t : Bool). cond t (Some w) (node_at nodes other)) differ ∙ sym (ap (λ (t : Bool). cond t (Some node.1) (node_at nodes other)) differ)
-    by false e more = ap (λ (o : Option Variable). cond (same_id other node.0) (Some node.1) o) more
-
-pub set_other : (id other : NodeId) (r : Reading) (nodes : Nodes) → same_id other id ≡ false → node_at (after_set id r nodes) other ≡ node_at nodes other
-unfolding after_set
-set_other id other r nodes apart = by (node_at nodes id)
-  where
-    by : (o : Option Variable) → node_at (with_reading o id r nodes) other ≡ node_at nodes other
-    by None = refl
-    by (Some v) = value_other id other (set_node v r) nodes apart
-
-value_own : (id : NodeId) (v w : Variable) (nodes : Nodes) → node_at nodes id ≡ Some v → node_at (set_value (same_id id) nodes w) id ≡ Some w
-value_own id v w [] h = absurd cc
-value_own id v w (node ∷ nodes) h = by (same_id id node.0) refl h (value_own id v w nodes)
-  where
-    by : (t : Bool) → same_id id node.0 ≡ t → cond t (Some node.1) (node_at nodes id) ≡ Some v
-        → (node_at nodes id ≡ Some v → node_at (set_value (same_id id) nodes w) id ≡ Some w)
-        → node_at (cond t ((node.0, w) ∷ nodes) (node ∷ set_value (same_id id) nodes w)) id ≡ Some w
-    by true e k more = ap (λ (t : Bool). cond t (Some w) (node_at nodes id)) e
-    by false e k more = ap (λ (t : Bool). cond t (Some node.1) (node_at (set_value (same_id id) nodes w) id)) e ∙ more k
-
-pub set_own : (id : NodeId) (r : Reading) (nodes : Nodes) (v : Variable) → node_at nodes id ≡ Some v → node_at (after_set id r nodes) id ≡ Some (set_node v r)
-set_own id r nodes v h = ap (λ (n : Nodes). node_at n id) (set_some id r nodes v h) ∙ value_own id v (set_node v r) nodes h
-
--- a reading that is not refused is what the node holds then
-pub set_holds : (v : Variable) (r : Reading) → set_refusal (Some v) r ≡ None → set_node v r ≡ stored v (value_of_reading r) r.source_time
-set_holds v r e = ap (λ (o : Option SetFault). cond (is_none o) (stored v (value_of_reading r) r.source_time) v) e

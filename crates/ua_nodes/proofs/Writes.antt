@@ -2,7 +2,7 @@
 use Rattle.std.proofs.Common.{◌≡◌, Bool, true, false, ◌&&◌, cond, map, List, [], ◌∷◌, Option, None, Some, refl, sym, ◌∙◌, ap, subst, rules}
 use Rattle.std.specs.List.{IsDistinct}
 use Rattle.std.specs.Map.{keys_of, set_value}
-use Rattle.std.specs.Option.{is_none, option_map}
+use Rattle.std.specs.Option.{is_none}
 use Rattle.std.proofs.lemmas.Map.{NonePasses}
 use Rattle.std.specs.List.{AllByRecursion}
 use Rattle.std.specs.Bool.{Decides}
@@ -152,19 +152,3 @@ pub answers_after : (done : WriteValue) (moment : DateTime) (nodes : Nodes) (ite
     ≡ write_answers nodes items
 answers_after done moment nodes [] = refl
 answers_after done moment nodes (item ∷ items) = head_is (answer_after done moment nodes item) (answers_after done moment nodes items)
-
--- the node of a NodeId after all items
-pub node_after : (items : List WriteValue) (moment : DateTime) (nodes : Nodes) (id : NodeId)
-    → node_at (after_write items moment nodes) id ≡ option_map (λ v. written_by v (last_good (id, v) items) moment) (node_at nodes id)
-unfolding after_write
-node_after items moment [] id = refl
-node_after items moment (node ∷ nodes) id = by (same_id id node.0) refl (node_after items moment nodes id)
-  where
-    by : (t : Bool) → same_id id node.0 ≡ t → node_at (after_write items moment nodes) id ≡ option_map (λ v. written_by v (last_good (id, v) items) moment)
-        (node_at nodes id)
-        → cond t (Some (written_by node.1 (last_good node items) moment)) (node_at (after_write items moment nodes) id)
-        ≡ option_map (λ v. written_by v (last_good (id, v) items) moment) (cond t (Some node.1) (node_at nodes id))
-    by true e more =
-        let same : id ≡ node.0 = (same_id_is id node.0).0 e in
-        ap (λ (k : NodeId). Some (written_by node.1 (last_good (k, node.1) items) moment)) (sym same)
-    by false e more = more

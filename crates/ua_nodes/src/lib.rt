@@ -35,11 +35,7 @@ mod write;
 
 pub use fault::{InsertFault, LineReason, LoadFault, SetFault, ValueFault};
 pub use laws::{
-    a_file_has_one_first_bad_line, a_file_loads_in_one_way, a_file_that_loads_has_no_bad_line,
-    a_loaded_table_is_sound, a_node_is_sound_where_it_passes, a_node_keeps_the_last_good_item,
-    a_sound_table_answers_what_can_be_written, a_table_stays_sound_after_a_write,
-    a_table_stays_sound_with_a_sound_node, a_write_keeps_memory_within_its_limit,
-    values_that_their_nodes_cannot_take_change_no_write, what_is_set_changes_one_node,
+    a_node_is_sound_where_it_passes, values_that_their_nodes_cannot_take_change_no_write,
 };
 pub use node::{Access, Node, NodeValue, Variable};
 pub use node_file::{is_read, without_return};

@@ -1,7 +1,7 @@
 -- What octets encode in a flat format can be written.
-use Rattle.std.specs.Prelude.{◌≡◌, ℕ, ℤ, pos, negsuc, ◌<◌, ◌^◌, List, ◌∷◌, length, Bool, true}
-use Rattle.std.specs.Prelude.{false, ◌&&◌, cond, not, Option, Some, None, is_some, nat_eq, nat_lt}
-use Rattle.std.specs.Int.{Width, w8, w16, w32, w64, cast_signed, cast_unsigned}
+use Rattle.std.specs.Prelude.{◌≡◌, ℕ, ℤ, pos, negsuc, ◌<◌, ◌^◌, List, length, Bool, true}
+use Rattle.std.specs.Prelude.{false, ◌&&◌, cond, Option, Some, None, is_some, nat_eq, nat_lt}
+use Rattle.std.specs.Int.{Width, w32, w64, cast_signed, cast_unsigned}
 use Rattle.std.specs.Int.RustNames.{FitsSigned}
 use Rattle.std.proofs.Common.{refl, sym, ap, subst, ◌∙◌, arith}
 use Rattle.std.proofs.lemmas.Bool.{lt-ltb}
@@ -12,7 +12,6 @@ use Rattle.ua_wire.specs.Format.{Flat}
 use Rattle.ua_wire.specs.Join.{number, both, image, made, such}
 use Rattle.ua_wire.specs.Boolean.{boolean}
 use Rattle.ua_wire.specs.Signed.{signed, in_range, width_octets}
-use Rattle.ua_wire.specs.FloatBits.{float_bits}
 use Rattle.ua_wire.specs.DoubleBits.{double_bits}
 use Rattle.ua_wire.specs.Counted.{text, is_text, counted, EncodesCounted, counted_fits, first_negative}
 use Rattle.ua_wire.proofs.Readers.{both_true}
@@ -24,7 +23,6 @@ use Rattle.ua_builtin.specs.QualifiedName.{qualified_name}
 use Rattle.ua_builtin.specs.LocalizedText.{localized_text}
 use Rattle.ua_builtin.specs.Flags.{flagged_text, EncodesFlagged}
 use Rattle.ua_builtin.specs.NodeId.{node, node_id, in_form, form_of, EncodesNodeId, two_octet, four_octet, numeric_form, string_form, guid_form, opaque_form}
-use Rattle.ua_builtin.specs.ExpandedNodeId.{expanded_node_id, flagged_index, is_here, EncodesIndex}
 use Rattle.ua_builtin.specs.ExtensionObject.{extension_object, EncodesBody, body_fits}
 use Rattle.ua_builtin.specs.declared.node_id.NodeId.{NodeId}
 use Rattle.ua_builtin.specs.declared.node_id.Identifier.TheVariants.{Numeric}
@@ -89,21 +87,11 @@ back_signed w same = back_image (cast_signed w) (cast_unsigned w) (in_range w)
     (of_z-to_z w n low, signed_in_range w (cast_signed w n) (sfits_to_z (record { fits = low }))))
     (back_number (width_octets w))
 
-pub back_signed_8 : WritesBack (signed w8)
-back_signed_8 = back_signed w8 refl
-
-pub back_signed_16 : WritesBack (signed w16)
-back_signed_16 = back_signed w16 refl
-
 pub back_signed_32 : WritesBack (signed w32)
 back_signed_32 = back_signed w32 refl
 
 pub back_signed_64 : WritesBack (signed w64)
 back_signed_64 = back_signed w64 refl
-
-pub back_float_bits : WritesBack float_bits
-unfolding float_bits
-back_float_bits = back_made _ _ (λ n. refl) (back_number 4)
 
 pub back_double_bits : WritesBack double_bits
 unfolding double_bits
@@ -190,29 +178,12 @@ text_flagged set None b h = refl
 text_flagged true (Some v) b h = back_text.fits (Some v) b h
 text_flagged false (Some v) b h = absurd (let e : Some v ≡ None = h.0 in cc)
 
-index_fits : (i : ℕ) (here : Bool) → is_here i ≡ here → i < 2 ^ 32 → (flagged_index (not here)).encodable i ≡ true
-index_fits i true e h = e
-index_fits i false e h = lt-ltb i (256 ^ 4) h
-
-index_flagged : (set : Bool) (i : ℕ) (b : List ℕ) → EncodesIndex set i b → (flagged_index (not (is_here i))).encodable i ≡ true
-index_flagged true i b h = index_fits i (is_here i) refl h.0
-index_flagged false i b h = ap (λ (j : ℕ). (flagged_index (not (is_here j))).encodable j) h.0
-
 pub back_localized_text : WritesBack localized_text
 unfolding localized_text
 back_localized_text = record {
   fits = λ v b h.
       and_true ((flagged_text (is_some v.locale)).encodable v.locale) ((flagged_text (is_some v.text)).encodable v.text)
       (text_flagged h.has_locale v.locale h.locale h.locale_encoded) (text_flagged h.has_text v.text h.text h.text_encoded);
-}
-
-pub back_expanded_node_id : WritesBack expanded_node_id
-unfolding expanded_node_id
-back_expanded_node_id = record {
-  fits = λ v b h.
-      and_true ((in_form (form_of v.node_id)).encodable v.node_id) _ (node_back v.node_id (h.form ∷ h.node) h.node_encoded)
-      (and_true ((flagged_text (is_some v.namespace_uri)).encodable v.namespace_uri) _
-      (text_flagged h.has_uri v.namespace_uri h.uri h.uri_encoded) (index_flagged h.has_index v.server_index h.index h.index_encoded));
 }
 
 -- ---- ExtensionObjects

@@ -4,14 +4,14 @@ use Rattle.std.specs.List.{list_all}
 use Rattle.std.proofs.Common.{refl, sym, ap, ap₂, subst, ◌∙◌, arith}
 use Rattle.std.proofs.lemmas.Bool.{lt-ltb, le-leb}
 use Rattle.ua_builtin.specs.Counted.{first_negative}
-use Rattle.ua_builtin.specs.Format.{Flat, Format, flat, IsLawful, Within, most_levels}
+use Rattle.ua_builtin.specs.Format.{Flat, Format, flat, Within, most_levels}
 use Rattle.ua_builtin.specs.Join.{pair, struct}
 use Rattle.ua_diagnostic.specs.Diagnostic.{diagnostic_depth}
 use Rattle.ua_diagnostic.specs.View.{diagnostic_of}
 use Rattle.ua_diagnostic.specs.Formats.{diagnostic_format}
 use Rattle.ua_opening.specs.Array.{EachEncoded, EncodesArray, items_depth, array_depth, array_fits, array}
 use Rattle.ua_opening.specs.Field.{byte, byte_string, int32, string, uint32}
-use Rattle.ua_opening.specs.WrittenBack.{array_all, ReadIsWritableWhere}
+use Rattle.ua_opening.specs.WrittenBack.{array_all}
 use Rattle.ua_opening.proofs.DiagnosticsBack.{diagnostic_back}
 use Rattle.ua_opening.proofs.FlatsBack.{WritesBack, back_number, back_signed_32, back_text, back_counted}
 
@@ -22,12 +22,6 @@ pub record WritesBackWhere {A : Type 0} (test : A → Bool) (f : Format A) : Typ
 -- each of them can be written
 abbrev pub AllWriteBack : {A : Type 0} → Format A → Type 0
 AllWriteBack f = WritesBackWhere (λ v. true) f
-
--- and so it is of what octets are read as
-pub read_writable : {A : Type 0} {test : A → Bool} {f : Format A} → IsLawful f → WritesBackWhere test f → ReadIsWritableWhere test f
-read_writable lawful back levels octets rest v few e =
-    let h = (lawful.exact levels).sound octets v rest e in
-    back.agrees v h.front (h.encoded.0, omega (arith, h.encoded.1, few))
 
 -- ---- formats made of formats
 
@@ -65,9 +59,6 @@ items_back {t = t} f back (Some v) b h = ap₂ (λ (c d : Bool). c && d) (lt-ltb
 pub where_array : {A : Type 0} {t : A → Bool} {f : Format A} → WritesBackWhere t f → WritesBackWhere (array_all t) (array f)
 unfolding array
 where_array {f = f} back = record { agrees = items_back f back }
-
-pub where_as : {A : Type 0} {t u : A → Bool} {f : Format A} → ((v : A) → t v ≡ u v) → WritesBackWhere t f → WritesBackWhere u f
-where_as same back = record { agrees = λ v b h. back.agrees v b h ∙ same v }
 
 -- ---- the same where each value can be written
 

@@ -1,4 +1,3 @@
--- Written by `tools/add_service.py --write` from `schema/header.txt`.
 -- The structures of the headers and the ServiceFault are sound.
 use Rattle.std.proofs.Common.{refl}
 use Rattle.ua_opening.proofs.Sound.{Sound, sound_array, sound_date_time, sound_diagnostic, sound_extension_object}

@@ -20,7 +20,6 @@ use Rattle.ua_opening.specs.Message.{IsBody, IsNoBody, alone, kind_at, message, 
 use Rattle.ua_opening.proofs.BodyRead.{whole, unread, body_reads, no_fault, body_is, body_found, none_found}
 use Rattle.ua_opening.proofs.HeaderSound.{sound_service_fault}
 use Rattle.ua_opening.proofs.SecureChannelLawful.{lawful_open_response}
-use Rattle.ua_opening.proofs.BodyLaws.{one_message}
 use Rattle.ua_opening.proofs.MessagesLawful.{lawful_message}
 
 -- a structure behind a NodeId with this number; nothing behind another one
@@ -148,12 +147,6 @@ not_both_at octets (Some x) found m w p q = not_both_by octets x.1 x.0 found (is
 not_both : (octets : List ℕ) (m : OpenResponse) (w : ServiceFault) → IsBody (message 449 open_response) m octets → IsBody (message 397 service_fault) w octets
     → ⊥
 not_both octets m w p q = not_both_at octets (node_id.decode octets) refl m w p q
-
-pub one_answer : (a c : OpenAnswer) (octets : List ℕ) → IsOpenAnswer a octets → IsOpenAnswer c octets → a ≡ c
-one_answer (Open m) (Open w) octets p q = ap Open (one_message (message 449 open_response) (lawful_message 449 lawful_open_response) m w octets p q)
-one_answer (Open m) (Fault w) octets p q = absurd (not_both octets m w p q)
-one_answer (Fault m) (Open w) octets p q = absurd (not_both octets w m q p)
-one_answer (Fault m) (Fault w) octets p q = ap Fault (one_message (message 397 service_fault) (lawful_message 397 sound_service_fault.lawful) m w octets p q)
 
 -- what a reader of answers answers, by what it says of Ok and of NoValue
 pub answer_answers : (octets : List ℕ) (r : Result OpenAnswer ReadFault) → IfOk r (λ a. IsOpenAnswer a octets) → (IsErrOf r NoValue → IsNoOpenAnswer octets)

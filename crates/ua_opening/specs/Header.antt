@@ -1,4 +1,3 @@
--- Written by `tools/add_service.py --write` from `schema/header.txt`.
 -- The structures of the headers and the ServiceFault.
 use Rattle.ua_builtin.specs.DateTime.{date_time}
 use Rattle.ua_builtin.specs.ExtensionObject.{extension_object}

@@ -1,4 +1,3 @@
--- Written by `tools/add_service.py --write` from `schema/secure_channel.txt`.
 -- The structures of the SecureChannel services.
 use Rattle.ua_builtin.specs.DateTime.{date_time}
 use Rattle.ua_builtin.specs.Format.{Format, flat}

@@ -1,4 +1,3 @@
-//! Written by `tools/add_service.py --write` from `schema/header.txt`.
 //! Decodes and encodes the structures of the headers and the ServiceFault.
 
 use crate::header::{RequestHeader, ResponseHeader, ServiceFault};

@@ -86,7 +86,7 @@ pub fn read_whole<T: Wire + Drop, S: Source>(alloc: Global, src: &mut S) -> Resu
 }
 
 /// Decodes the message, of this encoding's number, that is the whole source, with nothing after it.
-pub fn read_message<T: Wire + Drop, S: Source>(
+pub(crate) fn read_message<T: Wire + Drop, S: Source>(
     alloc: Global,
     src: &mut S,
     number: u32,
@@ -107,7 +107,11 @@ pub fn read_message<T: Wire + Drop, S: Source>(
 
 /// Appends the NodeId of this number in namespace 0, and the canonical encoding of a structure. On
 /// an error the vector is unchanged.
-pub fn write_message<T: Wire>(number: u32, value: &T, out: &mut Vec<u8>) -> Result<(), WriteFault>
+pub(crate) fn write_message<T: Wire>(
+    number: u32,
+    value: &T,
+    out: &mut Vec<u8>,
+) -> Result<(), WriteFault>
     requires known { IsTrue (node_id.encodable (standard number)) }
     ensures ok { OnOk result
         (out.new.items ≡ out.old.items ++ (node_id.canonical (standard number) ++ T.format.canonical value.now)) }

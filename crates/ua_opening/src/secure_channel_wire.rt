@@ -1,4 +1,3 @@
-//! Written by `tools/add_service.py --write` from `schema/secure_channel.txt`.
 //! Decodes and encodes the structures of the SecureChannel services.
 
 use crate::secure_channel::{CloseRequest, OpenRequest, OpenResponse};

@@ -1,5 +1,4 @@
 mod EncodingTable
-mod OneLine
 mod Befores
 mod CutBacks
 mod Dissections

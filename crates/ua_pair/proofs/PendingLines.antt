@@ -1,15 +1,14 @@
 -- The lines of a message that is pending: those of its fields, and of its header.
 use Rattle.std.proofs.Common.{◌≡◌, ℕ, Bool, true, false, ◌&&◌, List, [], ◌++◌, Option, Result}
-use Rattle.std.proofs.Common.{Ok, Err, append-nil, refl, subst, sym, ap, cond, length, ◌<◌, ◌∙◌}
-use Rattle.std.proofs.lemmas.Bool.{lt-ltb}
+use Rattle.std.proofs.Common.{Ok, Err, append-nil, refl, subst, sym}
 use Rattle.ua_texts.specs.PlainLeaf.{Either}
-use Rattle.ua_fields.specs.Bodies.{IsBodyText, IsHeaderText, body_fields}
+use Rattle.ua_fields.specs.Bodies.{IsBodyText, IsHeaderText}
 use Rattle.ua_fields.specs.declared.body.BodyKind.{BodyKind}
 use Rattle.ua_fields.specs.declared.side.Side.{Side}
 use Rattle.ua_fields.specs.declared.style.FieldStyle.{FieldStyle}
 use Rattle.ua_fields.specs.Printing.{BreaksOffLines, EachHasText, PrintsText, PrintsOrBreaks}
 use Rattle.ua_pair.specs.Styles.{style_of}
-use Rattle.ua_pair.specs.Told.{IsHeaderOf, IsHeaderWithin, IsWithin, field_lines_of, is_large, left_out, most_field_octets}
+use Rattle.ua_pair.specs.Told.{IsHeaderOf, IsHeaderWithin, IsWithin, is_large, left_out}
 use Rattle.ua_pair.specs.declared.options.DissectOptions.{DissectOptions}
 use Rattle.ua_fields.specs.declared.printing.PrintFault.{PrintFault}
 use Rattle.ua_fields.specs.declared.printing.PrintFault.TheVariants as print
@@ -40,16 +39,6 @@ fields_break options unsupported octets a b ka kb Fields print.OutOfMemory h =
     (λ text. (fields : List ℕ) × (header : List ℕ) × (text ≡ fields ++ header) × Fields fields × IsHeaderOf options unsupported octets header)
     (λ one two p q. (one, two, refl, p, q)) (λ t. header_has options t unsupported octets) h
 fields_break options unsupported octets a b ka kb Fields (print.Output error) h = tt
-
--- and those of its header were not told
-pub header_breaks : (options : DissectOptions) (unsupported : Bool) (octets : List ℕ) (a b : Option (List ℕ)) (ka kb : List ℕ) (Fields : List ℕ → Type 0)
-    → PrintsText a ka b kb Fields → BreaksOffLines (style_of options) a ka b
-    (λ text. (fields : List ℕ) × (header : List ℕ) × (text ≡ fields ++ header) × Fields fields × IsHeaderOf options unsupported octets header)
-header_breaks options unsupported octets a b ka kb Fields h =
-    second_breaks (style_of options) a b b ka kb Fields (IsHeaderOf options unsupported octets)
-    (λ text. (fields : List ℕ) × (header : List ℕ) × (text ≡ fields ++ header) × Fields fields × IsHeaderOf options unsupported octets header)
-    (λ one two p q. (one, two, refl, p, q)) h
-    (nothing_breaks (style_of options) b b kb (IsHeaderOf options unsupported octets) refl (λ t. header_has options t unsupported octets))
 
 -- the lines of the fields were printed, and those of the header after them, or not
 pub fields_then_header : (style : FieldStyle) (a b c : Option (List ℕ)) (ka kb kc : List ℕ) (Fields Header : List ℕ → Type 0)
@@ -102,11 +91,3 @@ pub small_header : (style : FieldStyle) (side : Side) (octets : List ℕ) (r : R
 small_header style side octets r a b ka kb small h =
     printed_as style r a b ka kb (IsHeaderText style side octets) (IsHeaderWithin style side octets)
     (λ text t. subst (λ (large : Bool). Either large (text ≡ []) (IsHeaderText style side octets text)) (sym small) t) h
-
--- the fields of a large body are left out
-pub large_left_out : (options : DissectOptions) (kind : BodyKind) (octets : List ℕ) → options.fields ≡ true → most_field_octets < length octets
-    → field_lines_of options kind octets ≡ left_out
-large_left_out options kind octets wanted large =
-    let fields = body_fields options.names kind octets in
-    ap (λ (b : Bool). cond b (cond (is_large octets) left_out fields) []) wanted
-    ∙ ap (λ (b : Bool). cond b left_out fields) (lt-ltb most_field_octets (length octets) large)

@@ -1,33 +1,17 @@
 -- Octets have lines, and one list of them.
-use Rattle.std.proofs.Common.{◌≡◌, ℕ, false, List, ◌++◌, refl, sym, ap, ◌∙◌}
+use Rattle.std.proofs.Common.{◌≡◌, ℕ, false, List, ◌++◌, sym, ap, ◌∙◌}
 use Rattle.ua_frame.specs.declared.frame.Frame.{Frame}
 use Rattle.ua_frame.specs.Laws.{IsSame}
 use Rattle.ua_frame.specs.Run.{End, events}
-use Rattle.ua_frame.proofs.Readings.{reading}
 use Rattle.ua_frame.proofs.Unique.{unique}
 use Rattle.ua_pair.specs.declared.options.DissectOptions.{DissectOptions}
-use Rattle.ua_pair.specs.Dissected.{rules, last_line, AreLines, HasLines}
+use Rattle.ua_pair.specs.Dissected.{rules, last_line, AreLines}
 use Rattle.ua_pair.specs.Told.{place_behind}
-use Rattle.ua_pair.proofs.Texts.{texts_are, texts_exact}
+use Rattle.ua_pair.proofs.Texts.{texts_exact}
 
 -- the lines of a reading
 abbrev lines_of : DissectOptions → List Frame → List ℕ → End ℕ → List ℕ
 lines_of options fs rest end = events (rules options) fs ++ last_line options.names (place_behind fs) rest end
-
--- octets have lines
-pub has_lines : (options : DissectOptions) (octets : List ℕ) → options.plain ≡ false → HasLines options octets
-has_lines options octets none = let r = reading (rules options) octets in record {
-  lines = lines_of options r.frames r.rest r.end;
-  are = record {
-    frames = r.frames;
-    rest = r.rest;
-    end = r.end;
-    run = r.run;
-    told = events (rules options) r.frames;
-    told_are = texts_are options none r.frames;
-    lines_are = refl;
-  };
-}
 
 same_lines : (options : DissectOptions) (fs gs : List Frame) (x y : List ℕ) (e d : End ℕ) → IsSame fs gs x y e d
     → lines_of options fs x e ≡ lines_of options gs y d

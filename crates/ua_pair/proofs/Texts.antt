@@ -29,7 +29,7 @@ use Rattle.ua_pair.specs.Styles.{style_of}
 use Rattle.ua_pair.specs.Told.{AreFieldsOf, AreParts, AreTextsBehind, IsChunkText, IsFrameText, IsHeaderOf, IsHeaderWithin}
 use Rattle.ua_pair.specs.Told.{IsItemText, IsOpeningText, IsTextBy, IsWithin, is_large, left_out}
 use Rattle.ua_pair.specs.Told.{chunk_lines, field_lines_of, frame_lines, header_lines_of, item_lines, line_if, lines_by, opening_lines, place_behind}
-use Rattle.ua_fields.proofs.Bodies.{exact_header, exact_text_of, header_exact, text_exact}
+use Rattle.ua_fields.proofs.Bodies.{exact_header, exact_text_of}
 
 -- ---- one frame more
 
@@ -59,10 +59,6 @@ exact_either : (large : Bool) (Is : List ℕ → Type 0) (one two text : List �
     → text ≡ cond large one two
 exact_either true Is one two text same h = h
 exact_either false Is one two text same h = same text h
-
-either_exact : (large : Bool) (Is : List ℕ → Type 0) (one two : List ℕ) → Is two → Either large (cond large one two ≡ one) (Is (cond large one two))
-either_exact true Is one two h = refl
-either_exact false Is one two h = h
 
 exact_style : (options : DissectOptions) → options.plain ≡ false → style_of options ≡ exact_field_style options.names
 exact_style options none = ap (λ (p : Bool). record { names = options.names; plain = p }) none
@@ -119,78 +115,6 @@ module _ (options : DissectOptions) (none : options.plain ≡ false) where
   exact_frame before f text h = exact_by f.kind (message_chunks before) (place_behind before) f text h
 
   -- ---- and the lines that `rules` tells are such ones
-
-  if_exact : (wanted : Bool) (Is : List ℕ → Type 0) (shown : List ℕ) → Is shown → Either wanted (Is (cond wanted shown [])) (cond wanted shown [] ≡ [])
-  if_exact true Is shown h = h
-  if_exact false Is shown h = refl
-
-  fields_exact : (kind : BodyKind) (octets : List ℕ) → AreFieldsOf options kind octets (field_lines_of options kind octets)
-  fields_exact kind octets =
-      let fields = body_fields options.names kind octets in
-      if_exact options.fields (IsWithin (style_of options) kind octets) (cond (is_large octets) left_out fields)
-      (either_exact (is_large octets) (IsBodyText (style_of options) kind octets) left_out fields
-      (subst (λ (s : FieldStyle). IsBodyText s kind octets fields) (sym (exact_style options none)) (text_exact options.names kind octets)))
-
-  head_exact : (unsupported : Bool) (octets : List ℕ) → IsHeaderOf options unsupported octets (header_lines_of options unsupported octets)
-  head_exact unsupported octets =
-      let fields = header_fields options.names options.side octets in
-      if_exact (options.fields && unsupported) (IsHeaderWithin (style_of options) options.side octets) (cond (is_large octets) [] fields)
-      (either_exact (is_large octets) (IsHeaderText (style_of options) options.side octets) [] fields
-      (subst (λ (s : FieldStyle). IsHeaderText s options.side octets fields) (sym (exact_style options none))
-      (header_exact options.names options.side octets)))
-
-  item_exact : (item : Item) → IsItemText options item (item_lines options item)
-  item_exact (Whole id octets) = (
-    field_lines_of options (message_kind options.side) octets,
-    header_lines_of options (is_unsupported options.side octets) octets,
-    refl,
-    fields_exact (message_kind options.side) octets,
-    head_exact (is_unsupported options.side octets) octets,
-  )
-  item_exact (Aborted id code reason) = refl
-
-  parts_exact : (items : List Item) → AreParts (IsItemText options) items (flat_map (item_lines options) items)
-  parts_exact [] = refl
-  parts_exact (item ∷ items) = (item_lines options item, flat_map (item_lines options) items, refl, item_exact item, parts_exact items)
-
-  found_exact : {A : Type 0} (Is : A → List ℕ → Type 0) (lines : A → List ℕ) (o : Option A) → ((a : A) → Is a (lines a)) → IsFound Is o (line_if lines o)
-  found_exact Is lines None each = refl
-  found_exact Is lines (Some a) each = each a
-
-  by_exact : (k : Kind) (cs : List Chunk) (place : ℕ) (f : Frame) → IsTextBy k options cs place f (lines_by k options cs place f)
-  by_exact Hel cs place f = refl
-  by_exact Acknowledge cs place f = refl
-  by_exact kind.Err cs place f = refl
-  by_exact Msg cs place f =
-      found_exact (IsChunkText options cs place (frame_size f)) (chunk_lines options cs place (frame_size f)) (chunk_in f)
-      (λ c. (flat_map (item_lines options) (given cs c), refl, parts_exact (given cs c)))
-  by_exact Opn cs place f =
-      found_exact (IsOpeningText options place (frame_size f)) (opening_lines options place (frame_size f)) (opening_in f)
-      (λ c. (
-        message_line c.request (length c.body) (opening_name options.side c.body) ++ field_lines_of options (opening_kind options.side) c.body,
-        refl,
-        (field_lines_of options (opening_kind options.side) c.body, refl, fields_exact (opening_kind options.side) c.body),
-      ))
-  by_exact Clo cs place f = refl
-
-  frame_exact : (before : List Frame) (f : Frame) → IsFrameText options before f (frame_lines options before f)
-  unfolding IsFrameText frame_lines
-  frame_exact before f = by_exact f.kind (message_chunks before) (place_behind before) f
-
-  -- the texts of frames, from these on
-  behind_events : (before fs : List Frame) → AreTextsBehind options before fs (each_from (frame_lines options) before fs)
-  behind_events before [] = refl
-  behind_events before (f ∷ fs) = (
-    frame_lines options before f,
-    each_from (frame_lines options) (before ++ f ∷ []) fs,
-    refl,
-    frame_exact before f,
-    behind_events (before ++ f ∷ []) fs,
-  )
-
-  pub texts_are : (fs : List Frame) → AreTexts options fs (events (rules options) fs)
-  unfolding each_after
-  texts_are fs = behind_events [] fs
 
   events_are : (before fs : List Frame) (text : List ℕ) → AreTextsBehind options before fs text → text ≡ each_from (frame_lines options) before fs
   events_are before [] text h = h

@@ -61,11 +61,6 @@ pub record AreTold (options : DissectOptions) (octets told : List ℕ) : Type 0 
   pub run : Run (rules options) octets frames rest end
   pub told_are : AreTexts options frames told
 
--- these bytes have lines
-pub record HasLines (options : DissectOptions) (octets : List ℕ) : Type 0 where
-  pub lines : List ℕ
-  pub are : AreLines options octets lines
-
 -- the lines of these bytes were appended to a text
 pub record AddsLines (options : DissectOptions) (octets old new : List ℕ) : Type 0 where
   pub lines : List ℕ

@@ -11,4 +11,3 @@ pub mod Refused
 pub mod Dissected
 pub mod Telling
 pub mod Dissecting
-pub mod Laws

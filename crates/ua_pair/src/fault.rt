@@ -41,7 +41,7 @@ impl DissectFault {
     }
 
     /// The error that results from an error in the headers of an OPN.
-    pub fn from_opening(fault: OpenFault) -> DissectFault
+    pub(crate) fn from_opening(fault: OpenFault) -> DissectFault
         ensures { result ≡ opening_fault fault }
     {
         match fault {

@@ -181,7 +181,7 @@ fn push_ended(lines: &mut String, word: &str, number: u64) -> Result<(), AllocEr
 
 /// Ends a line.
 #[inline]
-pub fn push_newline(lines: &mut String) -> Result<(), AllocError>
+pub(crate) fn push_newline(lines: &mut String) -> Result<(), AllocError>
     ensures { OnOk result (string_bytes lines.new ≡ string_bytes lines.old ++ codes "\n") }
 {
     lines.push_str("\n")
@@ -199,7 +199,7 @@ fn flag_letter(flag: Flag) -> &'static str
 }
 
 /// Appends the line of an OPN at this offset, of this size.
-pub fn push_opening_line(
+pub(crate) fn push_opening_line(
     lines: &mut String,
     place: usize,
     size: usize,
@@ -253,7 +253,7 @@ fn chunk_start(name: &str, place: usize, size: usize, flag: Flag) -> ArrayString
 
 /// Appends the line of a MSG or a CLO, by its name, at this offset, of this size.
 // A text on the stack costs a third of what a String does that is appended to as often.
-pub fn push_chunk_line(
+pub(crate) fn push_chunk_line(
     lines: &mut String,
     name: &str,
     place: usize,
@@ -274,7 +274,7 @@ pub fn push_chunk_line(
 }
 
 /// Appends the line of a message of this many bytes, with its RequestId, up to its name.
-pub fn push_message_start(
+pub(crate) fn push_message_start(
     lines: &mut String,
     request: u32,
     size: usize,
@@ -292,7 +292,7 @@ pub fn push_message_start(
 }
 
 /// Appends the line of a message of this many bytes, with its RequestId.
-pub fn push_message_line(
+pub(crate) fn push_message_line(
     lines: &mut String,
     request: u32,
     size: usize,
@@ -305,7 +305,7 @@ pub fn push_message_line(
 }
 
 /// Appends the line of a message that its sender aborted.
-pub fn push_aborted_line(
+pub(crate) fn push_aborted_line(
     lines: &mut String,
     names: bool,
     request: u32,
@@ -320,7 +320,11 @@ pub fn push_aborted_line(
 }
 
 /// Appends the last line, if the UA TCP messages end at this offset and this many bytes are left.
-pub fn push_rest_line(lines: &mut String, place: usize, left: usize) -> Result<(), AllocError>
+pub(crate) fn push_rest_line(
+    lines: &mut String,
+    place: usize,
+    left: usize,
+) -> Result<(), AllocError>
     ensures { OnOk result (string_bytes lines.new ≡ string_bytes lines.old ++ rest_line place left) }
 {
     if left == 0 {
@@ -331,7 +335,7 @@ pub fn push_rest_line(lines: &mut String, place: usize, left: usize) -> Result<(
 }
 
 /// Appends the last line, if the UA TCP message at this offset is rejected.
-pub fn push_refused_line(
+pub(crate) fn push_refused_line(
     lines: &mut String,
     names: bool,
     place: usize,

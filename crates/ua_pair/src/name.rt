@@ -69,7 +69,7 @@ fn body_name<S: Source>(
 }
 
 /// The name of a message that this side sent, and whether it is of no known kind.
-pub fn message_name(
+pub(crate) fn message_name(
     alloc: Global,
     side: Side,
     message: &Message,
@@ -145,7 +145,11 @@ fn open_response_name<S: Source>(alloc: Global, src: &mut S) -> Result<&'static 
 }
 
 /// The name of the body of an OPN that this side sent.
-pub fn opening_name(alloc: Global, side: Side, body: &[u8]) -> Result<&'static str, AllocError>
+pub(crate) fn opening_name(
+    alloc: Global,
+    side: Side,
+    body: &[u8],
+) -> Result<&'static str, AllocError>
     ensures { IfOk result (λ name. name.now ≡ name_of_opening side body.now) }
 {
     let mut src = Octets::new(body);

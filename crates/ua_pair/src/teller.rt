@@ -42,7 +42,7 @@ pub struct Teller {
 }
 
 /// The size of a UA TCP message in bytes, with its header.
-pub fn frame_size(frame: &Frame) -> usize
+pub(crate) fn frame_size(frame: &Frame) -> usize
     requires { IsSized frame.now }
     ensures { result ≡ size_of_frame frame.now }
 {
@@ -171,7 +171,7 @@ impl Teller {
 
     /// Appends the lines of the next UA TCP message, which begins at this offset, without those of
     /// the fields of the message that is returned.
-    pub fn push_frame(
+    pub(crate) fn push_frame(
         &mut self,
         frame: Frame,
         place: usize,

@@ -23,7 +23,7 @@ impl Door {
     }
 
     /// The system reports a peer.
-    pub fn knock(&mut self) {
+    pub(crate) fn knock(&mut self) {
         if let Door::Shut = self {
             *self = Door::Open;
         }
@@ -39,7 +39,7 @@ impl Door {
     }
 
     /// A peer may be accepted again, once the second is over.
-    pub fn lift<C: Clock>(&mut self, clock: &C) {
+    pub(crate) fn lift<C: Clock>(&mut self, clock: &C) {
         if self.rest(clock) == Some(Duration::ZERO) {
             *self = Door::Open;
         }

@@ -90,7 +90,7 @@ impl Leaving {
     }
 
     /// Reads a fragment of each that may be read, and drops those that ended.
-    pub fn drain(&mut self) {
+    pub(crate) fn drain(&mut self) {
         for slot in &mut self.leavers {
             if let Some(leaver) = slot
                 && leaver.readable

@@ -48,7 +48,7 @@ impl PolledSocket {
     }
 
     /// The stream.
-    pub fn into_stream(self) -> TcpStream {
+    pub(crate) fn into_stream(self) -> TcpStream {
         let PolledSocket { stream, .. } = self;
         stream
     }

@@ -1,12 +1,10 @@
 -- What a line of `ua ask` requests.
 use Rattle.std.proofs.Common.{◌≡◌, ◌≢◌, ◌⊎◌, inl, inr, ◌++◌, ◌∷◌, [], ℕ, ℤ, pos, negsuc, List, Option, None, Some, Result, Ok, Err, ap, sym, subst, refl}
-use Rattle.std.specs.Prelude.{IfErr, IfOk, MatchOption, unwrap_or}
+use Rattle.std.specs.Prelude.{MatchOption, unwrap_or}
 use Rattle.std.specs.Str.Lines.{strip_carriage_return}
 use denote.Ref.{Bor}
 use Rattle.ua_report.specs.declared.loop_fault.LoopFault.{LoopFault}
-use Rattle.ua_answers.specs.Script.{AsksFor}
-use Rattle.ua_answers.specs.declared.script.ScriptLine.{ScriptLine}
-use Rattle.ua_program.specs.LineTask.{GivesOwn, IsBare, IsPause, IsSleep, IsTaskOf, RefusesTaskLine, Requests}
+use Rattle.ua_program.specs.LineTask.{GivesOwn, IsBare, IsPause, IsSleep}
 use Rattle.ua_program.specs.declared.line_task.LineTask.{LineTask}
 use Rattle.ua_program.specs.declared.line_task.LineTask.TheVariants as task
 
@@ -30,25 +28,3 @@ pause_given words time (Ok task.Nothing) sleeps pause = absurd pause
 pause_given words time (Ok task.Renew) sleeps pause = absurd pause
 pause_given words time (Ok (task.Ask question)) sleeps pause = absurd pause
 pause_given words time (Err fault) sleeps pause = (pause.0, record { time = time; sleeps = sleeps; bad = pause.1 })
-
--- words of its own are requested, or refused
-pub own_requests : (line words : List ℕ) (found : Result LineTask LoopFault) → IsBare line words → GivesOwn words found → IfOk found (Requests line)
-own_requests line words (Ok task.Endpoints) bare own = subst (λ (w : List ℕ). IsBare line w) own bare
-own_requests line words (Ok (task.Sleep n)) bare own = (words, bare, own)
-own_requests line words (Ok task.Nothing) bare own = absurd own
-own_requests line words (Ok task.Renew) bare own = absurd own
-own_requests line words (Ok (task.Ask question)) bare own = absurd own
-own_requests line words (Err fault) bare own = tt
-
-pub own_refuses : (line words : List ℕ) (found : Result LineTask LoopFault) → IsBare line words → GivesOwn words found → IfErr found (RefusesTaskLine line)
-own_refuses line words (Ok found) bare own = tt
-own_refuses line words (Err fault) bare own = inr (inl (own.0, (words, bare, own.1)))
-
--- the task of a step is requested
-pub step_requested : (line : List ℕ) (before : List ScriptLine) (last : ScriptLine) (found : LineTask) → AsksFor line (before ++ last ∷ [])
-    → IsTaskOf last.step found → Requests line found
-step_requested line before last (task.Ask question) asked is = record { before = before; last = last; asked = asked; is = is }
-step_requested line before last task.Renew asked is = record { before = before; last = last; asked = asked; is = is }
-step_requested line before last task.Nothing asked is = absurd is
-step_requested line before last task.Endpoints asked is = absurd is
-step_requested line before last (task.Sleep n) asked is = absurd is

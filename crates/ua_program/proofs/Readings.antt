@@ -1,5 +1,5 @@
 -- How far the lines of a file have come.
-use Rattle.std.proofs.Common.{◌≡◌, ◌⊎◌, inl, inr, ℕ, zero, suc, ◌<◌, take, ◌+◌, ◌∷◌, length, length-append, arith, Bool, true, false, List}
+use Rattle.std.proofs.Common.{◌≡◌, ◌⊎◌, inl, inr, ℕ, zero, suc, ◌<◌, take, ◌+◌, length, Bool, true, false, List}
 use Rattle.std.proofs.Common.{[], ◌++◌, Option, Some, None, is_none, unwrap_or, Result, Ok, Err, IfErr, refl, sym, ap, subst, ◌∙◌, append_assoc, append-nil}
 use Rattle.std.proofs.lemmas.List.{append_cancel_left}
 use Rattle.std.specs.Io.KnownBytes.{Appends, Consumes, IsAtEnd}
@@ -11,7 +11,6 @@ use Rattle.ua_pair.specs.Dissecting.{StandsBehind, TellsMore, EndsLines, IsStarv
 use Rattle.ua_fields.specs.declared.printing.PrintFault.{PrintFault}
 use Rattle.ua_fields.specs.declared.printing.PrintFault.TheVariants as print
 use Rattle.hex.specs.Hex.{decode_of}
-use Rattle.hex.proofs.HexLemmas.{decode_of-ok}
 use Rattle.ua_program.specs.Looped.{HasLoopedUntil}
 use Rattle.ua_program.specs.Talked.{HasTalked}
 use Rattle.ua_serving.specs.AtOnce.{ServesSomeAsked}
@@ -19,7 +18,7 @@ use Rattle.ua_words.specs.declared.arguments.Serve.{Serve}
 use Rattle.ua_program.specs.Printed.{HasBegun, HasDissected, HasListed, HasToldSome}
 use Rattle.ua_answers.specs.declared.style.AnswerStyle.{AnswerStyle}
 use Rattle.ua_answers.specs.declared.style.EndpointStyle.{EndpointStyle}
-use Rattle.ua_report.specs.Digits.{digits_in, HexSoFar, HoldsSoFar, HoldsOctets, HoldsNever, HoldsNone, IsNeverHex}
+use Rattle.ua_report.specs.Digits.{HexSoFar, HoldsSoFar, HoldsOctets, HoldsNever, HoldsNone, IsNeverHex}
 use Rattle.ua_report.specs.declared.fault.Fault.{Fault}
 use Rattle.ua_report.specs.declared.fault.Fault.TheVariants.{NoMemory, NotHexadecimal}
 use Rattle.ua_session.specs.declared.verdict.Verdict.{Verdict}
@@ -78,20 +77,6 @@ whole_octets false half content octets whole h = h
 whole_octets true None content octets whole h = ap decode_of (h.parts ∙ append-nil h.pairs) ∙ h.decoded
 whole_octets true (Some d) content octets (inl plain) h = absurd cc
 whole_octets true (Some d) content octets (inr none) h = absurd cc
-
--- a digit without its pair stands for nothing
-odd_text : (d : ℕ) (text octets x : List ℕ) → HexSoFar (Some d) text octets → decode_of (digits_in text) ≡ Ok x → ⊥
-odd_text d text octets x s h =
-    let whole = (decode_of-ok (digits_in text) x h).0 in
-    let pairs = (decode_of-ok s.pairs octets s.decoded).0 in
-    let count = ap length s.parts ∙ length-append s.pairs (d ∷ []) in
-    absurd (omega (arith, whole, pairs, count))
-
-pub none_holds : (hex : Bool) (half : Option ℕ) (d : ℕ) (content octets : List ℕ) → hex ≡ true → half ≡ Some d → HoldsSoFar hex half content octets
-    → HoldsNone hex content
-none_holds true (Some e) d content octets is some h x k = odd_text e content octets x h k
-none_holds true None d content octets is some h x k = absurd cc
-none_holds false half d content octets is some h x k = absurd cc
 
 pub ends_file : (hex : Bool) (options : DissectOptions) (content octets told old new : List ℕ) → HoldsOctets hex content octets
     → EndsLines options octets told old new → EndsFile hex options content told old new

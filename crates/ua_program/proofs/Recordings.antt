@@ -1,12 +1,10 @@
 -- Records as lines, one line after the other.
-use Rattle.std.proofs.Common.{◌≡◌, ◌⊎◌, ◌≢◌, inl, inr, ℕ, suc, ◌+◌, ◌<◌, List, [], ◌∷◌, ◌++◌, length}
-use Rattle.std.proofs.Common.{get_or, drop, cond, Option, Some, None, Result, Ok, Err, is_none}
+use Rattle.std.proofs.Common.{◌≡◌, ◌⊎◌, inl, inr, ℕ, suc, ◌+◌, ◌<◌, List, [], ◌∷◌, ◌++◌, length}
+use Rattle.std.proofs.Common.{get_or, drop, Option, Some, None, Result, Ok, Err, is_none}
 use Rattle.std.proofs.Common.{refl, sym, ◌∙◌, ap, subst, arith, append-nil, append_assoc, length-append, drop-cons, true, false}
-use Rattle.std.specs.Prelude.{◌==◌}
 use Rattle.std.specs.Borrow.{Bor}
 use Rattle.std.specs.Result.{result_ok}
 use Rattle.std.specs.Str.Lines.{lines}
-use Rattle.std.proofs.lemmas.Bool.{ne_eqb}
 use Rattle.std.proofs.lemmas.List.{drop_all}
 use Rattle.hex.specs.Hex.{decode_of}
 use Rattle.hex.proofs.HexLemmas.{decode_of-ok}
@@ -16,7 +14,7 @@ use Rattle.ua_frame.proofs.Afters.{each_after-push}
 use Rattle.ua_judge.specs.declared.mark.Mark.{Mark}
 use Rattle.ua_report.specs.Digits.{HexSoFar, IsNeverHex, digits_in}
 use Rattle.ua_program.specs.Recorded.{AddsLine, AreRecorded, RecordLine, WritesNoRecord, WritesRecord}
-use Rattle.ua_program.specs.Recorded.{both_read, hex_octets, line_mark, line_read, lines_read, octets_down, octets_up, one_line}
+use Rattle.ua_program.specs.Recorded.{both_read, hex_octets, line_mark, line_read, lines_read, octets_down, octets_up}
 use Rattle.ua_program.specs.Recorded.RecordLine.{Up, Down}
 use Rattle.ua_report.specs.declared.fault.Fault.{Fault}
 use Rattle.ua_report.specs.declared.fault.Fault.TheVariants.{NoMemory, NotHexadecimal}
@@ -98,52 +96,6 @@ recorded_down read up down octets more marks r more_is = record {
       ∙ (ap (λ (t : List ℕ). octets_down read ++ t) (sym (append-nil octets)) ∙ sym (down-append read (Down octets ∷ []))));
   marks_are = r.marks_are ∙ (sym (append-nil (each_after line_mark read)) ∙ sym (each_after-push line_mark read (Down octets)));
 }
-
--- ---- what a line has
-
-empty_read : (line : List ℕ) → length line ≡ 0 → line_read line ≡ Some []
-empty_read [] none = refl
-empty_read (b ∷ line) none = absurd (omega (arith, none))
-
-pub adds_line : (line : List ℕ) (read more : List RecordLine) (up down : List ℕ) (marks : List Mark) → line_read line ≡ Some more
-    → AreRecorded (read ++ more) up down marks → AddsLine line read up down marks
-adds_line line read more up down marks is are = record { more = more; more_is = is; are = are }
-
-pub adds_none : (line : List ℕ) (read : List RecordLine) (up down : List ℕ) (marks : List Mark) → length line ≡ 0 → AreRecorded read up down marks
-    → AddsLine line read up down marks
-adds_none line read up down marks none are = record {
-  more = [];
-  more_is = empty_read line none;
-  are = subst (λ (t : List RecordLine). AreRecorded t up down marks) (sym (append-nil read)) are;
-}
-
--- a fault of a line
-pub line_fault : (file : Bor (List ℕ)) (line digits : List ℕ) (told why : Fault) → why ≡ told → (hex_octets digits ≡ None → line_read line ≡ None)
-    → (told ≡ NoMemory) ⊎ ((told ≡ NotHexadecimal file) × (hex_octets digits ≡ None))
-    → (why ≡ NoMemory) ⊎ ((why ≡ NotHexadecimal file) × (line_read line ≡ None))
-line_fault file line digits told why is none (inl memory) = inl (is ∙ memory)
-line_fault file line digits told why is none (inr bad) = inr (is ∙ bad.0, none bad.1)
-
-pub up_read : (line digits octets : List ℕ) → line ≡ 62 ∷ digits → hex_octets digits ≡ Some octets → line_read line ≡ Some (Up octets ∷ [])
-up_read line digits octets is hex = ap line_read is ∙ ap (one_line Up) hex
-
-pub up_unread : (line digits : List ℕ) → line ≡ 62 ∷ digits → hex_octets digits ≡ None → line_read line ≡ None
-up_unread line digits is hex = ap line_read is ∙ ap (one_line Up) hex
-
-pub down_read : (line digits octets : List ℕ) → line ≡ 60 ∷ digits → hex_octets digits ≡ Some octets → line_read line ≡ Some (Down octets ∷ [])
-down_read line digits octets is hex = ap line_read is ∙ ap (one_line Down) hex
-
-pub down_unread : (line digits : List ℕ) → line ≡ 60 ∷ digits → hex_octets digits ≡ None → line_read line ≡ None
-down_unread line digits is hex = ap line_read is ∙ ap (one_line Down) hex
-
-pub other_unread : (line : List ℕ) → (length line ≡ 0 → ⊥) → ((digits : List ℕ) → line ≢ 62 ∷ digits) → ((digits : List ℕ) → line ≢ 60 ∷ digits)
-    → line_read line ≡ None
-other_unread [] some up down = absurd (some refl)
-other_unread (b ∷ digits) some up down =
-    let no_up : (b == 62) ≡ false = ne_eqb b 62 (λ e. up digits (ap (λ (k : ℕ). k ∷ digits) e)) in
-    let no_down : (b == 60) ≡ false = ne_eqb b 60 (λ e. down digits (ap (λ (k : ℕ). k ∷ digits) e)) in
-    ap (λ t. cond t (one_line Up (hex_octets digits)) (cond (b == 60) (one_line Down (hex_octets digits)) None)) no_up
-    ∙ ap (λ t. cond t (one_line Down (hex_octets digits)) None) no_down
 
 -- ---- the lines of a text, as far as they were read
 

@@ -279,17 +279,6 @@ module _ (people names : Bool) (lines : List ScriptLine) (replies : List Reply) 
   lines_at : drop index lines ≡ line ∷ drop (index + 1) lines
   lines_at = drop-cons lines index line less ∙ ap (λ (l : ScriptLine). l ∷ drop (suc index) lines) (sym is) ∙ ap (λ (n : ℕ). line ∷ drop n lines) next_index
 
-  asked_skip : line.step ≡ Renew → asked_behind (drop index lines) ≡ asked_behind (drop (index + 1) lines)
-  asked_skip e = ap asked_behind lines_at ∙ rw e refl
-
-  -- a renewal
-  pub behind-skip : line.step ≡ Renew → Behind people names lines replies (index + 1) place had have
-  behind-skip e = record {
-    adds = λ result new all.
-        so.adds result new (subst (λ (ss : List (Option Step)). AddsAll people names (replies_told names ss (drop place (map Some replies))) result have new)
-        (sym (asked_skip e)) all);
-  }
-
   asked_step : asking_step line.step ≡ Some line.step → asked_behind (drop index lines) ≡ Some line.step ∷ asked_behind (drop (index + 1) lines)
   asked_step e = ap asked_behind lines_at ∙ rw e refl
 

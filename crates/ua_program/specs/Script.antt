@@ -1,20 +1,15 @@
 -- A script as client operations: CreateSession, ActivateSession, what its lines request,
 -- CloseSession.
-use Rattle.std.specs.Prelude.{ℕ, ◌+◌, pos, min, length, List, [], ◌∷◌, ◌++◌, Option, Some, None}
+use Rattle.std.specs.Prelude.{ℕ, ◌+◌, pos, min, length, List, [], ◌∷◌, ◌++◌, Option, Some}
 use Rattle.ua_builtin.specs.declared.date_time.DateTime.{DateTime}
 use Rattle.ua_builtin.specs.declared.node_id.NodeId.{NodeId}
 use Rattle.ua_channel.specs.ClientAsks.{no_id}
-use Rattle.ua_exchange.specs.Programs.{begun_over}
-use Rattle.ua_exchange.specs.Replies.{response_behind}
 use Rattle.ua_exchange.specs.declared.turn.Turn.{Turn}
 use Rattle.ua_exchange.specs.declared.turn.Turn.TheVariants.{Ask, Renew as Renewal}
 use Rattle.ua_frame.specs.After.{each_after}
-use Rattle.ua_nodes.specs.Table.{Nodes}
 use Rattle.ua_services.specs.SessionRequests.{activate_session, close_session, create_session, local_url, part_of_node, read, value_alone, write}
 use Rattle.ua_server.specs.State.{session_token}
 use Rattle.ua_services.specs.declared.request.Request.{Request}
-use Rattle.ua_services.specs.declared.response.Response.{Response}
-use Rattle.ua_services.specs.declared.response.Response.TheVariants.{CreateSession}
 use Rattle.ua_structures.specs.Plain.{value_for_node}
 use Rattle.ua_answers.specs.declared.script.ScriptLine.{ScriptLine}
 use Rattle.ua_answers.specs.declared.script.Step.{Step}
@@ -77,14 +72,3 @@ closing lines = Ask (close_session token script_moment (line_handle lines))
 -- all operations of a script
 abbrev pub script_turns : List ScriptLine → List Turn
 script_turns lines = turns_to lines ++ closing lines ∷ []
-
--- ---- the token
-
--- the AuthenticationToken that a response gives, if it is that to CreateSession
-abbrev pub token_given : Response → Option NodeId
-token_given (CreateSession m) = Some m.authentication_token
-token_given m = None
-
--- the one that a server over these nodes gives to a script
-abbrev pub given_token : Nodes → Option NodeId
-given_token nodes = token_given (response_behind (begun_over nodes) script_moment [] creating)

@@ -30,7 +30,7 @@ use ua_words::{Address, ListEndpoints, ReadNodes, WriteNode};
 
 /// A connection to the server on a port of this machine. `why` says whether the Reason of an ERR
 /// frame is kept.
-pub fn connect<'a, R: Net + AllocGlobal>(
+pub(crate) fn connect<'a, R: Net + AllocGlobal>(
     rt: &R,
     port: u16,
     why: bool,
@@ -176,7 +176,7 @@ pub fn endpoints<'a, R: Files + Net + Clock + AllocGlobal, O: Write>(
 
 /// The token policy that a word denotes: for `auto` the one that the server offers, else the one
 /// with this PolicyId.
-pub fn policy_of(alloc: Global, word: &str) -> Result<TokenPolicy, AllocError>
+pub(crate) fn policy_of(alloc: Global, word: &str) -> Result<TokenPolicy, AllocError>
     ensures { IfOk result (λ policy. policy ≡ policy_named word.now) }
 {
     match word {
@@ -311,7 +311,7 @@ pub fn counted(verdict: Verdict, strict: bool) -> Verdict
 }
 
 /// The question of the words of `ua read`.
-pub fn read_question(alloc: Global, asked: &ReadNodes<'_>) -> Result<Question, WordFault>
+pub(crate) fn read_question(alloc: Global, asked: &ReadNodes<'_>) -> Result<Question, WordFault>
     ensures { GivesRead (λ text. text.now) asked.now.nodes.items asked.now.attribute
         (option_map (λ text. text.now) asked.now.range) result }
 {
@@ -319,7 +319,7 @@ pub fn read_question(alloc: Global, asked: &ReadNodes<'_>) -> Result<Question, W
 }
 
 /// The question of the words of `ua write`. With `--plain` the value may be a decimal or a time.
-pub fn write_question(alloc: Global, asked: &WriteNode<'_>) -> Result<Question, WordFault>
+pub(crate) fn write_question(alloc: Global, asked: &WriteNode<'_>) -> Result<Question, WordFault>
     ensures { GivesWrite asked.now.node.now asked.now.kind.now
         (value_given asked.now.style.plain asked.now.kind.now asked.now.value.now) result }
 {

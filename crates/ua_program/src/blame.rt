@@ -33,7 +33,7 @@ fn bad_node<'a>(alloc: Global, words: &[&'a str]) -> Result<Option<&'a str>, All
 }
 
 /// A fault of the words of `ua read`, with the one that is to blame.
-pub fn blame_read<'a>(alloc: Global, asked: &ReadNodes<'a>, fault: WordFault) -> Stop<'a>
+pub(crate) fn blame_read<'a>(alloc: Global, asked: &ReadNodes<'a>, fault: WordFault) -> Stop<'a>
     ensures { StopsForFault (Words fault) result }
 {
     let told = Fault::Words(fault);
@@ -50,7 +50,7 @@ pub fn blame_read<'a>(alloc: Global, asked: &ReadNodes<'a>, fault: WordFault) ->
 }
 
 /// A fault of the words of `ua write`, with the one that is to blame.
-pub fn blame_write<'a>(alloc: Global, asked: &WriteNode<'a>, fault: WordFault) -> Stop<'a>
+pub(crate) fn blame_write<'a>(alloc: Global, asked: &WriteNode<'a>, fault: WordFault) -> Stop<'a>
     ensures { StopsForFault (Words fault) result }
 {
     let told = Fault::Words(fault);

@@ -340,7 +340,7 @@ fn print_next<'a, I: Read, O: Write>(
 /// what was read before are printed; where fields are wanted and an allocation fails, the first of
 /// the lines that follow may have been printed, too. A source without an end within
 /// 18446744073709551615 reads cannot be read.
-pub fn dissect_source<'a, I: Read, O: Write>(
+pub(crate) fn dissect_source<'a, I: Read, O: Write>(
     alloc: Global,
     asked: &Dissect<'a>,
     source: &mut I,

@@ -306,7 +306,7 @@ fn status_of(broken: bool, strict: bool) -> Verdict
 }
 
 /// Prints the frames and messages of both sides of a record, and the verdicts on both sides.
-pub fn judge_record<'a, R: Files + AllocGlobal, I: Read, O: Write>(
+pub(crate) fn judge_record<'a, R: Files + AllocGlobal, I: Read, O: Write>(
     rt: &R,
     asked: &JudgeRecord<'a>,
     input: &mut I,

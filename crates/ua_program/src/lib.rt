@@ -15,7 +15,6 @@ mod asking;
 mod blame;
 mod dissect;
 mod judge;
-pub mod laws;
 mod lifetime;
 mod line_task;
 mod loop_line;

@@ -88,7 +88,7 @@ fn own_task(words: &str) -> Option<Result<LineTask, LoopFault>>
 
 /// What a line asks for: `endpoints`; `sleep`, a tab and milliseconds; or a line of a script of `ua
 /// loop`. A line that asks for nothing has the fault `ScriptLine`, with its number 1.
-pub fn parse_task(alloc: Global, line: &str) -> Result<LineTask, LoopFault>
+pub(crate) fn parse_task(alloc: Global, line: &str) -> Result<LineTask, LoopFault>
     ensures task { IfOk result (Requests line.now) }
     ensures fault { IfErr result (RefusesTaskLine line.now) }
 {

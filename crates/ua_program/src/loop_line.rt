@@ -48,7 +48,7 @@ impl<'a, S> LoopLine<'a, S> {
     }
 
     /// Whether all bytes have gone over the connection.
-    pub fn is_carried(&self) -> bool
+    pub(crate) fn is_carried(&self) -> bool
         ensures up { result ≡ true → self.now.up.now ≡ [] }
         ensures down { result ≡ true → self.now.down.now ≡ [] }
     {

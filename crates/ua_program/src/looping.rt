@@ -82,7 +82,7 @@ fn connection<'a, R: Net>(rt: &R) -> Result<(R::Stream, R::Stream), Stop<'a>> {
 
 /// Sends the bytes of a script over the connection of a transport: those of its client to a server
 /// over the nodes of this text, and the server's response back.
-pub fn carry_over<'a, S: Read + Write>(
+pub(crate) fn carry_over<'a, S: Read + Write>(
     alloc: Global,
     nodes: &str,
     line: &mut LoopLine<'_, S>,
@@ -110,7 +110,7 @@ fn carry_over_tcp<'a, R: Net + AllocGlobal>(
 /// Runs the script of a text over nodes, each end taking what the other wrote in fragments of at
 /// most `cut` bytes. With `names` the names of StatusCodes stand after them; with `plain` values
 /// are written as people write them.
-pub fn run_script(
+pub(crate) fn run_script(
     alloc: Global,
     nodes: NodeTable,
     script: &str,
@@ -160,7 +160,7 @@ fn counted(has_bad: bool, strict: bool) -> Verdict
 /// Runs the script of a file over the nodes of another, or of standard input where that is named
 /// `-`, and prints the answers to its lines and the number of bytes in each direction. Where a
 /// reply is a fault, the answers before it are printed.
-pub fn run_files<'a, R: Files + Net + AllocGlobal, I: Read, O: Write>(
+pub(crate) fn run_files<'a, R: Files + Net + AllocGlobal, I: Read, O: Write>(
     rt: &R,
     asked: &Loop<'a>,
     input: &mut I,

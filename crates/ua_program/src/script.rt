@@ -9,5 +9,5 @@ mod lines;
 mod looped;
 mod printed;
 
-pub use lines::parse_lines;
-pub use looped::{Looped, run_lines};
+pub(crate) use lines::parse_lines;
+pub(crate) use looped::{Looped, run_lines};

@@ -14,7 +14,7 @@ use ua_channel::Line;
 use ua_session::{ClientSession, Question, QuestionFault, Verdict};
 
 /// The ticks of a time as a count, 0 before 1601.
-pub fn ticks_of(moment: DateTime) -> u64
+pub(crate) fn ticks_of(moment: DateTime) -> u64
     ensures { result ≡ ticks_of moment.ticks }
 {
     match u64::try_from(moment.ticks) {
@@ -187,7 +187,7 @@ impl Talk {
     /// Does what a line asks for, but for a pause, and prints the answers: at most one call, and
     /// before it a renewal of the token, if that is due at this time by its lifetime in
     /// milliseconds.
-    pub fn perform<L: Line, O: Write>(
+    pub(crate) fn perform<L: Line, O: Write>(
         &mut self,
         line: &mut L,
         lifetime: u32,

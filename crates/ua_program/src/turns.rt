@@ -124,7 +124,7 @@ fn parse_turns<'a>(alloc: Global, file: &'a str, text: &str) -> Result<Turns, Fa
 
 /// The record of a file of lines, or of the input where it is named `-`, or of two files of bytes,
 /// which tell no order.
-pub fn read_turns<'a, R: Files + AllocGlobal, I: Read>(
+pub(crate) fn read_turns<'a, R: Files + AllocGlobal, I: Read>(
     rt: &R,
     asked: &JudgeRecord<'a>,
     input: &mut I,

@@ -64,7 +64,10 @@ fn text_of<'a>(alloc: Global, file: &'a str, octets: Vec<u8>) -> Result<String, 
 }
 
 /// The text of a file; one that is not UTF-8 cannot be read.
-pub fn read_text<'a, R: Files + AllocGlobal>(rt: &R, file: &'a str) -> Result<String, Stop<'a>>
+pub(crate) fn read_text<'a, R: Files + AllocGlobal>(
+    rt: &R,
+    file: &'a str,
+) -> Result<String, Stop<'a>>
     ensures { IfErr result (λ stop. StopsAtFile file.entry stop) }
 {
     let octets = read_file(rt, file)?;

@@ -48,7 +48,7 @@ fn hint_of(code: StatusCode) -> &'static str
 }
 
 /// Adds the line of a code: its name, what the server says beside it, and what helps.
-pub fn push_code_line(
+pub(crate) fn push_code_line(
     out: &mut String,
     code: StatusCode,
     said: Option<&str>,

@@ -42,7 +42,7 @@ pub fn cannot_read<'a>(file: &'a str, error: io::Error) -> Stop<'a>
 }
 
 /// The fault of a record's file that cannot be written, with the system's error.
-pub fn cannot_record<'a>(fault: Fault<'a>, error: io::Error) -> Stop<'a>
+pub(crate) fn cannot_record<'a>(fault: Fault<'a>, error: io::Error) -> Stop<'a>
     ensures { StopsForFault fault.entry result }
 {
     match error.kind() {
@@ -81,7 +81,7 @@ fn push_reason(out: &mut String, reason: &Reason) -> Result<(), AllocError>
 
 /// Appends the line of what is known of a fault: of its StatusCode, with the text of a server, or
 /// of its reason.
-pub fn push_known(
+pub(crate) fn push_known(
     out: &mut String,
     fault: &Fault<'_>,
     reason: Option<&Reason>,

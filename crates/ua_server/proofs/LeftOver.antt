@@ -1,5 +1,5 @@
 -- Behind which octets a moment is left over that was asked for.
-use Rattle.std.specs.Prelude.{◌≡◌, ◌⊎◌, ℕ, ◌+◌, ◌<◌, ◌≤◌, Bool, true, false, IsTrue, List, [], ◌∷◌, ◌++◌, cond, length, Option, None, Some}
+use Rattle.std.specs.Prelude.{◌≡◌, ◌⊎◌, ℕ, ◌+◌, ◌<◌, Bool, true, false, IsTrue, List, [], ◌∷◌, ◌++◌, cond, length, Option, None, Some}
 use Rattle.std.proofs.Common.{refl, sym, ◌∙◌, ap, inl, inr, append-nil, length-append, arith}
 use Rattle.ua_builtin.specs.declared.date_time.DateTime.{DateTime}
 use Rattle.ua_frame.proofs.Ends.{ends_stay}
@@ -7,7 +7,7 @@ use Rattle.ua_frame.proofs.Streams.{events-push, run_nil}
 use Rattle.ua_frame.proofs.Unique.{unique}
 use Rattle.ua_frame.specs.After.{each_from}
 use Rattle.ua_frame.specs.Frames.{frames_octets}
-use Rattle.ua_frame.specs.Run.{End, Rules, Run, Going, Stopped, events}
+use Rattle.ua_frame.specs.Run.{End, Rules, Run, Going, events}
 use Rattle.ua_frame.specs.declared.frame.Frame.{Frame}
 use Rattle.ua_frame.specs.declared.limits.Limits.{Limits}
 use Rattle.ua_channel_laws.proofs.ReadOn.{begins_run, events_on}
@@ -16,8 +16,8 @@ use Rattle.ua_channel.specs.Received.{closings, listed, received}
 use Rattle.ua_channel.specs.ServerRules.{server_rules}
 use Rattle.ua_channel.specs.ServerTold.{Told, Agreed, Opened, Asked, GaveUp, Closed}
 use Rattle.ua_server.proofs.SaidInParts.{used_in-append}
-use Rattle.ua_server.specs.Said.{is_answered, used_in, times_used_by}
-use Rattle.ua_server.specs.Serving.{AreAsked, EndsAnswered, EndsRefused, IsUsedUp}
+use Rattle.ua_server.specs.Said.{is_answered, used_in}
+use Rattle.ua_server.specs.Serving.{AreAsked, IsUsedUp}
 use Rattle.ua_server.specs.ServingParts.{IsTimeKept}
 
 -- ---- lists
@@ -163,37 +163,6 @@ module _ (limits : Limits) (channel : ℕ) where
   asked-over octets more frames rest end told moments over run (inl a) = absurd (over-left octets frames rest end over run a.0)
   asked-over octets more frames rest end told moments over run (inr a) =
       inr (over-left (octets ++ more) frames (rest ++ more) end over (ends_stay rules octets more frames rest end over run), a.1)
-
-  -- of the same octets as many are asked for
-  pub as-many : (octets : List ℕ) (told : List Told) (moments others : List DateTime) → AreAsked limits channel octets told moments
-      → AreAsked limits channel octets told others → length moments ≡ length others
-  as-many octets told moments others (inl a) (inl b) = a.1 ∙ sym b.1
-  as-many octets told moments others (inl a) (inr b) = absurd (b.0 a.0)
-  as-many octets told moments others (inr a) (inl b) = absurd (a.0 b.0)
-  as-many octets told moments others (inr a) (inr b) = a.1 ∙ sym b.1
-
-  pub all-asked : (octets : List ℕ) (told : List Told) (moments : List DateTime) → AreAsked limits channel octets told moments → used_in told ≤ length moments
-  all-asked octets told moments (inl a) = omega (arith, a.1)
-  all-asked octets told moments (inr a) = omega (arith, a.1)
-
-  -- up to an answer, and up to what is refused
-  pub answered-count : (octets : List ℕ) (before : List Told) (t : Told) (moments : List DateTime) → EndsAnswered limits channel octets before t
-      → AreAsked limits channel octets (before ++ t ∷ []) moments → length moments + times_used_by t ≡ used_in (before ++ t ∷ []) + 1
-  answered-count octets before (Agreed a) moments e (inl m) = absurd (unused-left octets e.frames e.frame e.run (ap used_in e.tells) m.0)
-  answered-count octets before (Agreed a) moments e (inr m) = omega (arith, m.1)
-  answered-count octets before (Opened id handle token lifetime) moments e (inl m) = rw m.1
-  answered-count octets before (Opened id handle token lifetime) moments e (inr m) =
-      absurd (m.0 (inr (record { frames = e.frames; frame = e.frame; run = e.run; uses_one = ap used_in e.tells })))
-  answered-count octets before (Asked id token message) moments e (inl m) = rw m.1
-  answered-count octets before (Asked id token message) moments e (inr m) =
-      absurd (m.0 (inr (record { frames = e.frames; frame = e.frame; run = e.run; uses_one = ap used_in e.tells })))
-  answered-count octets before (GaveUp id) moments e m = let h = e.answered in absurd cc
-  answered-count octets before Closed moments e m = let h = e.answered in absurd cc
-
-  pub refused-count : (octets : List ℕ) (before : List Told) (code : ℕ) (moments : List DateTime) → EndsRefused limits channel octets before code
-      → AreAsked limits channel octets (before ++ []) moments → length moments ≡ used_in (before ++ []) + 1
-  refused-count octets before code moments e (inl m) = absurd (over-left octets e.frames e.rest (Stopped code) (λ p. absurd cc) e.run m.0)
-  refused-count octets before code moments e (inr m) = m.1
 
 -- where there are no words nothing is to be written
 pub no-words : (out : List ℕ) → out ≡ [] → 0 < length out → ⊥

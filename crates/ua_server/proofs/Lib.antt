@@ -13,7 +13,6 @@ mod Bounds
 mod Events
 mod Standing
 mod Stores
-mod StoredChange
 mod Exchanges
 pub mod LeftOver
 mod Acting
@@ -26,7 +25,6 @@ pub mod NowStanding
 mod Histories
 mod EndpointStays
 mod Sharings
-mod Tokens
 mod Stepped
 mod Replying
 mod Thinned

@@ -1,47 +1,22 @@
 //! Laws of what a server sends, each the contract of a function that does nothing, or only looks.
 
-ghost use Rattle.std.specs.Prelude.{◌≡◌, ◌≤◌, ◌++◌, ◌∷◌, [], ℕ, List, length, IsTrue, Option, Some, Result, Ok};
-ghost use Rattle.ua_builtin.specs.DateTime.{date_time};
+ghost use Rattle.std.specs.Prelude.{◌≡◌, ◌++◌, ◌∷◌, [], ℕ, List, Option, Result};
 ghost use Rattle.ua_builtin.specs.declared.date_time.DateTime.{DateTime};
 ghost use Rattle.ua_channel.specs.ServerStands.{limits_of, channel_of};
-ghost use Rattle.ua_channel.specs.ServerStands.{ChannelStands as Holds};
-ghost use Rattle.ua_channel_laws.specs.ServerReads.{AtServer, ServerCloses, ServerReads};
-ghost use Rattle.ua_channel.specs.Stops.{StopsAt};
 ghost use Rattle.ua_channel.specs.declared.server.ServerChannel.{ServerChannel};
-ghost use Rattle.ua_frame.specs.Run.{End, Going, Over, Run, Stopped, events};
-ghost use Rattle.ua_frame.specs.declared.frame.Frame.{Frame};
-ghost use Rattle.ua_channel.specs.ServerRules.{server_rules};
 ghost use Rattle.ua_channel.specs.ServerTold.{Told};
-ghost use Rattle.ua_builtin.specs.declared.node_id.NodeId.{NodeId};
-ghost use Rattle.ua_nodes.specs.Table.{Nodes, node_at};
-ghost use Rattle.ua_nodes.specs.Limit.{after_limited};
-ghost use Rattle.ua_nodes.specs.Write.{after_write};
+ghost use Rattle.ua_nodes.specs.Table.{Nodes};
 ghost use Rattle.ua_server.specs.History.{ConnectionEvent, Became, IsUndisturbed, StandsOver, StepOver};
 ghost use Rattle.ua_server.specs.History.{course_over, with_changes, moments_of, output_over, told_in};
 ghost use Rattle.ua_server.specs.Now.{StepNow};
 ghost use Rattle.ua_server.specs.Stepping.{ServerStands, StepAnswers, StepStands};
 ghost use Rattle.ua_server.specs.declared.step.Step.{Step};
 ghost use Rattle.ua_server.specs.declared.step.StepFault.{StepFault};
-ghost use Rattle.ua_server.specs.Said.{Course, start, with_more, said_of, course_after};
-ghost use Rattle.ua_server.specs.Said.{last_words, output_of, state_after, used_in};
-ghost use Rattle.ua_server.specs.Sharing.{SharedEvent, SharedState, Changed, EndsAmong, StandsAmong, at_moment};
+ghost use Rattle.ua_server.specs.Said.{Course, start, said_of, course_after};
+ghost use Rattle.ua_server.specs.Sharing.{SharedEvent, SharedState, Changed, StandsAmong, at_moment};
 ghost use Rattle.ua_server.specs.Sharing.{course_at, opened, seen_by, sent_to, shared_over, told_by};
-ghost use Rattle.ua_services.specs.declared.request.Request.{Request};
-ghost use Rattle.ua_opening.specs.declared.header.RequestHeader.{RequestHeader};
-ghost use Rattle.ua_services.specs.Request.{kind_of_request, request, request_read};
-ghost use Rattle.ua_services.specs.Response.{Answers, kind_of_response as answer_kind, response};
-ghost use Rattle.ua_services.specs.declared.request.Request.TheVariants as kinds;
-ghost use Rattle.ua_structures.specs.declared.attribute.ReadRequest.{ReadRequest};
-ghost use Rattle.ua_structures.specs.declared.attribute.WriteRequest.{WriteRequest};
-ghost use Rattle.ua_structures.specs.declared.session.ActivateSessionRequest.{ActivateSessionRequest};
-ghost use Rattle.ua_structures.specs.declared.session.CloseSessionRequest.{CloseSessionRequest};
-ghost use Rattle.ua_server.specs.Answer.{answer, fault_of, session_header};
-ghost use Rattle.ua_server.specs.Reply.{answered};
 ghost use Rattle.ua_server.specs.Sound.{IsSoundState};
-ghost use Rattle.ua_server.specs.Status.{bad_session_id_invalid};
-ghost use Rattle.ua_server.specs.State.{State, begun, session_token, with_nodes, with_session};
-ghost use Rattle.ua_server.specs.Stored.{stored_items};
-ghost use Rattle.ua_structures.specs.declared.attribute.WriteValue.{WriteValue};
+ghost use Rattle.ua_server.specs.State.{State, begun, with_nodes, with_session};
 ghost use Rattle.ua_server.specs.declared.session.Session.{Session};
 
 use crate::services::Services;
@@ -53,40 +28,6 @@ pub fn services_are_sound(services: &Services)
     let _limit = services.endpoint.message_limit;
     let _made = services.made;
 }
-
-/// A request is answered by a response of its own kind, or by a ServiceFault (OPC 10000-4, 5.3).
-/// Sound services answer each request that can be encoded by a response that can be encoded, and
-/// stay sound.
-pub fn each_request_has_its_answer()
-    ensures kind { (s : State) (moment : DateTime) (m : Request)
-        → Answers (answer_kind (answer s moment m).1) (kind_of_request m) }
-    ensures encodable { (s : State) (moment : DateTime) (m : Request) → IsSoundState s
-        → IsTrue (date_time.encodable moment) → IsTrue (request.encodable m)
-        → IsTrue (response.encodable (answer s moment m).1) }
-    ensures sound { (s : State) (moment : DateTime) (m : Request) → IsSoundState s → IsTrue (date_time.encodable moment)
-        → IsSoundState (answer s moment m).0 }
-{}
-
-/// Events of a channel in two parts are answered as the first part, and then as the second from the
-/// state that the first leaves.
-pub fn what_is_told_in_parts_is_answered_in_parts()
-    ensures left { (channel : ℕ) (s : State) (a b : List Told) (moments : List DateTime)
-        → state_after channel s (a ++ b) moments ≡ course_after channel (state_after channel s a moments) b }
-    ensures said { (channel : ℕ) (s : State) (a b : List Told) (end : End ℕ) (moments : List DateTime)
-        → output_of channel s (a ++ b) end moments ≡ output_of channel s a Going moments
-        ++ (said_of channel (state_after channel s a moments) b ++ last_words end) }
-{}
-
-/// Where there are as many timestamps as the events use, further ones after them change nothing of
-/// what is sent, and are left over.
-pub fn later_moments_change_nothing_before()
-    ensures left { (channel : ℕ) (s : State) (told : List Told) (moments more : List DateTime)
-        → used_in told ≤ length moments
-        → state_after channel s told (moments ++ more) ≡ with_more (state_after channel s told moments) more }
-    ensures said { (channel : ℕ) (s : State) (told : List Told) (end : End ℕ) (moments more : List DateTime)
-        → used_in told ≤ length moments
-        → output_of channel s told end (moments ++ more) ≡ output_of channel s told end moments }
-{}
 
 /// A step defined by the current state alone answers as one defined by all events before it,
 /// wherever these lead to the current state; and where it leaves the channel is the same whatever
@@ -176,77 +117,4 @@ pub fn one_of_several_connections_stands_by_itself()
         → StandsAmong channels k x session octets (es ++ Changed nodes ∷ []) first (with_nodes now nodes) }
     ensures silent { (channels : ℕ → ℕ) (k : ℕ) (p : SharedState) (nodes : Nodes)
         → (sent_to channels k p (Changed nodes ∷ []) ≡ []) × (told_by k (Changed nodes ∷ []) ≡ []) }
-{}
-
-/// Each of several connections follows its client as a server on its own does, token renewals among
-/// the messages, whatever happens on the others in between. After a prefix of the bytes of a
-/// conversation its events are a prefix of that conversation's events, and after all bytes they are
-/// just those; it refuses none of it, and nothing but a CLO closes it.
-pub fn each_connection_follows_its_client()
-    ensures begins { (channels : ℕ → ℕ) (k : ℕ) (x : ServerChannel) (session : Option Session) (octets more : List ℕ)
-        (es : List SharedEvent) (first now : State) (all : List Told) (at : AtServer)
-        → StandsAmong channels k x session octets es first now
-        → ServerReads (limits_of x) (channel_of x) (octets ++ more) all at → (later : List Told)
-        × (all ≡ told_by k es ++ later) }
-    ensures all { (channels : ℕ → ℕ) (k : ℕ) (x : ServerChannel) (session : Option Session) (octets : List ℕ)
-        (es : List SharedEvent) (first now : State) (all : List Told) (at : AtServer)
-        → StandsAmong channels k x session octets es first now → ServerReads (limits_of x) (channel_of x) octets all at
-        → told_by k es ≡ all }
-    ensures not_refused { (channels : ℕ → ℕ) (k : ℕ) (x : ServerChannel) (octets out more : List ℕ)
-        (es new : List SharedEvent) (first before now : State) (code : ℕ) (all : List Told) (at : AtServer)
-        → EndsAmong (Stopped code) channels k x octets out es new first before now
-        → ServerReads (limits_of x) (channel_of x) (octets ++ more) all at → ⊥ }
-    ensures not_closed { (channels : ℕ → ℕ) (k : ℕ) (x : ServerChannel) (octets out more : List ℕ)
-        (es new : List SharedEvent) (first before now : State) (all : List Told) (at : AtServer)
-        → EndsAmong Over channels k x octets out es new first before now
-        → ServerReads (limits_of x) (channel_of x) (octets ++ more) all at → ⊥ }
-    ensures closed { (channels : ℕ → ℕ) (k : ℕ) (x : ServerChannel) (octets out more : List ℕ)
-        (es new : List SharedEvent) (first before now : State) (all : List Told)
-        → EndsAmong Over channels k x octets out es new first before now
-        → ServerCloses (limits_of x) (channel_of x) (octets ++ more) all → told_by k (es ++ new) ≡ all }
-{}
-
-/// A hostile client ends its own connection, and no other. That connection ends at the first wrong
-/// frame, with the code of the first reason against it, and changes nothing more. The bytes
-/// held for a connection's unfinished frame and messages are bounded by its own bytes alone, as
-/// [`Connection::held`](crate::Connection::held) says.
-pub fn a_hostile_client_ends_its_own_connection()
-    ensures refused { (channels : ℕ → ℕ) (k : ℕ) (x : ServerChannel) (octets out : List ℕ) (es new : List SharedEvent)
-        (first before now : State) (code : ℕ)
-        → EndsAmong (Stopped code) channels k x octets out es new first before now
-        → (frames : List Frame) × (rest : List ℕ) × Run (server_rules (limits_of x) (channel_of x)) octets frames rest
-        (Stopped code) × StopsAt (server_rules (limits_of x) (channel_of x)) frames rest code
-        × (events (server_rules (limits_of x) (channel_of x)) frames ≡ told_by k (es ++ new)) × (now ≡ before) }
-    ensures holds { (channels : ℕ → ℕ) (k : ℕ) (x : ServerChannel) (session : Option Session) (octets : List ℕ)
-        (es : List SharedEvent) (first now : State)
-        → StandsAmong channels k x session octets es first now → (frames : List Frame) × (rest : List ℕ)
-        × Holds x octets frames rest }
-{}
-
-/// A request under the AuthenticationToken of a session that another connection has, or had, is
-/// answered with Bad_SessionIdInvalid, and changes nothing: a session is valid on its own
-/// connection only.
-pub fn a_token_of_another_connection_is_no_token()
-    ensures refused { (channels : ℕ → ℕ) (j k : ℕ) (first : State) (before es : List SharedEvent) (theirs : Session)
-        (octets : List ℕ) (m : Request) (asking : RequestHeader) (moment : DateTime)
-        → (k ≡ j → ⊥) → ((shared_over channels (opened first) before).own j).session ≡ Some theirs
-        → request_read octets ≡ Ok m → session_header m ≡ Some asking
-        → asking.authentication_token ≡ session_token theirs.number
-        → answered (course_at (shared_over channels (opened first) (before ++ es)) k).state moment octets
-        ≡ (
-          (course_at (shared_over channels (opened first) (before ++ es)) k).state,
-          fault_of asking.request_handle bad_session_id_invalid moment,
-        ) }
-    ensures activate { (m : ActivateSessionRequest) → session_header (kinds.ActivateSession m) ≡ Some m.request_header }
-    ensures close { (m : CloseSessionRequest) → session_header (kinds.CloseSession m) ≡ Some m.request_header }
-    ensures read { (m : ReadRequest) → session_header (kinds.Read m) ≡ Some m.request_header }
-    ensures write { (m : WriteRequest) → session_header (kinds.Write m) ≡ Some m.request_header }
-{}
-
-/// The stored items of a Write are all that it changes: each node is left as by these items alone
-/// (OPC 10000-4, 5.11.4).
-pub fn what_a_write_stores_is_what_it_changes()
-    ensures { (most : Option ℕ) (items : List WriteValue) (moment : DateTime) (nodes : Nodes) (id : NodeId)
-        → node_at (after_write (stored_items most nodes items) moment nodes) id
-        ≡ node_at (after_limited most items moment nodes) id }
 {}

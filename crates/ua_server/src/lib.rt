@@ -47,7 +47,7 @@ pub use serve_fault::ServeFault;
 pub use serve_terms::ServeTerms;
 pub use server::Server;
 pub use services::Services;
-pub use serving::{serve, serve_application, serve_watched};
+pub use serving::{serve, serve_application};
 pub use session::SessionSlot;
 pub use step::{End, Step, StepFault};
 pub use watch::{AnsweredRequest, Unwatched, Watch};

@@ -114,22 +114,6 @@ impl Services {
         &self.nodes
     }
 
-    /// Turns the services into their nodes.
-    pub fn into_nodes(self) -> NodeTable
-        ensures is { result ≡ self.nodes }
-        ensures sound { AreNodesSound result }
-    {
-        let Services {
-            nodes,
-            endpoint,
-            memory_limit: _,
-            made: _,
-            session: _,
-        } = self;
-        drop(endpoint);
-        nodes
-    }
-
     /// Sets what the node of a NodeId holds, as [`NodeTable::set`]. Allocates nothing.
     pub fn set(&mut self, id: &NodeId, reading: Reading) -> Result<(), SetFault>
         ensures state { self.new ≡ with_nodes self.old (after_set id.now reading self.old.nodes) }
@@ -166,7 +150,7 @@ impl Services {
 
     /// Exchanges the session of the services with that of the slot; either may be empty. Allocates
     /// nothing.
-    pub fn swap_session(&mut self, slot: &mut SessionSlot)
+    pub(crate) fn swap_session(&mut self, slot: &mut SessionSlot)
         ensures services { self.new ≡ with_session self.old (session_in slot.old) }
         ensures slot { session_in slot.new ≡ self.old.session }
     {

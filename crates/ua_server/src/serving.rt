@@ -53,7 +53,7 @@ pub fn serve<L: Line, M: Moments>(
 /// Does what [`serve`] does, and tells `watch` of each request that is answered, in order. No
 /// clause says when that happens relative to the writes. A message that the client gives up is not
 /// answered.
-pub fn serve_watched<L: Line, M: Moments, W: Watch>(
+pub(crate) fn serve_watched<L: Line, M: Moments, W: Watch>(
     line: &mut L,
     services: &mut Services,
     terms: ServeTerms,

@@ -4,7 +4,6 @@ use Rattle.std.proofs.Common.{refl}
 use Rattle.ua_builtin.specs.NodeId.{node_id}
 use Rattle.ua_opening.specs.Message.{standard}
 use Rattle.ua_opening.proofs.MessagesLawful.{canonical-made}
-use Rattle.ua_services.proofs.RequestLawful.{are_requests}
 use Rattle.ua_services.proofs.ResponseLawful.{are_responses}
 use Rattle.ua_services.specs.Request.{request, requests, RequestStructure}
 use Rattle.ua_services.specs.Response.{response, responses, ResponseStructure as Held}
@@ -17,11 +16,6 @@ pub request-encodable : (k : RequestKind) (m : RequestStructure k) → request.e
 unfolding request node_id
 request-encodable Read m = refl
 request-encodable k m = refl
-
-pub request-canonical : (k : RequestKind) (m : RequestStructure k) → request.canonical (requests.make k m) ≡ node_id.canonical (standard (requests.number k))
-    ++ (requests.format k).canonical m
-unfolding request
-request-canonical = canonical-made requests are_requests
 
 pub response-encodable : (k : ResponseKind) (m : Held k) → response.encodable (responses.make k m) ≡ (responses.format k).encodable m
 unfolding response node_id

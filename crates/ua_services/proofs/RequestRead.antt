@@ -164,20 +164,3 @@ request_read-found octets m = (
   (λ e. body_is request lawful_request octets m (found_ok (body_of request octets) (misread_request_id (handle_of octets) (id_of_body octets)) m (sym e))),
   (λ h. ap (λ o. found_or o (misread_request_id (handle_of octets) (id_of_body octets))) (body_found request lawful_request octets m h)),
 )
-
-pub request_read-refused : (octets : List ℕ) (fault : RequestFault) → request_read octets ≡ Err fault → MisreadRequest octets fault
-request_read-refused octets fault e = request_refused octets (Err fault) (inl (sym e))
-
-kind_memory : (handle : ℕ) (o : Option RequestKind) → misread_request_kind handle o ≡ OutOfMemory → ⊥
-kind_memory handle None e = cc
-kind_memory handle (Some k) e = cc
-
-id_memory : (handle : ℕ) (o : Option NodeId) → misread_request_id handle o ≡ OutOfMemory → ⊥
-id_memory handle None e = cc
-id_memory handle (Some id) e = kind_memory handle (request_kind id) e
-
-pub request_read-memory : (octets : List ℕ) → request_read octets ≡ Err OutOfMemory → ⊥
-unfolding request_read
-request_read-memory octets e =
-    id_memory (handle_of octets) (id_of_body octets)
-    (sym (found_err (body_of request octets) (misread_request_id (handle_of octets) (id_of_body octets)) OutOfMemory (sym e)).1)

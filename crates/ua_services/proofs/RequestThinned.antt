@@ -1,7 +1,7 @@
 -- A request that is read without the values that nodes could not take, against what is kept of the one that is read whole.
-use Rattle.std.specs.Prelude.{◌≡◌, ℕ, ◌<◌, ◌≤◌, Bool, List, [], ◌∷◌, length, Option, Some, None, Result, Ok, Err}
-use Rattle.std.proofs.Common.{refl, sym, ◌∙◌, ap, inl, inr}
-use Rattle.ua_builtin.specs.Exact.{◌>>=◌, image_read}
+use Rattle.std.specs.Prelude.{◌≡◌, ℕ, ◌<◌, ◌≤◌, Bool, List, length, Some, Result, Ok, Err}
+use Rattle.std.proofs.Common.{sym, ◌∙◌, ap, inl, inr}
+use Rattle.ua_builtin.specs.Exact.{image_read}
 use Rattle.ua_builtin.specs.Format.{Gives, most_levels}
 use Rattle.ua_builtin.specs.declared.node_id.NodeId.{NodeId}
 use Rattle.ua_wire.specs.declared.fault.ReadFault.{ReadFault}
@@ -10,41 +10,18 @@ use Rattle.ua_structures.specs.Attribute.{write_request}
 use Rattle.ua_structures.specs.Thin.{thinned_request}
 use Rattle.ua_structures.specs.declared.attribute.WriteRequest.{WriteRequest}
 use Rattle.ua_structures.specs.declared.thin.ValueType.{ValueType}
-use Rattle.ua_opening.specs.Message.{found_or, handle_behind, if_last}
-use Rattle.ua_services.specs.Request.{read_as_request, request_read, requests, thin_read, thin_request}
+use Rattle.ua_services.specs.Request.{read_as_request, thin_read}
 use Rattle.ua_services.specs.declared.fault.RequestFault.{RequestFault}
-use Rattle.ua_services.specs.declared.fault.RequestFault.TheVariants.{Unreadable}
 use Rattle.ua_services.specs.declared.request.Request.{Request}
 use Rattle.ua_services.specs.declared.request.Request.TheVariants.{Write as WriteMessage}
-use Rattle.ua_services.specs.declared.request.RequestKind.{RequestKind}
 use Rattle.ua_services.specs.declared.request.RequestKind.TheVariants.{Write}
 use Rattle.ua_opening.proofs.BodyRead.{image_fails, image_found}
-use Rattle.ua_services.proofs.RequestRead.{IsUnread, Reads, read_behind, kind_fails, kind_left, kind_whole}
+use Rattle.ua_services.proofs.RequestRead.{IsUnread, Reads, kind_fails, kind_left, kind_whole}
 use Rattle.ua_services.proofs.RequestSkipped.{image_err, made_of}
 
 -- which nodes could take which values
 abbrev Takes : Type 0
 Takes = NodeId → ValueType → Bool
-
--- ---- requests that are kept whole
-
-last_whole : (takes : Takes) (m : Request) (rest : List ℕ) (fault : RequestFault) → thin_request takes m ≡ m → thin_read takes (found_or (if_last m rest) fault)
-    ≡ found_or (if_last m rest) fault
-last_whole takes m [] fault same = ap Ok same
-last_whole takes m (x ∷ rest) fault same = refl
-
-found_whole : {A : Type 0} (make : A → Request) (takes : Takes) → ((m : A) → thin_request takes (make m) ≡ make m)
-    → (found : Option (A × List ℕ)) (fault : RequestFault)
-    → thin_read takes (found_or (◌>>=◌ {B = Request × List ℕ} found (λ x. Some (make x.0, x.1)) >>= λ x. if_last x.0 x.1) fault)
-    ≡ found_or (◌>>=◌ {B = Request × List ℕ} found (λ x. Some (make x.0, x.1)) >>= λ x. if_last x.0 x.1) fault
-found_whole make takes same None fault = refl
-found_whole make takes same (Some x) fault = last_whole takes (make x.0) x.1 fault (same x.0)
-
--- a request of another kind than Write
-pub kept_whole : (takes : Takes) (k : RequestKind) (octets : List ℕ) → (k ≡ Write → ⊥) → thin_read takes (read_as_request k octets) ≡ read_as_request k octets
-kept_whole takes Write octets other = absurd (other refl)
-kept_whole takes k octets other = found_whole (requests.make k) takes (λ m. refl) ((requests.format k).decode most_levels octets)
-    (Unreadable (handle_behind octets))
 
 -- ---- a Write behind its NodeId
 
@@ -82,17 +59,3 @@ write_whole takes old new kept h none =
     let whole = made_of (thinned_request takes) (write_request.decode most_levels old) kept new h in
     thin_ok takes whole.0 kept (read_as_request Write old) whole.2
     (kind_whole Write old new (WriteMessage whole.0) (image_found WriteMessage (write_request.decode most_levels) old new whole.0 whole.1) none)
-
--- ---- the whole body
-
-pub whole_is : (takes : Takes) (k : RequestKind) (octets rest : List ℕ) (r : Result Request RequestFault) → request_read octets ≡ read_as_request k rest
-    → (k ≡ Write → ⊥) → Reads r (read_as_request k rest)
-    → Reads r (thin_read takes (request_read octets))
-whole_is takes k octets rest r is other h = read_behind r (thin_read takes (request_read octets)) (read_as_request k rest) (ap (thin_read takes) is
-    ∙ kept_whole takes k rest other) h
-
-pub thin_is : (takes : Takes) (octets rest : List ℕ) (r : Result Request RequestFault) → request_read octets ≡ read_as_request Write rest
-    → Reads r (thin_read takes (read_as_request Write rest))
-    → Reads r (thin_read takes (request_read octets))
-thin_is takes octets rest r is h = read_behind r (thin_read takes (request_read octets)) (thin_read takes (read_as_request Write rest))
-    (ap (thin_read takes) is) h

@@ -138,19 +138,3 @@ response_read-found octets m = (
   (λ e. body_is response lawful_response octets m (found_ok (body_of response octets) (misread_response_id (id_of_body octets)) m (sym e))),
   (λ h. ap (λ o. found_or o (misread_response_id (id_of_body octets))) (body_found response lawful_response octets m h)),
 )
-
-pub response_read-refused : (octets : List ℕ) (fault : ResponseFault) → response_read octets ≡ Err fault → MisreadResponse octets fault
-response_read-refused octets fault e = response_refused octets (Err fault) (inl (sym e))
-
-kind_memory : (o : Option ResponseKind) → misread_response_kind o ≡ OutOfMemory → ⊥
-kind_memory None e = cc
-kind_memory (Some k) e = cc
-
-id_memory : (o : Option NodeId) → misread_response_id o ≡ OutOfMemory → ⊥
-id_memory None e = cc
-id_memory (Some id) e = kind_memory (response_kind id) e
-
-pub response_read-memory : (octets : List ℕ) → response_read octets ≡ Err OutOfMemory → ⊥
-unfolding response_read
-response_read-memory octets e =
-    id_memory (id_of_body octets) (sym (found_err (body_of response octets) (misread_response_id (id_of_body octets)) OutOfMemory (sym e)).1)

@@ -30,8 +30,8 @@ pub use fault::{RequestFault, ResponseFault};
 pub use identity::{read_identity, write_identity};
 pub use policy::chosen_id;
 pub use request::{
-    Request, RequestKind, read_read_request, read_request, read_request_for, read_request_kind,
-    read_request_of_kind, read_write_request_for, request_body, skip_request, write_request,
+    Request, RequestKind, read_read_request, read_request, read_request_kind, read_request_of_kind,
+    read_write_request_for, request_body, skip_request, write_request,
 };
 pub use response::{
     Response, ResponseKind, read_response, response_body, skip_response, write_response,

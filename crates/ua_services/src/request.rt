@@ -358,40 +358,6 @@ pub fn read_write_request_for<S: Source, T: TakesTypes>(
 
 // Reads a Write after its NodeId, and nothing after it, without the values that nodes could not
 // take.
-#[inline(never)]
-fn read_thinned<S: Source, T: TakesTypes>(
-    alloc: Global,
-    src: &mut S,
-    types: &T,
-) -> Result<Request, RequestFault>
-    ensures { (result ≡ thin_read (T.takes types.now) (read_as_request RequestKind.Write (S.octets src.old)))
-        ⊎ (result ≡ Err RequestFault.OutOfMemory) }
-{
-    let mut message = WriteRequest::empty();
-    read_write_request_for(alloc, src, types, &mut message)?;
-    Ok(Request::Write(message))
-}
-
-/// Decodes a body as [`read_request`] does, but keeps of a Write no value that its node could not
-/// take: a null Variant takes its place, and the other fields of its DataValue are skipped too
-/// (OPC 10000-4, 5.11.4). For such an array no more memory is allocated than one element or part
-/// needs at a time; such a scalar is decoded and dropped. After an error, discard the source.
-pub fn read_request_for<S: Source, T: TakesTypes>(
-    alloc: Global,
-    src: &mut S,
-    types: &T,
-) -> Result<Request, RequestFault>
-    ensures read { (result ≡ thin_read (T.takes types.now) (request_read (S.octets src.old)))
-        ⊎ (result ≡ Err RequestFault.OutOfMemory) }
-    ensures counted { IfOk result (λ m. request.count m ≤ length (S.octets src.old)) }
-{
-    let kind = read_request_kind(alloc, src)?;
-    match kind {
-        RequestKind::Read => read_last(alloc, src),
-        RequestKind::Write => read_thinned(alloc, src, types),
-        _ => read_request_of_kind(alloc, src, kind),
-    }
-}
 
 // Skips the structure of a request of that kind, field by field.
 #[tactic(auto, using(crate::proofs::RequestSkipped::skips_kind))]

@@ -280,7 +280,7 @@ fn let_go<'r, 'a, R>(live: Option<LiveFile<'r, 'a, R>>) {
 
 /// Serves this many connections on a port of this machine, numbered from 1, at most so many at a
 /// time, and prints the outcome of each as it ends, and with `writes` what clients' Writes store.
-pub fn serve_places<'r, 'a, R: Files + Net + Clock + AllocGlobal, O: Write, E: Write>(
+pub(crate) fn serve_places<'r, 'a, R: Files + Net + Clock + AllocGlobal, O: Write, E: Write>(
     rt: &'r R,
     plant: &mut Plant<'r, 'a, R>,
     setup: &Setup<'a>,

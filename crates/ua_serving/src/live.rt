@@ -76,7 +76,7 @@ impl<'f, 'a, F> LiveFile<'f, 'a, F> {
 /// its length differs from the last reading; what that changes is a definition over the lines of
 /// the two readings and the nodes. Returns what is to be told, once: that the file does not load or
 /// cannot be read.
-pub fn follow<'f, 'a, F: Files + Clock + AllocGlobal>(
+pub(crate) fn follow<'f, 'a, F: Files + Clock + AllocGlobal>(
     live: &mut LiveFile<'f, 'a, F>,
     services: &mut Services,
 ) -> Option<Stop<'a>>

@@ -88,7 +88,7 @@ fn push_outcome(out: &mut String, outcome: Result<End, ServeFault>) -> Result<()
 }
 
 /// The limits of the program, with this many bytes as the most of a response's body; 0 is no limit.
-pub fn limits_for(most: u32) -> Limits
+pub(crate) fn limits_for(most: u32) -> Limits
     ensures { IsLimitedTo most result }
 {
     limits().with_responses(most)
@@ -107,7 +107,7 @@ struct Terms {
 }
 
 /// The line of text with the outcome of a connection.
-pub fn outcome_line(
+pub(crate) fn outcome_line(
     alloc: Global,
     number: u32,
     outcome: Result<End, ServeFault>,
@@ -369,7 +369,7 @@ const PAUSE: u64 = 1;
 
 /// Whether an error of a listener concerns the connection that would have been next, and not those
 /// after it.
-pub fn is_of_connection(error: &io::Error) -> bool
+pub(crate) fn is_of_connection(error: &io::Error) -> bool
     ensures { result ≡ is_of_connection (raw_os_error error.now) }
 {
     match error.raw_os_error() {
@@ -428,7 +428,7 @@ fn say_no_memory<'a, O: Write>(number: u32, out: &mut O) -> Result<(), Stop<'a>>
 }
 
 /// Writes the line of a connection at which an allocation failed, and flushes it.
-pub fn write_no_memory<O: Write>(number: u32, out: &mut O) -> io::Result<()>
+pub(crate) fn write_no_memory<O: Write>(number: u32, out: &mut O) -> io::Result<()>
     ensures { OnOk result (Appends (O.contents out.old) (O.contents out.new) (connection_line number no_memory_text)) }
 {
     write!(out, "connection {number} NoMemory\n")?;
@@ -544,7 +544,11 @@ fn listen<'a, R: Net>(rt: &R, port: u16) -> Result<R::Listener, Stop<'a>> {
 }
 
 /// Prints that connections are accepted.
-pub fn say_listening<'a, O: Write>(alloc: Global, port: u16, out: &mut O) -> Result<(), Stop<'a>>
+pub(crate) fn say_listening<'a, O: Write>(
+    alloc: Global,
+    port: u16,
+    out: &mut O,
+) -> Result<(), Stop<'a>>
     ensures said { OnOk result (Appends (O.contents out.old) (O.contents out.new) (listening_line port)) }
     ensures stopped { IfErr result (λ stop. StopsWriting stop ⊎ (out.new ≡ out.old)) }
 {

@@ -25,7 +25,7 @@ pub struct StandardServices {
 /// The services on a port of this machine over the nodes of a file with this text and the standard
 /// nodes that it lacks. A line that begins with `# namespace` and does not name the next namespace
 /// is invalid.
-pub fn standard_services<'a>(
+pub(crate) fn standard_services<'a>(
     alloc: Global,
     text: &str,
     port: u16,

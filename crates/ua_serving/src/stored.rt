@@ -14,7 +14,11 @@ use ua_variant::HeldVariant;
 pub const LOST_LINE: &str = "write NoMemory\n";
 
 /// The lines of items that were stored, in their order.
-pub fn stored_lines(alloc: Global, written: &Written, plain: bool) -> Result<String, AllocError>
+pub(crate) fn stored_lines(
+    alloc: Global,
+    written: &Written,
+    plain: bool,
+) -> Result<String, AllocError>
     ensures { IfOk result (λ text. AreStoredLines plain written.now (string_bytes text)) }
 {
     let mut text = String::new(alloc);

@@ -11,7 +11,7 @@ use ua_node_files::{current_time, current_time_id};
 use ua_server::{Application, Services};
 
 /// Sets CurrentTime, `i=2258`, to a time.
-pub fn set_current_time(services: &mut Services, moment: DateTime)
+pub(crate) fn set_current_time(services: &mut Services, moment: DateTime)
     ensures { services.new ≡ with_nodes services.old (after_set id (reading_at moment) services.old.nodes) }
 {
     // never refused: the node is there, and is a DateTime

@@ -37,7 +37,7 @@ pub fn write_lines<O: Write>(out: &mut O, lines: &str) -> io::Result<()>
 }
 
 /// The same, where a failure of the writer is a fault.
-pub fn print_lines<O: Write>(out: &mut O, lines: &str) -> Result<(), QuestionFault>
+pub(crate) fn print_lines<O: Write>(out: &mut O, lines: &str) -> Result<(), QuestionFault>
     ensures written { OnOk result (Appends (O.contents out.old) (O.contents out.new) lines.now) }
     ensures failed { IfErr result IsOutput }
 {
@@ -49,7 +49,7 @@ pub fn print_lines<O: Write>(out: &mut O, lines: &str) -> Result<(), QuestionFau
 
 /// Writes the lines of the endpoints in a reply, in this style, and flushes them: all or none,
 /// unless the writer fails.
-pub fn print_endpoints<O: Write>(
+pub(crate) fn print_endpoints<O: Write>(
     alloc: Global,
     out: &mut O,
     called: Result<Reply, QuestionFault>,

@@ -21,7 +21,7 @@ use ua_services::session_requests::get_endpoints_request;
 const FIRST_CALL: u32 = 2;
 
 /// Calls GetEndpoints of a server by this URL.
-pub fn call_endpoints<L: Line>(
+pub(crate) fn call_endpoints<L: Line>(
     line: &mut L,
     client: &mut Client,
     url: &UaString,

@@ -51,7 +51,7 @@ fn choose_in(response: &Response) -> Result<UaString, QuestionFault>
 }
 
 /// The PolicyId that a reply to GetEndpoints gives.
-pub fn choose_by(called: Result<Reply, QuestionFault>) -> Result<UaString, QuestionFault>
+pub(crate) fn choose_by(called: Result<Reply, QuestionFault>) -> Result<UaString, QuestionFault>
     ensures { ChoosesBy called result }
 {
     let response = match response_of(called) {

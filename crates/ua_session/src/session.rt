@@ -26,7 +26,7 @@ use ua_client::{Client, Reply};
 use ua_services::session_requests::close_session_request;
 
 /// The PolicyId by which a session is to be begun; the server is asked for it where none is named.
-pub fn find_policy<L: Line, M: Moments>(
+pub(crate) fn find_policy<L: Line, M: Moments>(
     line: &mut L,
     client: &mut Client,
     url: &UaString,
@@ -52,7 +52,7 @@ pub fn find_policy<L: Line, M: Moments>(
 
 /// The RequestId of the first call in a session: the OPN has 1, those that begin a session have 2
 /// and 3, and one more where the server is asked for the token policy first.
-pub fn first_call(policy: &TokenPolicy) -> u32
+pub(crate) fn first_call(policy: &TokenPolicy) -> u32
     ensures handle { result ≡ first_call policy.now }
     ensures few { result < 2 ^ 31 }
     ensures some { 0 < result }
@@ -75,7 +75,7 @@ pub struct Heading<'a> {
 }
 
 /// Calls the request that asks a question, under this heading.
-pub fn call_question<L: Line>(
+pub(crate) fn call_question<L: Line>(
     alloc: Global,
     line: &mut L,
     client: &mut Client,
@@ -107,7 +107,7 @@ fn handle_behind(handle: u32, called: &Result<Reply, QuestionFault>) -> u32
 }
 
 /// Ends a session.
-pub fn end_session<L: Line>(
+pub(crate) fn end_session<L: Line>(
     line: &mut L,
     client: &mut Client,
     token: NodeId,
@@ -168,7 +168,7 @@ fn handle_unbegun(handle: u32, fault: QuestionFault) -> u32
 
 /// Ends the session that stays at the server where it was not begun, if there is one. The outcome
 /// of that is not reported.
-pub fn end_unbegun<L: Line, M: Moments>(
+pub(crate) fn end_unbegun<L: Line, M: Moments>(
     line: &mut L,
     client: &mut Client,
     refused: NotBegun,

@@ -16,7 +16,7 @@ use ua_frame::Limits;
 use ua_services::Request;
 
 /// The next timestamp.
-pub fn next_moment<M: Moments>(moments: &mut M) -> DateTime
+pub(crate) fn next_moment<M: Moments>(moments: &mut M) -> DateTime
     ensures { M.gives moments.old result.ticks moments.new }
 {
     DateTime {

@@ -1,4 +1,3 @@
--- Written by `tools/add_service.py --write` from `schema/discovery.txt`.
 -- The structures of the service GetEndpoints are sound.
 use Rattle.std.proofs.Common.{refl}
 use Rattle.ua_opening.proofs.HeaderSound.{sound_request_header, sound_response_header}

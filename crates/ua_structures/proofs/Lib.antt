@@ -8,4 +8,3 @@ pub mod AttributeSound
 pub mod DiscoverySound
 pub mod SessionLawful
 pub mod SessionSound
-mod VariantsBack

@@ -1,4 +1,3 @@
--- Written by `tools/add_service.py --write` from `schema/attribute.txt`.
 -- The structures of the services Read and Write.
 use Rattle.ua_builtin.specs.DoubleBits.{double_bits}
 use Rattle.ua_builtin.specs.Format.{Format, flat}

@@ -1,4 +1,3 @@
--- Written by `tools/add_service.py --write` from `schema/discovery.txt`.
 -- The structures of the service GetEndpoints.
 use Rattle.ua_builtin.specs.Format.{Format, flat}
 use Rattle.ua_builtin.specs.Join.{pair, struct}

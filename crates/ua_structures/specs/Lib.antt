@@ -4,6 +4,5 @@ pub mod Plain
 pub mod Results
 pub mod Session
 pub mod Thin
-pub mod WrittenBack
 -- Definitions that only contracts within this crate cite.
 pub mod inside

@@ -1,4 +1,3 @@
--- Written by `tools/add_service.py --write` from `schema/session.txt`.
 -- The structures of the Session services.
 use Rattle.ua_builtin.specs.Boolean.{boolean}
 use Rattle.ua_builtin.specs.DoubleBits.{double_bits}

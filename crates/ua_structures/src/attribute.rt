@@ -235,7 +235,7 @@ impl ReadResults for UaArray<DataValue> {
 
 /// Appends the fields of a ReadResponse, in their order (OPC 10000-4, 5.11.2). On an error the
 /// earlier contents stay, perhaps followed by more bytes.
-pub fn append_read_response<R: ReadResults>(
+pub(crate) fn append_read_response<R: ReadResults>(
     response_header: &ResponseHeader,
     results: &R,
     diagnostic_infos: &UaArray<DiagnosticInfo>,

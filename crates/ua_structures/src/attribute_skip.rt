@@ -1,4 +1,3 @@
-//! Written by `tools/add_service.py --write` from `schema/attribute.txt`.
 //! Skips the structures of the services Read and Write, field by field.
 
 use crate::attribute::{

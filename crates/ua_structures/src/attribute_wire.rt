@@ -1,4 +1,3 @@
-//! Written by `tools/add_service.py --write` from `schema/attribute.txt`.
 //! Decodes and encodes the structures of the services Read and Write.
 
 use crate::attribute::{

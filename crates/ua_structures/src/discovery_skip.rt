@@ -1,4 +1,3 @@
-//! Written by `tools/add_service.py --write` from `schema/discovery.txt`.
 //! Skips the structures of the service GetEndpoints, field by field.
 
 use crate::discovery::{

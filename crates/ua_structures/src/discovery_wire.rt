@@ -1,4 +1,3 @@
-//! Written by `tools/add_service.py --write` from `schema/discovery.txt`.
 //! Decodes and encodes the structures of the service GetEndpoints.
 
 use crate::discovery::{

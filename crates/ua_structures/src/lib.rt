@@ -23,7 +23,6 @@ mod data_values;
 mod discovery;
 mod discovery_skip;
 mod discovery_wire;
-pub mod laws;
 mod session;
 mod session_skip;
 mod session_wire;
@@ -33,7 +32,7 @@ mod thin;
 
 pub use attribute::{
     ReadRequest, ReadResponse, ReadResults, ReadValueId, VALUE_ATTRIBUTE, WriteRequest,
-    WriteResponse, WriteValue, append_read_response,
+    WriteResponse, WriteValue,
 };
 pub use discovery::{
     ApplicationDescription, EndpointDescription, GetEndpointsRequest, GetEndpointsResponse,

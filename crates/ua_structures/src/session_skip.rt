@@ -1,4 +1,3 @@
-//! Written by `tools/add_service.py --write` from `schema/session.txt`.
 //! Skips the structures of the Session services, field by field.
 
 use crate::discovery::{ApplicationDescription, EndpointDescription};

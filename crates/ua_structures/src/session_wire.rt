@@ -1,4 +1,3 @@
-//! Written by `tools/add_service.py --write` from `schema/session.txt`.
 //! Decodes and encodes the structures of the Session services.
 
 use crate::session::{

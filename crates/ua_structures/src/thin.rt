@@ -271,32 +271,6 @@ fn read_array<S: Source, T: TakesTypes>(
 }
 
 impl WriteRequest {
-    /// Decodes the Write at the start of the source, as `read_value` does, but skips the
-    /// value of an item that its node could not take, and puts a null Variant in its place (OPC
-    /// 10000-4, 5.11.4): for an array, no more memory is allocated than one element or part needs at
-    /// a time; a scalar is decoded and dropped. After an error, discard the source.
-    #[tactic(auto, unfolding(crate::specs::Attribute::write_request))]
-    pub fn read_thinned<S: Source, T: TakesTypes>(
-        alloc: Global,
-        src: &mut S,
-        depth: u32,
-        types: &T,
-    ) -> Result<WriteRequest, ReadFault>
-        requires levels { depth ≤ most_levels }
-        ensures exact { Gives (image_read (thinned_request (T.takes types.now)) (write_request.decode depth))
-            (S.octets src.old) (S.octets src.new) result }
-        ensures behind { StaysBehind (S.octets src.old) (S.octets src.new) }
-    {
-        let mut message = WriteRequest::empty();
-        match message.read_thinned_into(alloc, src, depth, types) {
-            Ok(()) => Ok(message),
-            Err(fault) => {
-                drop(message);
-                Err(fault)
-            }
-        }
-    }
-
     /// Decodes the Write at the start of the source into this one, as
     /// [`read_thinned`](WriteRequest::read_thinned) does. After an error, discard the source.
     #[inline(never)]

@@ -55,13 +55,6 @@ impl<L> RecordedLine<L> {
         &self.written
     }
 
-    /// The transport beneath.
-    pub fn into_line(self) -> L
-        ensures { result ≡ line_of self }
-    {
-        self.line
-    }
-
     /// Counts a call that failed.
     fn fail(&mut self) -> LineFault
         ensures fault { result ≡ Failed }

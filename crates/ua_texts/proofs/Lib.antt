@@ -2,7 +2,6 @@ pub mod Codes
 pub mod Shows
 pub mod Named
 mod Escapes
-mod Printable
 pub mod Rows
 pub mod PlainAdds
 mod PlainDiagnostics

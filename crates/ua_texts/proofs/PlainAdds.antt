@@ -28,13 +28,6 @@ pub adds_then : {E : Type 0} (r : Result (Unit {0}) E) (old mid new back : List 
 adds_then (Ok u) old mid new back Holds Wanted h e w = (h.0 ++ back, e ∙ ap (λ (t : List ℕ). t ++ back) h.1 ∙ append_assoc old h.0 back, w h.0 h.2)
 adds_then (Err x) old mid new back Holds Wanted h e w = tt
 
--- a text, and behind it one that is known as well by a description alone
-pub adds_both : {E : Type 0} (r : Result (Unit {0}) E) (old mid new : List ℕ) (First Second Wanted : List ℕ → Type 0)
-    → ((text : List ℕ) × (mid ≡ old ++ text) × First text)
-    → Adds r mid new Second → ((text more : List ℕ) → First text → Second more → Wanted (text ++ more)) → Adds r old new Wanted
-adds_both (Ok u) old mid new First Second Wanted h k w = (h.0 ++ k.0, k.1 ∙ ap (λ (t : List ℕ). t ++ k.0) h.1 ∙ append_assoc old h.0 k.0, w h.0 k.0 h.2 k.2)
-adds_both (Err x) old mid new First Second Wanted h k w = tt
-
 -- what was added is so as well
 pub adds_as : {E : Type 0} (r : Result (Unit {0}) E) (old new : List ℕ) (Holds Wanted : List ℕ → Type 0) → ((text : List ℕ) → Holds text → Wanted text)
     → Adds r old new Holds → Adds r old new Wanted

@@ -1,7 +1,6 @@
 pub mod Shown
 pub mod StatusCodes
 pub mod Names
-pub mod Laws
 pub mod Values
 pub mod Marks
 pub mod PlainLeaf

@@ -12,7 +12,6 @@
 //! ```
 #![tactic(auto)]
 
-pub mod laws;
 mod marks;
 mod names;
 mod plain;
@@ -23,14 +22,13 @@ mod status_codes;
 mod text;
 mod value;
 
-pub use marks::{Marks, push_marked_char};
+pub use marks::Marks;
 pub use names::{code_name, push_code_as};
-pub use plain::{push_array_type, push_plain_fields, push_plain_scalar, push_plain_variant};
+pub use plain::{push_plain_scalar, push_plain_variant};
 pub use plain_diagnostic::push_diagnostic;
 pub use plain_leaf::{push_double, push_float, push_moment, push_plain_localized, push_plain_name};
-pub use plain_parts::{push_number_part, push_status_part};
 pub use text::{
-    push_base64, push_char, push_code, push_encoded, push_escaped, push_escaped_char,
-    push_escaped_string, push_guid, push_pattern, push_string, push_wide_pattern,
+    push_base64, push_code, push_encoded, push_escaped, push_escaped_string, push_guid,
+    push_pattern, push_string, push_wide_pattern,
 };
 pub use value::{push_scalar, push_variant, type_name};

@@ -32,7 +32,7 @@ impl Marks {
     }
 
     /// The marks of a text before a bar.
-    pub fn before_bar(within: bool) -> Marks
+    pub(crate) fn before_bar(within: bool) -> Marks
         ensures { result ≡ before_bar within }
     {
         Marks {
@@ -43,7 +43,7 @@ impl Marks {
     }
 
     /// The marks of a text before a semicolon.
-    pub fn before_semicolon(within: bool) -> Marks
+    pub(crate) fn before_semicolon(within: bool) -> Marks
         ensures { result ≡ before_semicolon within }
     {
         Marks {
@@ -65,7 +65,7 @@ pub(crate) fn push_marked(out: &mut String, text: &str, marks: Marks) -> Result<
 }
 
 /// Appends a character of a text between marks: a mark by its digits, any other as it is shown.
-pub fn push_marked_char(out: &mut String, c: char, marks: Marks) -> Result<(), AllocError>
+pub(crate) fn push_marked_char(out: &mut String, c: char, marks: Marks) -> Result<(), AllocError>
     ensures { OnOk result (string_bytes out.new ≡ string_bytes out.old ++ marked_char marks c) }
 {
     match mark_octet(c, marks) {

@@ -92,7 +92,11 @@ fn push_plain_array(
 
 /// Appends the type of an array and its dimensions.
 #[inline(never)]
-pub fn push_array_type(out: &mut String, kind: u8, dims: &Dimensions) -> Result<(), AllocError>
+pub(crate) fn push_array_type(
+    out: &mut String,
+    kind: u8,
+    dims: &Dimensions,
+) -> Result<(), AllocError>
     ensures { OnOk result (string_bytes out.new ≡ string_bytes out.old ++ array_type_text kind dims.now) }
 {
     out.push_str(type_name(kind))?;
@@ -271,7 +275,11 @@ fn push_plain_data_value(
 
 /// Appends the fields of a DataValue that are present, except its value.
 #[inline(never)]
-pub fn push_plain_fields(out: &mut String, value: &DataValue, names: bool) -> Result<(), AllocError>
+pub(crate) fn push_plain_fields(
+    out: &mut String,
+    value: &DataValue,
+    names: bool,
+) -> Result<(), AllocError>
     ensures { Adds result (string_bytes out.old) (string_bytes out.new)
         (IsPlainFields names (data_fields_of value.now)) }
 {

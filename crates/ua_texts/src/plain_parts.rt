@@ -12,7 +12,11 @@ use std::fmt::Write;
 use ua_builtin::{DateTime, StatusCode, UaString};
 
 /// Appends a number by its name, if there is one: ` symbolic_id 1`.
-pub fn push_number_part(out: &mut String, name: &str, number: Option<i32>) -> Result<(), AllocError>
+pub(crate) fn push_number_part(
+    out: &mut String,
+    name: &str,
+    number: Option<i32>,
+) -> Result<(), AllocError>
     ensures { OnOk result (string_bytes out.new ≡ string_bytes out.old ++ number_part name.now number) }
 {
     match number {
@@ -38,7 +42,7 @@ pub(crate) fn push_text_part(
 }
 
 /// Appends a status by its name, if there is one, with or without the standard's name of it.
-pub fn push_status_part(
+pub(crate) fn push_status_part(
     out: &mut String,
     name: &str,
     status: Option<StatusCode>,

@@ -36,7 +36,7 @@ fn push_text(out: &mut String, text: &str) -> Result<(), AllocError>
 
 /// Appends a character as a String has it: one below 0x20 and 0x7F as `\x` and two digits, a
 /// backslash doubled, any other as it is.
-pub fn push_char(out: &mut String, c: char) -> Result<(), AllocError>
+pub(crate) fn push_char(out: &mut String, c: char) -> Result<(), AllocError>
     ensures { OnOk result (string_bytes out.new ≡ string_bytes out.old ++ shown (encode_utf8 c)) }
 {
     if c == '\\' {
@@ -84,7 +84,7 @@ pub fn push_escaped(out: &mut String, text: &str) -> Result<(), AllocError>
 
 /// Appends a character as an escaped text has it: a control character by its UTF-8 bytes, each as
 /// `\x` and two digits, a backslash doubled, any other as it is.
-pub fn push_escaped_char(out: &mut String, c: char) -> Result<(), AllocError>
+pub(crate) fn push_escaped_char(out: &mut String, c: char) -> Result<(), AllocError>
     ensures { OnOk result (string_bytes out.new ≡ string_bytes out.old ++ one_escaped c) }
 {
     if c == '\\' {

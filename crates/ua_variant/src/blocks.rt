@@ -18,14 +18,14 @@ use ua_builtin::{DateTime, DoubleBits, FloatBits, Guid, ReadFault, Source, Statu
 
 /// Whether arrays of the type id are packed.
 #[inline]
-pub fn is_packed(kind: u8) -> bool
+pub(crate) fn is_packed(kind: u8) -> bool
     ensures { result ≡ is_packed_kind kind }
 {
     (1 <= kind && kind <= 11) || (13 <= kind && kind <= 14) || kind == 19
 }
 
 /// Decodes so many elements of a type id whose arrays are packed.
-pub fn read_packed<S: Source>(
+pub(crate) fn read_packed<S: Source>(
     alloc: Global,
     src: &mut S,
     kind: u8,

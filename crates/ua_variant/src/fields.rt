@@ -53,7 +53,7 @@ impl Fields {
 /// Decodes the fields of a DataValue, after its value, that its encoding mask announces.
 #[inline(always)]
 #[tactic(auto, unfolding(crate::specs::Fields::data_fields))]
-pub fn read_data_fields<S: Source>(
+pub(crate) fn read_data_fields<S: Source>(
     alloc: Global,
     src: &mut S,
     mask: u8,

@@ -59,7 +59,7 @@ fn read_values<T: FixedWidth>(octets: &[u8], count: usize, values: &mut [T])
 
 /// Decodes so many values from consecutive bytes, and pushes them.
 #[inline]
-pub fn push_values<T: FixedWidth>(
+pub(crate) fn push_values<T: FixedWidth>(
     octets: &[u8],
     count: usize,
     items: &mut Vec<T>,

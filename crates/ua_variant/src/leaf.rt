@@ -47,7 +47,7 @@ pub trait BoxedLeaf: Leaf + Drop {
 
 /// Decodes a scalar as a value of its type.
 #[inline]
-pub fn read_leaf_as<T: Leaf, S: Source>(alloc: Global, src: &mut S) -> Result<T, ReadFault>
+pub(crate) fn read_leaf_as<T: Leaf, S: Source>(alloc: Global, src: &mut S) -> Result<T, ReadFault>
     ensures exact { GivesBy (λ x. leaf (T.as_leaf x)) (image_read leaf (leaf_at T.kind)) (S.octets src.old)
         (S.octets src.new) result }
     ensures behind { StaysBehind (S.octets src.old) (S.octets src.new) }
@@ -59,7 +59,10 @@ pub fn read_leaf_as<T: Leaf, S: Source>(alloc: Global, src: &mut S) -> Result<T,
 
 /// Decodes a scalar of the type id of a type that it stores in place.
 #[inline]
-pub fn read_as<T: HeldLeaf, S: Source>(alloc: Global, src: &mut S) -> Result<Scalar, ReadFault>
+pub(crate) fn read_as<T: HeldLeaf, S: Source>(
+    alloc: Global,
+    src: &mut S,
+) -> Result<Scalar, ReadFault>
     ensures exact { GivesBy scalar_of (image_read leaf (leaf_at T.kind)) (S.octets src.old) (S.octets src.new) result }
     ensures behind { StaysBehind (S.octets src.old) (S.octets src.new) }
 {
@@ -67,7 +70,7 @@ pub fn read_as<T: HeldLeaf, S: Source>(alloc: Global, src: &mut S) -> Result<Sca
 }
 
 /// Decodes a scalar of the type id of a type that it stores on the heap.
-pub fn read_boxed_as<T: BoxedLeaf, S: Source>(
+pub(crate) fn read_boxed_as<T: BoxedLeaf, S: Source>(
     alloc: Global,
     src: &mut S,
 ) -> Result<Scalar, ReadFault>

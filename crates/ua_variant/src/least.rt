@@ -6,7 +6,7 @@ ghost use Rattle.ua_variant.specs.Least.{least_octets as least_of};
 /// The least number of bytes that encode a value of the type id.
 #[inline]
 #[tactic(auto, unfolding(crate::specs::Least::least_octets))]
-pub fn least_octets(kind: u8) -> usize
+pub(crate) fn least_octets(kind: u8) -> usize
     ensures octets { result ≡ least_of kind }
     ensures some { 0 < result }
     ensures few { result ≤ 16 }

@@ -44,7 +44,7 @@ pub fn read_variant<S: Source>(alloc: Global, src: &mut S, depth: u32) -> Result
 
 /// Whether values of the type id are decoded.
 #[inline]
-pub fn is_read_kind(kind: u8) -> bool
+pub(crate) fn is_read_kind(kind: u8) -> bool
     ensures { result ≡ read_kind kind }
 {
     1 <= kind && kind <= 31
@@ -71,7 +71,7 @@ fn read_variant_level<S: Source>(
 #[cycle(variants)]
 #[inline(always)]
 #[tactic(auto, unfolding(crate::specs::Decoding::variant_after))]
-pub fn read_tagged<S: Source>(
+pub(crate) fn read_tagged<S: Source>(
     alloc: Global,
     src: &mut S,
     depth: u32,
@@ -531,7 +531,7 @@ fn box_null_array<S: Source>(
 
 /// Decodes a DataValue of at most this nesting depth.
 #[inline(always)]
-pub fn read_data_value<S: Source>(
+pub(crate) fn read_data_value<S: Source>(
     alloc: Global,
     src: &mut S,
     depth: u32,
@@ -576,7 +576,7 @@ fn read_data_value_level<S: Source>(
 /// Drops a value whose DataValue was not decoded.
 #[cold]
 #[inline(never)]
-pub fn give_up(value: Option<HeldVariant>) {
+pub(crate) fn give_up(value: Option<HeldVariant>) {
     drop(value);
 }
 

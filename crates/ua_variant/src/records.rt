@@ -57,7 +57,11 @@ fn grow(items: &mut Vec<Scalar>, count: usize) -> Result<(), AllocError>
 
 /// Decodes a scalar without further values inside.
 #[inline(always)]
-pub fn read_leaf<S: Source>(alloc: Global, src: &mut S, kind: u8) -> Result<Scalar, ReadFault>
+pub(crate) fn read_leaf<S: Source>(
+    alloc: Global,
+    src: &mut S,
+    kind: u8,
+) -> Result<Scalar, ReadFault>
     ensures exact { GivesBy scalar_of (image_read leaf (leaf_at kind)) (S.octets src.old) (S.octets src.new) result }
     ensures behind { StaysBehind (S.octets src.old) (S.octets src.new) }
 {
@@ -115,7 +119,7 @@ fn read_record<S: Source>(alloc: Global, src: &mut S, kind: u8) -> Result<Scalar
 }
 
 /// Decodes so many scalars of a type id from String's to ExtensionObject's, or of a reserved one.
-pub fn read_records<S: Source>(
+pub(crate) fn read_records<S: Source>(
     alloc: Global,
     src: &mut S,
     kind: u8,
@@ -206,7 +210,11 @@ fn read_reserved_row<S: Source>(
 
 /// Decodes the bytes of a reserved type id.
 #[tactic(auto, using(crate::proofs::Leaves::reserved_reads))]
-pub fn read_reserved<S: Source>(alloc: Global, src: &mut S, kind: u8) -> Result<Scalar, ReadFault>
+pub(crate) fn read_reserved<S: Source>(
+    alloc: Global,
+    src: &mut S,
+    kind: u8,
+) -> Result<Scalar, ReadFault>
     requires low { 26 ≤ kind }
     requires high { kind ≤ 31 }
     ensures exact { GivesBy scalar_of (image_read leaf (leaf_at kind)) (S.octets src.old) (S.octets src.new) result }
@@ -217,7 +225,7 @@ pub fn read_reserved<S: Source>(alloc: Global, src: &mut S, kind: u8) -> Result<
 }
 
 /// Decodes so many DiagnosticInfos as scalars, whose inner ones may have this nesting depth.
-pub fn read_diagnostic_row<S: Source>(
+pub(crate) fn read_diagnostic_row<S: Source>(
     alloc: Global,
     src: &mut S,
     depth: u32,
@@ -239,7 +247,7 @@ pub fn read_diagnostic_row<S: Source>(
 
 /// Decodes a DiagnosticInfo as a scalar, whose inner one may have this nesting depth.
 #[tactic(auto, unfolding(crate::specs::Decoding::scalar_at))]
-pub fn read_boxed_diagnostic<S: Source>(
+pub(crate) fn read_boxed_diagnostic<S: Source>(
     alloc: Global,
     src: &mut S,
     depth: u32,

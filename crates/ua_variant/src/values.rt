@@ -516,15 +516,6 @@ impl Scalars {
         &self.elements
     }
 
-    /// Returns the elements by value, as they are stored.
-    #[inline]
-    pub fn into_elements(self) -> Elements
-        ensures { elements_of result ≡ self }
-    {
-        let Scalars { elements } = self;
-        elements
-    }
-
     /// The elements of an array, stored in a vector of their type.
     #[inline]
     pub fn from_items<T: Pack>(items: Vec<T>) -> Scalars

@@ -75,7 +75,7 @@ fn array_tag(kind: u8, dims: &Dimensions) -> u8
 #[cycle(appends)]
 #[inline(always)]
 #[tactic(auto, using(crate::proofs::Written::many_parts))]
-pub fn append_variant(value: &Variant, out: &mut Vec<u8>) -> Result<(), AllocError>
+pub(crate) fn append_variant(value: &Variant, out: &mut Vec<u8>) -> Result<(), AllocError>
     requires { variant_fits (variant_of value.now) ≡ true }
     ensures ok { OnOk result (out.new.items ≡ out.old.items ++ variant_canonical (variant_of value.now)) }
     ensures err { OnErr result (Extends out.old.items out.new.items) }
@@ -223,7 +223,7 @@ fn append_row(kind: u8, items: &Scalars, out: &mut Vec<u8>) -> Result<(), AllocE
 /// Appends the canonical encoding of a DataValue that can be encoded, apart from its nesting depth.
 #[cycle(appends)]
 #[inline(always)]
-pub fn append_data_value(value: &DataValue, out: &mut Vec<u8>) -> Result<(), AllocError>
+pub(crate) fn append_data_value(value: &DataValue, out: &mut Vec<u8>) -> Result<(), AllocError>
     requires { data_value_fits (data_value_of value.now) ≡ true }
     ensures ok { OnOk result (out.new.items ≡ out.old.items ++ data_value_canonical (data_value_of value.now)) }
     ensures err { OnErr result (Extends out.old.items out.new.items) }
@@ -241,7 +241,7 @@ pub fn append_data_value(value: &DataValue, out: &mut Vec<u8>) -> Result<(), All
 /// its nesting depth, and with the status and timestamps of another DataValue.
 #[cycle(appends)]
 #[inline(always)]
-pub fn append_valued(
+pub(crate) fn append_valued(
     value: &Variant,
     beside: &DataValue,
     out: &mut Vec<u8>,

@@ -1,5 +1,5 @@
 -- What holds of every format.
-use Rattle.std.specs.Prelude.{◌≡◌, ℕ, ◌≤◌, List, ◌++◌, length, IsTrue, Some}
+use Rattle.std.specs.Prelude.{◌≡◌, ℕ, ◌≤◌, List, ◌++◌, IsTrue, Some}
 use Rattle.ua_wire.specs.Format.{Format}
 
 -- the canonical encoding of a value encodes it
@@ -14,7 +14,3 @@ EncodesOnce {A = A} encodes = (v w : A) (a c x y : List ℕ) → encodes v a →
 abbrev pub ReadsBack : {A : Type 0} → Format A → Type 0
 ReadsBack {A = A} format = (v : A) (rest : List ℕ) (levels : ℕ) → IsTrue (format.encodable v) → format.depth v ≤ levels
     → format.decode levels (format.canonical v ++ rest) ≡ Some (v, rest)
-
--- the count of values of a value is at most the number of bytes of its encoding
-abbrev pub CountsWithinOctets : {A : Type 0} → Format A → Type 0
-CountsWithinOctets {A = A} format = (v : A) (b : List ℕ) → format.encodes v b → format.count v ≤ length b

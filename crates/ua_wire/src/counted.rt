@@ -33,7 +33,7 @@ pub fn fill_octets<S: Source>(src: &mut S, octets: &mut [u8]) -> Result<(), Read
 
 /// Reads that many bytes; allocates nothing if fewer are left.
 #[inline]
-pub fn take_octets<S: Source>(
+pub(crate) fn take_octets<S: Source>(
     alloc: Global,
     src: &mut S,
     count: usize,

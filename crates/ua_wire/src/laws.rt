@@ -1,7 +1,7 @@
 //! Laws of every type with an encoding, each carried by a function that does nothing at run time.
 
 ghost use Rattle.std.specs.Prelude.{[]};
-ghost use Rattle.ua_wire.specs.Laws.{CanonicalEncodes, CountsWithinOctets, EncodesOnce, ReadsBack};
+ghost use Rattle.ua_wire.specs.Laws.{CanonicalEncodes, EncodesOnce, ReadsBack};
 
 use crate::wire::Wire;
 
@@ -29,13 +29,6 @@ pub fn reads_back<T: Wire>()
 /// No encoding is empty.
 pub fn encodes_in_octets<T: Wire>()
     ensures { (v : T) → ¬ (T.format.encodes v []) }
-{
-    T::lawful();
-}
-
-/// The number of values in a value is at most the number of bytes of its encoding.
-pub fn counts_within_octets<T: Wire>()
-    ensures { CountsWithinOctets T.format }
 {
     T::lawful();
 }

@@ -310,7 +310,7 @@ const MOST_URL: usize = 4095;
 const LOCAL_URL: usize = 25;
 
 /// The server that is asked.
-pub fn server_of<'a>(matches: &ArgMatches<'a>) -> Result<Address<'a>, BadWord<'a>>
+pub(crate) fn server_of<'a>(matches: &ArgMatches<'a>) -> Result<Address<'a>, BadWord<'a>>
     ensures { IfOk result (λ server. 1 ≤ server.port) }
 {
     let port = number_of(matches, "PORT")?;

@@ -100,7 +100,7 @@ fn asked_of<'a>(
 }
 
 /// What `ua ask` is asked for.
-pub fn ask_of<'a>(
+pub(crate) fn ask_of<'a>(
     words: Vec<&'a str>,
     matches: &ArgMatches<'a>,
 ) -> Result<AskServer<'a>, BadWord<'a>>

@@ -10,7 +10,7 @@ const LAST_ATTRIBUTE: u16 = 27;
 const MOST_PLACES: u16 = 1024;
 
 /// The number from 1 to 65535 that decimal digits write.
-pub fn parse_number(text: &str) -> Option<u16>
+pub(crate) fn parse_number(text: &str) -> Option<u16>
     ensures number { IfSome result (WritesNumber text.now) }
     ensures within { IfSome result (λ number. 1 ≤ number) }
     ensures none { IfNone result ((number : ℕ) → WritesNumber text.now number → number ≤ 65535 → ⊥) }
@@ -19,7 +19,7 @@ pub fn parse_number(text: &str) -> Option<u16>
 }
 
 /// The number of an attribute that decimal digits write.
-pub fn parse_attribute(text: &str) -> Option<u32>
+pub(crate) fn parse_attribute(text: &str) -> Option<u32>
     ensures number { IfSome result (WritesNumber text.now) }
     ensures within { IfSome result IsAttributeNumber }
     ensures none { IfNone result ((number : ℕ) → WritesNumber text.now number → IsAttributeNumber number → ⊥) }
@@ -47,7 +47,7 @@ pub fn parse_size(text: &str) -> Option<u32>
 }
 
 /// The number of connections at a time that decimal digits write.
-pub fn parse_places(text: &str) -> Option<u16>
+pub(crate) fn parse_places(text: &str) -> Option<u16>
     ensures number { IfSome result (WritesNumber text.now) }
     ensures within { IfSome result IsPlaces }
     ensures none { IfNone result ((number : ℕ) → WritesNumber text.now number → IsPlaces number → ⊥) }

@@ -59,7 +59,7 @@ fn judge_body(alloc: Global, body: &[u8]) -> Result<IssuedToken, EndFault>
 }
 
 /// The response in an OPN frame, judged without the frames before it.
-pub fn judge_answer(alloc: Global, frame: Frame) -> Result<Answer, EndFault>
+pub(crate) fn judge_answer(alloc: Global, frame: Frame) -> Result<Answer, EndFault>
     ensures { JudgesAnswer (opening_of frame.body) result }
 {
     let opening = match read_open(frame) {

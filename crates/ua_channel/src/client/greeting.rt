@@ -31,7 +31,7 @@ fn read_error(alloc: Global, body: &[u8]) -> Result<Option<ErrorFrame>, AllocErr
 }
 
 /// Why the body of an ERR stops a channel: its code, which is the peer's.
-pub fn stop_of_error(alloc: Global, body: &[u8]) -> EndFault
+pub(crate) fn stop_of_error(alloc: Global, body: &[u8]) -> EndFault
     ensures { IsStopFor (error_reasons (whole_of error body.now)) result }
 {
     match read_error(alloc, body) {
@@ -66,7 +66,7 @@ fn judge_ack(alloc: Global, limits: &Limits, body: &[u8]) -> Result<Agreed, EndF
 }
 
 /// The agreement on the first frame of a server that received only a HEL.
-pub fn greet(alloc: Global, limits: &Limits, frame: Frame) -> Result<Agreed, EndFault>
+pub(crate) fn greet(alloc: Global, limits: &Limits, frame: Frame) -> Result<Agreed, EndFault>
     ensures { LetsIn ack_gate frame
         → Judged (client_reasons limits.now nothing_received [] (content frame))
         (λ a. content frame ≡ Acks (Some a.ack)) result }

@@ -62,7 +62,11 @@ fn url_len(url: &UaString) -> usize
 
 /// The HEL of a client with these limits to the server of this URL.
 #[tactic(auto, using(crate::proofs::ClientFrames::hello_framed))]
-pub fn hello_octets(alloc: Global, limits: &Limits, url: &UaString) -> Result<Vec<u8>, AllocError>
+pub(crate) fn hello_octets(
+    alloc: Global,
+    limits: &Limits,
+    url: &UaString,
+) -> Result<Vec<u8>, AllocError>
     requires { IsTrue (text.encodable url.now) }
     ensures { IfOk result (λ out. out.items ≡ frame_octets (hello_frame (hello_to limits.now url.now))) }
 {
@@ -111,7 +115,7 @@ pub fn open_octets(alloc: Global, moment: DateTime) -> Result<Vec<u8>, AllocErro
 }
 
 /// The OPN that renews the token of a channel.
-pub fn renewal_octets(
+pub(crate) fn renewal_octets(
     alloc: Global,
     channel: u32,
     number: u32,
@@ -147,7 +151,7 @@ fn append_closing(
 
 /// The CLO of a channel.
 #[tactic(auto, using(crate::proofs::ClientFrames::closing_framed))]
-pub fn close_octets(
+pub(crate) fn close_octets(
     alloc: Global,
     channel: u32,
     token: u32,

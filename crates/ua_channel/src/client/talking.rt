@@ -154,7 +154,7 @@ impl Talking {
     }
 
     /// The channel that the first frame after an ACK opens.
-    pub fn on_first(
+    pub(crate) fn on_first(
         alloc: Global,
         limits: &Limits,
         agreed: Agreed,
@@ -282,7 +282,11 @@ impl Talking {
     }
 
     /// Takes a frame.
-    pub fn on_frame(&mut self, alloc: Global, frame: Frame) -> Result<Option<Event>, EndFault>
+    pub(crate) fn on_frame(
+        &mut self,
+        alloc: Global,
+        frame: Frame,
+    ) -> Result<Option<Event>, EndFault>
         requires { HasShape frame }
         ensures { (limits : Limits) (before : Received) (asked : List Asking) → Talks limits self.old before asked
             → LetsIn (reply_gate self.old.agreed.ack.send_buffer_size) frame

@@ -33,7 +33,7 @@ const FIRST_ID: u32 = 4;
 
 /// Parses a script: returns the lines that ask for something, each with its number. The form is
 /// that of `ua_answers::parse_script`.
-pub fn parse_lines(alloc: Global, text: &str) -> Result<Vec<ScriptLine>, LoopFault>
+pub(crate) fn parse_lines(alloc: Global, text: &str) -> Result<Vec<ScriptLine>, LoopFault>
     ensures lines { IfOk result (λ lines. AsksFor text.now lines.items) }
     ensures fault { IfErr result (λ fault. Unread text.now fault) }
 {
@@ -108,7 +108,7 @@ fn opening_turns(alloc: Global) -> Result<Vec<Turn>, AllocError>
 }
 
 /// The client operations of a session in which the lines of a script are run.
-pub fn script_turns(alloc: Global, lines: &[ScriptLine]) -> Result<Vec<Turn>, AllocError>
+pub(crate) fn script_turns(alloc: Global, lines: &[ScriptLine]) -> Result<Vec<Turn>, AllocError>
     ensures { IfOk result (λ turns. turns.items ≡ turns_of_script lines.now) }
 {
     let mut turns = opening_turns(alloc)?;

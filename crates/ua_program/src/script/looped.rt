@@ -117,7 +117,7 @@ fn are_bad(replies: &[Reply]) -> bool
 /// `opc.tcp://localhost:4840`. Each end takes what the other wrote in fragments of at most `cut`
 /// bytes; 0 counts as 1. With `names` the names of StatusCodes stand after them; with `plain`
 /// values are written as people write them.
-pub fn run_lines(
+pub(crate) fn run_lines(
     alloc: Global,
     nodes: NodeTable,
     lines: &[ScriptLine],

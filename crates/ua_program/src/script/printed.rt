@@ -104,7 +104,7 @@ fn push_answers(
 }
 
 /// Appends how the server saw a connection end, with the name of a StatusCode if `names` is set.
-pub fn push_end(out: &mut String, end: End, names: bool) -> Result<(), AllocError>
+pub(crate) fn push_end(out: &mut String, end: End, names: bool) -> Result<(), AllocError>
     ensures { OnOk result (string_bytes out.new ≡ string_bytes out.old ++ end_text names end) }
 {
     match end {
@@ -135,7 +135,7 @@ fn push_totals(out: &mut String, transcript: &Transcript, names: bool) -> Result
 /// Appends the output for the replies to the lines of a script, up to the first fault, and after it
 /// the number of bytes in each direction, with the names of StatusCodes and with values as people
 /// write them where these are asked for.
-pub fn push_transcript(
+pub(crate) fn push_transcript(
     alloc: Global,
     out: &mut String,
     lines: &[ScriptLine],

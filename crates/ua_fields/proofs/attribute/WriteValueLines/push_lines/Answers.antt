@@ -1,4 +1,3 @@
--- Written by `tools/add_service.py --write` from `schema/attribute.txt`.
 -- The lines are those of its fields.
 use Rattle.std.proofs.Common.{refl, string_bytes}
 use Rattle.ua_fields.specs.Attribute.{write_value_entries}

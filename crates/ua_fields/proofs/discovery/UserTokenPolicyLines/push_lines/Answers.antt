@@ -1,4 +1,3 @@
--- Written by `tools/add_service.py --write` from `schema/discovery.txt`.
 -- The lines are those of its fields.
 use Rattle.std.proofs.Common.{refl, string_bytes}
 use Rattle.ua_fields.specs.Discovery.{user_token_policy_entries}

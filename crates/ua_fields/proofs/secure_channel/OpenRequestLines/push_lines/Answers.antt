@@ -1,4 +1,3 @@
--- Written by `tools/add_service.py --write` from `schema/secure_channel.txt`.
 -- The lines are those of its fields.
 use Rattle.std.proofs.Common.{refl, string_bytes}
 use Rattle.ua_fields.specs.SecureChannel.{open_request_entries}

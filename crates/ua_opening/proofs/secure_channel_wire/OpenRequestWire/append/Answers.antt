@@ -1,4 +1,3 @@
--- Written by `tools/add_service.py --write` from `schema/secure_channel.txt`.
 -- The fields are appended in order.
 use Rattle.ua_wire.proofs.Appends.{more_then, on_err, pair_more}
 use Rattle.ua_opening.specs.Field.{int32}

@@ -1,6 +1,0 @@
-pub mod Keeps
-pub mod Alike
-pub mod ValuesKeep
-pub mod AlikeValues
-pub mod Texts
-pub mod Lines
