@@ -1,9 +1,10 @@
 -- That a client reads merged replies from where it stands, with what it asks on in the middle of them, what they tell it, and where it stands behind
 -- them.
-use Rattle.std.proofs.Common.{◌≡◌, ℕ, zero, suc, ◌+◌, ◌<◌, ◌≤◌, Bool, true, false, not, ◌&&◌, eqb, ltb, List, [], ◌∷◌, ◌++◌}
+use Rattle.std.proofs.Common.{◌≡◌, ℕ, zero, suc, ◌+◌, ◌<◌, ◌≤◌, Bool, true, false, cond, not, ◌&&◌, eqb, ltb, List, [], ◌∷◌, ◌++◌}
 use Rattle.std.proofs.Common.{Option, Some, None, length, map, refl, sym, ◌∙◌, ap, arith, append-nil, append_assoc, length-append}
 use Rattle.std.specs.List.{AllByRecursion, filter, range_with_len}
 use Rattle.std.proofs.lemmas.List.{length-map, map-append}
+use Rattle.std.proofs.lemmas.List.Concat.{flat_map-append}
 use Rattle.std.proofs.lemmas.List.Elements.{filter-append}
 use Rattle.std.proofs.lemmas.List.Folds.{list_any-append}
 use Rattle.ua_frame.specs.declared.frame.Frame.{Frame}
@@ -21,8 +22,10 @@ use Rattle.ua_opening.specs.declared.secure_channel.OpenResponse.{OpenResponse}
 use Rattle.ua_chunk.specs.declared.chunk.Chunk.{Chunk}
 use Rattle.ua_chunk.specs.Delivered.{given}
 use Rattle.ua_chunk.specs.Gathered.{ends, is_of}
+use Rattle.ua_chunk.specs.Item.{Item}
+use Rattle.ua_chunk.specs.Item.Item.{Whole, Aborted}
 use Rattle.ua_chunk.specs.Layout.{chunk_in}
-use Rattle.ua_chunk.specs.Merge.{Sent}
+use Rattle.ua_chunk.specs.Merge.{Sent, is_item_of, outcome_under, outcomes, sent_under}
 use Rattle.ua_chunk.specs.Open.{open_ids}
 use Rattle.ua_chunk.specs.Sequence.{may_follow}
 use Rattle.ua_channel.specs.Asks.{Asking, Placed, asked_before, asked_in, calls, end_of, id_of}
@@ -33,10 +36,12 @@ use Rattle.ua_channel.specs.ClientTable.{client_rules, is_awaited}
 use Rattle.ua_channel.specs.ClientTokens.{answer_in, first_channel, from_last, held_by, held_tokens}
 use Rattle.ua_channel.specs.ClientTokens.{opened_ids, response_listed, open_responses, tokens_of}
 use Rattle.ua_channel.specs.ClientTold.{ClientTold, client_tells, told_item, told_response}
+use Rattle.ua_channel.specs.ClientTold.ClientTold.{Agreed, Opened, Answered, GaveUp, Renewed}
 use Rattle.ua_channel.specs.Content.{Content, Opening, closes, content, content_by}
 use Rattle.ua_channel.specs.Content.Content.{Opens, Sends}
-use Rattle.ua_channel_laws.specs.Merges.{CarriesEither, ClientMerge, MayComeNext, ended_by, latest_or, placed_later}
-use Rattle.ua_channel_laws.specs.Merges.{told_back, told_merged_back, told_renewed, with_merged_back}
+use Rattle.ua_channel_laws.specs.Merges.{CarriesEither, ClientMerge, MayComeNext, ended_by, is_told_under, latest_or, placed_later}
+use Rattle.ua_channel_laws.specs.Merges.{renewed_in, tokens_renewed, told_back, told_merged_back, told_renewed, with_merged_back}
+use Rattle.ua_channel_laws.specs.Paired.{is_of_call, told_of_calls}
 use Rattle.ua_channel.specs.Received.{Received, after, chunks_in, latest, messages, numbers, openings, openings_in, received, tokens_in, used_tokens}
 use Rattle.ua_channel.proofs.AskedLater.{frames_octets-append, going_on}
 use Rattle.ua_channel.proofs.Askings.{all-weaken, all_append, asked_before-all, asked_in-append, calls-append, calls_all}
@@ -46,9 +51,10 @@ use Rattle.ua_channel_laws.proofs.ClientRuns.{before_all, of_map, reads_at}
 use Rattle.ua_channel_laws.proofs.ClientTakes.{held_renewed, tokens_used}
 use Rattle.ua_channel.proofs.ClientTalks.{awaited_later, channel_in-push, no_ids, no_responses, no_tokens, opened_ids-push, responses-push, tokens_of-push}
 use Rattle.ua_channel.proofs.HeldTokens.{held_by-push, held_by-used, latest-from_last, latest-push}
-use Rattle.ua_channel_laws.proofs.MergedChunks.{Comes, EachEnds, closed_fresh, comes, given_fresh, takes_fresh, names_kept}
+use Rattle.ua_channel_laws.proofs.MergedChunks.{Comes, EachEnds, closed_fresh, comes, given_fresh, outcomes_once, takes_fresh, told_new, names_kept}
 use Rattle.ua_channel_laws.proofs.MergedFrames.{all_told, at_end, each_along, goes_follows, goes_ordered}
 use Rattle.ua_channel_laws.proofs.MergedFrames.{goes_small, latest_or-append, of_either, sized, next_follows}
+use Rattle.ua_channel_laws.proofs.PairedCalls.{tells_delivered}
 use Rattle.ua_channel_laws.proofs.ReadOn.{events_on, run_on}
 
 -- ---- the order
@@ -82,10 +88,65 @@ told_flat : (ms : List Sent) (us fs : List Frame) → each_from (λ vs f. told_b
 told_flat ms us [] = refl
 told_flat ms us (f ∷ fs) = rw (told_flat ms (us ++ f ∷ []) fs)
 
+responses-append : (os more : List Opening) → open_responses (os ++ more) ≡ open_responses os ++ open_responses more
+unfolding open_responses
+responses-append os more = flat_map-append (λ (o : Opening). response_listed (answer_in o)) os more
+
 -- ---- tokens
+
+tokens_listed : (rs : List OpenResponse) → tokens_renewed (map told_renewed rs) ≡ tokens_of rs
+unfolding tokens_of
+tokens_listed [] = refl
+tokens_listed (r ∷ rs) = rw (tokens_listed rs)
+
+no_token : (items : List Item) → tokens_renewed (map told_item items) ≡ []
+no_token [] = refl
+no_token (Whole id octets ∷ items) = no_token items
+no_token (Aborted id code reason ∷ items) = no_token items
+
+tokens_of-append : (rs more : List OpenResponse) → tokens_of (rs ++ more) ≡ tokens_of rs ++ tokens_of more
+unfolding tokens_of
+tokens_of-append rs more = map-append (λ (r : OpenResponse). r.token_id) rs more
 
 pub nothing_opened : tokens_of (open_responses []) ≡ []
 nothing_opened = ap tokens_of no_responses ∙ no_tokens
+
+tokens_of-one : (o : Opening) → tokens_of (open_responses (o ∷ [])) ≡ tokens_of (response_listed (answer_in o))
+unfolding open_responses
+tokens_of-one o = ap tokens_of (append-nil (response_listed (answer_in o)))
+
+tokens_from : (ms : List Sent) (May : List Frame → Frame → Type 0)
+    → ((us : List Frame) (f : Frame) → May us f → tokens_renewed (told_back ms (content f)) ≡ tokens_of (open_responses (openings_in (content f))))
+    → (us fs : List Frame)
+    → AllFrom May us fs → tokens_renewed (told_merged_back ms fs) ≡ tokens_of (open_responses (openings fs))
+unfolding openings
+tokens_from ms May one us [] may = sym nothing_opened
+tokens_from ms May one us (f ∷ fs) may =
+    flat_map-append renewed_in (told_back ms (content f)) (told_merged_back ms fs)
+    ∙ (rw (one us f may.0, tokens_from ms May one (us ++ f ∷ []) fs may.1)
+    (sym (tokens_of-append (open_responses (openings_in (content f))) (open_responses (openings fs)))
+    ∙ ap tokens_of (sym (responses-append (openings_in (content f)) (openings fs)))))
+
+-- ---- calls of one request id
+
+told_names : (id : ℕ) (d : Item) → is_told_under id (told_item d) ≡ is_item_of id d
+told_names id (Whole i octets) = refl
+told_names id (Aborted i code reason) = refl
+
+same_step : (b : Bool) (t : ClientTold) (xs ys : List ClientTold) → xs ≡ ys → cond b (t ∷ xs) xs ≡ cond b (t ∷ ys) ys
+same_step true t xs ys e = rw e
+same_step false t xs ys e = e
+
+-- what is told of one call is told of calls
+calls_under : (id : ℕ) (told : List ClientTold) → filter (is_told_under id) told ≡ filter (is_told_under id) (told_of_calls told)
+calls_under id [] = refl
+calls_under id (Agreed ack ∷ told) = calls_under id told
+calls_under id (Opened channel token ∷ told) = calls_under id told
+calls_under id (Answered i octets ∷ told) = same_step (eqb i id) (Answered i octets) (filter (is_told_under id) told)
+    (filter (is_told_under id) (told_of_calls told)) (calls_under id told)
+calls_under id (GaveUp i code ∷ told) = same_step (eqb i id) (GaveUp i code) (filter (is_told_under id) told) (filter (is_told_under id) (told_of_calls told))
+    (calls_under id told)
+calls_under id (Renewed token ∷ told) = calls_under id told
 
 -- ---- tokens that are held
 
@@ -381,6 +442,12 @@ module _ (limits : Limits) (asks later : List Placed) (octets : List ℕ) (told 
       (λ o g each. renewed_told at.channel (open_responses b.openings) (response_listed (answer_in o)) p.channel_is)
       (λ c g each. ap (map told_item) (rw p.messages_are (given_fresh base (messages us) c r.none_open ∙ each.0))) may
 
+  token_told : (us : List Frame) (f : Frame) → May us f → tokens_renewed (told_back ms (content f)) ≡ tokens_of (open_responses (openings_in (content f)))
+  token_told us f may =
+      by_either us f (λ (k : Content). tokens_renewed (told_back ms k) ≡ tokens_of (open_responses (openings_in k)))
+      (λ o g. tokens_listed (response_listed (answer_in o)) ∙ sym (tokens_of-one o))
+      (λ c g. no_token (ended_by ms c) ∙ sym nothing_opened) may
+
   -- ---- all of them
 
   may : AllFrom (λ us f. May us f) [] more
@@ -468,3 +535,19 @@ module _ (limits : Limits) (asks later : List Placed) (octets : List ℕ) (told 
         there.ack_is,
       ) refl) (rw (count, asked_all) asked_below) (goes_follows r.frames more start next follows m.numbered) (goes_small start next (numbers more) m.numbered)
       (ap open_ids there.messages_are ∙ closed_fresh base (messages more) r.none_open merge.none_open)
+
+  pub reads_messages : told_of_calls (told_merged_back ms more) ≡ map told_item (outcomes ms (messages more))
+  reads_messages =
+      told_new told_of_calls told_item told (told_merged_back ms more) base (messages more) (outcomes ms (messages more))
+      (filter-append is_of_call told (told_merged_back ms more)) r.none_open merge.all
+      (ap told_of_calls (sym r.told_is) ∙ tells_delivered limits asks r.frames)
+      (ap told_of_calls (sym tells_all)
+      ∙ (tells_delivered limits all (r.frames ++ more) ∙ rw there.messages_are))
+
+  pub reads_once : (id : ℕ) → filter (is_told_under id) (told_merged_back ms more) ≡ map told_item (outcome_under (sent_under id ms))
+  reads_once id =
+      calls_under id (told_merged_back ms more)
+      ∙ (ap (filter (is_told_under id)) reads_messages ∙ outcomes_once limits ms (messages more) m.merged told_item (is_told_under id) id (told_names id))
+
+  pub reads_tokens : tokens_renewed (told_merged_back ms more) ≡ tokens_of (open_responses (openings more))
+  reads_tokens = tokens_from ms (λ us f. May us f) token_told [] more may

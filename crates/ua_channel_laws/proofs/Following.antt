@@ -18,6 +18,10 @@ pub server_begins : (x : ServerChannel) (octets more : List ℕ) (told all : Lis
     → ServerReads (limits_of x) (channel_of x) (octets ++ more) all at → (later : List Told) × (all ≡ told ++ later)
 server_begins x octets more told all at g r = begins (rules_of x) octets more g.frames r.frames g.rest told all Going g.stands.run g.told_is r.run r.told_is
 
+pub server_told : (x : ServerChannel) (octets : List ℕ) (told all : List Told) (at : AtServer) → Goes x octets told
+    → ServerReads (limits_of x) (channel_of x) octets all at → told ≡ all
+server_told x octets told all at g r = same_told (rules_of x) octets g.frames r.frames g.rest [] told all g.stands.run r.run g.told_is r.told_is
+
 pub server_not_refused : (x : ServerChannel) (octets more : List ℕ) (told all : List Told) (at : AtServer) (code : ℕ) → RefusedAt x octets told code
     → ServerReads (limits_of x) (channel_of x) (octets ++ more) all at → ⊥
 server_not_refused x octets more told all at code e r = never_refused (rules_of x) octets more e.frames r.frames e.rest code Going (λ s. cc) e.run r.run

@@ -1,3 +1,4 @@
+mod ServerMessages
 mod Holding
 pub mod ServerReadsOnce
 pub mod Replies
@@ -25,6 +26,7 @@ mod ClientMerges
 mod ClientRuns
 pub mod Groups
 mod Connected
+mod ExampleMerges
 mod AskedBefore
 pub mod Lists
 pub mod Further

@@ -4,7 +4,7 @@ use Rattle.std.proofs.Common.{◌≡◌, ℕ, ◌≤◌, Bool, true, false, cond
 use Rattle.std.proofs.Common.{length, map, refl, sym, ◌∙◌, ap, arith, append-nil, append_assoc, length-append, ◌&&◌}
 use Rattle.std.specs.List.{filter, list_any}
 use Rattle.std.proofs.lemmas.Bool.{eq-eqb, or_right, or_from}
-use Rattle.std.proofs.lemmas.List.{append_cancel_left, append_cancel_right, length-map}
+use Rattle.std.proofs.lemmas.List.{append_cancel_left, append_cancel_right, length-map, map-append}
 use Rattle.std.proofs.lemmas.List.Concat.{flat_map-append}
 use Rattle.ua_builtin.specs.declared.status_code.StatusCode.{StatusCode}
 use Rattle.ua_frame.specs.After.{AllFrom, each_after}
@@ -18,12 +18,13 @@ use Rattle.ua_chunk.specs.Flag.{is_more_flag}
 use Rattle.ua_chunk.specs.Gathered.{after_last, ends, is_of}
 use Rattle.ua_chunk.specs.Item.{Item}
 use Rattle.ua_chunk.specs.Merge.{IsMerge, Part, Sent, id_of_item, last_part, more_part, outcome_by}
-use Rattle.ua_chunk.specs.Merge.{outcome_under, outcomes, part_of, parts_under, sent_under}
+use Rattle.ua_chunk.specs.Merge.{outcome_under, outcomes, part_of, parts_under, sent_under, is_item_of}
 use Rattle.ua_chunk.specs.Open.{open_ids}
 use Rattle.ua_chunk.specs.Refusal.{TakesMessages, message_refusal}
 use Rattle.ua_chunk.proofs.Fresh.{fresh, fresh_message}
 use Rattle.ua_chunk.proofs.Interleaved.{merge_by_id}
 use Rattle.ua_chunk.proofs.Lists.{filter_append}
+use Rattle.ua_chunk.proofs.Once.{once}
 use Rattle.ua_chunk.proofs.Merged.{merged, messages_behind}
 use Rattle.ua_chunk.proofs.OneMore.{delivered_push, open_push}
 use Rattle.ua_chunk.proofs.ReaderLaws.{open_is_unfinished}
@@ -274,6 +275,18 @@ closed_fresh base cs none end = open_behind base [] cs (ap open_ids (append-nil 
 
 -- ---- what is told of them
 
+-- what is found in what was told of them alone, where in all that was told is found what all chunks deliver
+pub told_new : {E B : Type 0} (found : List E → List B) (name : Item → B) (had told : List E) (base cs : List Chunk) (items : List Item)
+    → found (had ++ told) ≡ found had ++ found told → open_ids base ≡ []
+    → delivered cs ≡ items → found had ≡ map name (delivered base) → found (had ++ told) ≡ map name (delivered (base ++ cs))
+    → found told ≡ map name items
+told_new {B = B} found name had told base cs items apart none all old new =
+    append_cancel_left (found had) (found told) (map name items)
+    (sym apart
+    ∙ (new
+    ∙ (ap (map name) (fresh base cs none ∙ rw all)
+    ∙ (map-append name (delivered base) items ∙ rw (sym old)))))
+
 kept_or_not : {A B : Type 0} (name : A → B) (b : Bool) (x : A) (xs : List A) → cond b (name x ∷ map name xs) (map name xs) ≡ map name (cond b (x ∷ xs) xs)
 kept_or_not name true x xs = refl
 kept_or_not name false x xs = refl
@@ -282,3 +295,11 @@ pub names_kept : {A B : Type 0} (name : A → B) (p : B → Bool) (q : A → Boo
     → filter p (map name xs) ≡ map name (filter q xs)
 names_kept name p q same [] = refl
 names_kept name p q same (x ∷ xs) = rw (same x, names_kept name p q same xs) (kept_or_not name (q x) x (filter q xs))
+
+-- under each request id the outcome of its message stands once
+pub outcomes_once : {B : Type 0} (limits : Limits) (ms : List Sent) (cs : List Chunk) (m : AreMerged limits ms cs) (name : Item → B) (p : B → Bool) (id : ℕ)
+    → ((d : Item) → p (name d) ≡ is_item_of id d)
+    → filter p (map name (outcomes ms cs)) ≡ map name (outcome_under (sent_under id ms))
+outcomes_once limits ms cs m name p id names =
+    names_kept name p (is_item_of id) names (outcomes ms cs)
+    ∙ (rw (sym (comes limits ms cs m).all) (ap (map name) (once ms cs id (comes limits ms cs m).own)))

@@ -2,6 +2,7 @@
 -- what its messages are, and the outcomes of calls.
 pub mod Conversation
 pub mod ClientConversation
+pub mod ServerMessages
 pub mod Paired
 -- What one end decodes of what the other writes, and the same operations at earlier places.
 pub mod ServerReads
@@ -14,3 +15,4 @@ pub mod Answers
 pub mod Rounds
 -- Messages that come merged, with renewals among them, and the state of an end after them.
 pub mod Merges
+pub mod ExampleMerges

@@ -3,7 +3,7 @@
 -- (3), OPN, A (5), of these RequestIds. They lead from the state of an end before them, as the laws
 -- of both ends give it, to its state after them: so merges are chained with what comes before and
 -- after.
-use Rattle.std.specs.Prelude.{◌≡◌, ◌<◌, ◌≤◌, ◌+◌, ◌++◌, ℕ, not, if◌then◌else◌, List, [], ◌∷◌, Some, IsTrue, length, map}
+use Rattle.std.specs.Prelude.{◌≡◌, ◌<◌, ◌≤◌, ◌+◌, ◌++◌, ◌==◌, ℕ, Bool, false, not, if◌then◌else◌, List, [], ◌∷◌, Option, Some, IsTrue, length, map}
 use Rattle.std.specs.List.{AllByRecursion, filter, flat_map, range_with_len}
 use Rattle.ua_frame.specs.After.{AllFrom, each_from}
 use Rattle.ua_frame.specs.Frames.{frame_size, frames_octets}
@@ -31,6 +31,7 @@ use Rattle.ua_channel.specs.Received.{latest, latest_behind, messages, numbers, 
 use Rattle.ua_channel_laws.specs.ServerReads.{AtServer, IsBodyFor, IsTakenAt}
 use Rattle.ua_channel.specs.ServerRules.{receive_size}
 use Rattle.ua_channel.specs.ServerTold.{Told, opened_by, request_of, told_under}
+use Rattle.ua_channel.specs.ServerTold.Told.{Opened}
 
 -- ---- at either end
 
@@ -126,6 +127,19 @@ told_by_merged ms count other = []
 abbrev pub told_of_merge : List Sent → ℕ → List Frame → List Told
 told_of_merge ms count more = each_from (λ us f. told_by_merged ms (count + length (openings us)) (content f)) [] more
 
+-- the token that is issued, if one is
+abbrev pub token_issued : Told → List ℕ
+token_issued (Opened id handle token lifetime) = token ∷ []
+token_issued other = []
+
+-- the tokens that are issued, in order
+abbrev pub tokens_told : List Told → List ℕ
+tokens_told told = flat_map token_issued told
+
+-- what is told of a message has this RequestId
+abbrev pub is_message_under : ℕ → ℕ × Option (List ℕ) → Bool
+is_message_under id m = m.0 == id
+
 -- ---- at a client
 
 -- these, each at a place that is this many bytes later
@@ -188,3 +202,18 @@ told_back ms other = []
 -- what these frames tell a client, in order
 abbrev pub told_merged_back : List Sent → List Frame → List ClientTold
 told_merged_back ms more = flat_map (λ (f : Frame). told_back ms (content f)) more
+
+-- the token that is told to have come, if one is
+abbrev pub renewed_in : ClientTold → List ℕ
+renewed_in (client_told.Renewed token) = token ∷ []
+renewed_in other = []
+
+-- the tokens that are told to have come, in order
+abbrev pub tokens_renewed : List ClientTold → List ℕ
+tokens_renewed told = flat_map renewed_in told
+
+-- this is told of the call under this RequestId: the reply, or that the server aborted it
+abbrev pub is_told_under : ℕ → ClientTold → Bool
+is_told_under id (client_told.Answered i octets) = i == id
+is_told_under id (client_told.GaveUp i code) = i == id
+is_told_under id other = false

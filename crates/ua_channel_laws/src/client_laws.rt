@@ -8,6 +8,7 @@ ghost use Rattle.ua_frame.specs.declared.frame.Frame.{Frame};
 ghost use Rattle.ua_frame.specs.declared.limits.Limits.{Limits};
 ghost use Rattle.ua_frame.specs.FirstWrong.{FirstWrong};
 ghost use Rattle.ua_frame.specs.Frames.{Frames};
+ghost use Rattle.ua_frame.specs.Laws.{HasOneReading, HasReadings, StopsAtFirstWrong};
 ghost use Rattle.ua_frame.specs.Run.{Fits, Going, Run, events};
 ghost use Rattle.ua_chunk.specs.Delivered.{delivered};
 ghost use Rattle.ua_channel.specs.Asks.{Placed, asked_in, calls, is_in};
@@ -42,6 +43,15 @@ pub fn client_pairs()
     ensures no_other { (limits : Limits) (asks : List Placed) (frames : List Frame) (id : ℕ)
         → AllAfter (Fits (client_rules limits asks)) frames →
         is_in id (calls (asked_in asks)) ≡ false → delivered_under id (received frames).messages ≡ [] }
+{}
+
+/// Every byte sequence, with the operations that were sent within it, has exactly one reading at a
+/// client, however it is fragmented. The reading stops at the first invalid frame, for the first
+/// error of the table that applies to it.
+pub fn client_reads()
+    ensures some { (limits : Limits) (asks : List Placed) → HasReadings (client_rules limits asks) }
+    ensures one { (limits : Limits) (asks : List Placed) → HasOneReading (client_rules limits asks) }
+    ensures first_wrong { (limits : Limits) (asks : List Placed) → StopsAtFirstWrong (client_rules limits asks) }
 {}
 
 /// The frames that a client accepts, one after the other, are exactly those of a conversation in

@@ -7,10 +7,19 @@ ghost use Rattle.ua_frame.specs.After.{AllAfter};
 ghost use Rattle.ua_frame.specs.FirstWrong.{FirstWrong};
 ghost use Rattle.ua_frame.specs.Frames.{Frames};
 ghost use Rattle.ua_frame.specs.Run.{Fits, Going, Over, Run};
+ghost use Rattle.ua_frame.specs.Laws.{HasOneReading, HasReadings, StopsAtFirstWrong};
 ghost use Rattle.ua_frame.specs.declared.frame.Frame.{Frame};
 ghost use Rattle.ua_frame.specs.declared.limits.Limits.{Limits};
 ghost use Rattle.ua_channel_laws.specs.Conversation.{Continues, HasEnded, IsConversation, ServerConversation};
 ghost use Rattle.ua_channel.specs.ServerRules.{server_rules};
+
+/// Every byte sequence has exactly one reading at a server, however it is fragmented. The reading
+/// stops at the first invalid frame, for the first error of the table that applies to it.
+pub fn server_reads()
+    ensures some { (limits : Limits) (channel : ℕ) → HasReadings (server_rules limits channel) }
+    ensures one { (limits : Limits) (channel : ℕ) → HasOneReading (server_rules limits channel) }
+    ensures first_wrong { (limits : Limits) (channel : ℕ) → StopsAtFirstWrong (server_rules limits channel) }
+{}
 
 /// The frames that a server accepts, one after the other, are exactly those of a conversation in
 /// plain words, or of the beginning of one. So a byte sequence has no invalid frame exactly where

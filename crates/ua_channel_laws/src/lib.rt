@@ -20,3 +20,4 @@ pub mod asking_laws;
 pub mod client_laws;
 pub mod group_laws;
 pub mod laws;
+pub mod merge_laws;

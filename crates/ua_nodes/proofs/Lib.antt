@@ -7,6 +7,7 @@ pub mod Fits
 pub mod IdFits
 pub mod Judged
 pub mod Limits
+mod LimitKept
 pub mod Memories
 pub mod Parsed
 pub mod Pieces

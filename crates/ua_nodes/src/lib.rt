@@ -35,7 +35,8 @@ mod write;
 
 pub use fault::{InsertFault, LineReason, LoadFault, SetFault, ValueFault};
 pub use laws::{
-    a_node_is_sound_where_it_passes, values_that_their_nodes_cannot_take_change_no_write,
+    a_node_is_sound_where_it_passes, a_write_keeps_memory_within_its_limit,
+    values_that_their_nodes_cannot_take_change_no_write,
 };
 pub use node::{Access, Node, NodeValue, Variable};
 pub use node_file::{is_read, without_return};

@@ -25,6 +25,7 @@ pub mod NowStanding
 mod Histories
 mod EndpointStays
 mod Sharings
+mod Tokens
 mod Stepped
 mod Replying
 mod Thinned

@@ -1,11 +1,18 @@
 //! Laws of what a server sends, each the contract of a function that does nothing, or only looks.
 
-ghost use Rattle.std.specs.Prelude.{◌≡◌, ◌++◌, ◌∷◌, [], ℕ, List, Option, Result};
+ghost use Rattle.std.specs.Prelude.{◌≡◌, ◌++◌, ◌∷◌, [], ℕ, List, Option, Some, Result, Ok};
 ghost use Rattle.ua_builtin.specs.declared.date_time.DateTime.{DateTime};
+ghost use Rattle.ua_channel.specs.ServerRules.{server_rules};
+ghost use Rattle.ua_channel.specs.ServerStands.{ChannelStands as Holds};
 ghost use Rattle.ua_channel.specs.ServerStands.{limits_of, channel_of};
 ghost use Rattle.ua_channel.specs.declared.server.ServerChannel.{ServerChannel};
 ghost use Rattle.ua_channel.specs.ServerTold.{Told};
+ghost use Rattle.ua_channel.specs.Stops.{StopsAt};
+ghost use Rattle.ua_frame.specs.Run.{Run, Stopped, events};
+ghost use Rattle.ua_frame.specs.declared.frame.Frame.{Frame};
 ghost use Rattle.ua_nodes.specs.Table.{Nodes};
+ghost use Rattle.ua_opening.specs.declared.header.RequestHeader.{RequestHeader};
+ghost use Rattle.ua_server.specs.Answer.{fault_of, session_header};
 ghost use Rattle.ua_server.specs.History.{ConnectionEvent, Became, IsUndisturbed, StandsOver, StepOver};
 ghost use Rattle.ua_server.specs.History.{course_over, with_changes, moments_of, output_over, told_in};
 ghost use Rattle.ua_server.specs.Now.{StepNow};
@@ -13,11 +20,20 @@ ghost use Rattle.ua_server.specs.Stepping.{ServerStands, StepAnswers, StepStands
 ghost use Rattle.ua_server.specs.declared.step.Step.{Step};
 ghost use Rattle.ua_server.specs.declared.step.StepFault.{StepFault};
 ghost use Rattle.ua_server.specs.Said.{Course, start, said_of, course_after};
-ghost use Rattle.ua_server.specs.Sharing.{SharedEvent, SharedState, Changed, StandsAmong, at_moment};
+ghost use Rattle.ua_server.specs.Sharing.{SharedEvent, SharedState, Changed, EndsAmong, StandsAmong, at_moment};
 ghost use Rattle.ua_server.specs.Sharing.{course_at, opened, seen_by, sent_to, shared_over, told_by};
+ghost use Rattle.ua_server.specs.Reply.{answered};
 ghost use Rattle.ua_server.specs.Sound.{IsSoundState};
-ghost use Rattle.ua_server.specs.State.{State, begun, with_nodes, with_session};
+ghost use Rattle.ua_server.specs.State.{State, begun, session_token, with_nodes, with_session};
+ghost use Rattle.ua_server.specs.Status.{bad_session_id_invalid};
 ghost use Rattle.ua_server.specs.declared.session.Session.{Session};
+ghost use Rattle.ua_services.specs.Request.{request_read};
+ghost use Rattle.ua_services.specs.declared.request.Request.TheVariants as kinds;
+ghost use Rattle.ua_services.specs.declared.request.Request.{Request};
+ghost use Rattle.ua_structures.specs.declared.attribute.ReadRequest.{ReadRequest};
+ghost use Rattle.ua_structures.specs.declared.attribute.WriteRequest.{WriteRequest};
+ghost use Rattle.ua_structures.specs.declared.session.ActivateSessionRequest.{ActivateSessionRequest};
+ghost use Rattle.ua_structures.specs.declared.session.CloseSessionRequest.{CloseSessionRequest};
 
 use crate::services::Services;
 
@@ -117,4 +133,41 @@ pub fn one_of_several_connections_stands_by_itself()
         → StandsAmong channels k x session octets (es ++ Changed nodes ∷ []) first (with_nodes now nodes) }
     ensures silent { (channels : ℕ → ℕ) (k : ℕ) (p : SharedState) (nodes : Nodes)
         → (sent_to channels k p (Changed nodes ∷ []) ≡ []) × (told_by k (Changed nodes ∷ []) ≡ []) }
+{}
+
+/// A hostile client ends its own connection, and no other. That connection ends at the first wrong
+/// frame, with the code of the first reason against it, and changes nothing more. The bytes
+/// held for a connection's unfinished frame and messages are bounded by its own bytes alone, as
+/// [`Connection::held`](crate::Connection::held) says.
+pub fn a_hostile_client_ends_its_own_connection()
+    ensures refused { (channels : ℕ → ℕ) (k : ℕ) (x : ServerChannel) (octets out : List ℕ) (es new : List SharedEvent)
+        (first before now : State) (code : ℕ)
+        → EndsAmong (Stopped code) channels k x octets out es new first before now
+        → (frames : List Frame) × (rest : List ℕ) × Run (server_rules (limits_of x) (channel_of x)) octets frames rest
+        (Stopped code) × StopsAt (server_rules (limits_of x) (channel_of x)) frames rest code
+        × (events (server_rules (limits_of x) (channel_of x)) frames ≡ told_by k (es ++ new)) × (now ≡ before) }
+    ensures holds { (channels : ℕ → ℕ) (k : ℕ) (x : ServerChannel) (session : Option Session) (octets : List ℕ)
+        (es : List SharedEvent) (first now : State)
+        → StandsAmong channels k x session octets es first now → (frames : List Frame) × (rest : List ℕ)
+        × Holds x octets frames rest }
+{}
+
+/// A request under the AuthenticationToken of a session that another connection has, or had, is
+/// answered with Bad_SessionIdInvalid, and changes nothing: a session is valid on its own
+/// connection only.
+pub fn a_token_of_another_connection_is_no_token()
+    ensures refused { (channels : ℕ → ℕ) (j k : ℕ) (first : State) (before es : List SharedEvent) (theirs : Session)
+        (octets : List ℕ) (m : Request) (asking : RequestHeader) (moment : DateTime)
+        → (k ≡ j → ⊥) → ((shared_over channels (opened first) before).own j).session ≡ Some theirs
+        → request_read octets ≡ Ok m → session_header m ≡ Some asking
+        → asking.authentication_token ≡ session_token theirs.number
+        → answered (course_at (shared_over channels (opened first) (before ++ es)) k).state moment octets
+        ≡ (
+          (course_at (shared_over channels (opened first) (before ++ es)) k).state,
+          fault_of asking.request_handle bad_session_id_invalid moment,
+        ) }
+    ensures activate { (m : ActivateSessionRequest) → session_header (kinds.ActivateSession m) ≡ Some m.request_header }
+    ensures close { (m : CloseSessionRequest) → session_header (kinds.CloseSession m) ≡ Some m.request_header }
+    ensures read { (m : ReadRequest) → session_header (kinds.Read m) ≡ Some m.request_header }
+    ensures write { (m : WriteRequest) → session_header (kinds.Write m) ≡ Some m.request_header }
 {}
