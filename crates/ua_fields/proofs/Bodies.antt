@@ -3,6 +3,7 @@ use Rattle.std.specs.Prelude.{◌≡◌, ℕ, Bool, List, ◌++◌, Option, Some
 use Rattle.std.proofs.Common.{refl, ap, ◌∙◌}
 use Rattle.ua_opening.specs.SecureChannel.{open_request, close_request}
 use Rattle.ua_opening.proofs.SecureChannelLawful.{lawful_open_request, lawful_close_request}
+use Rattle.ua_opening.specs.Header.{service_fault}
 use Rattle.ua_opening.specs.Message.{body_of, message}
 use Rattle.ua_opening.specs.Open.{answer_read}
 use Rattle.ua_opening.proofs.MessageRead.{body_of-found, answer_read-is}
@@ -16,8 +17,10 @@ use Rattle.ua_fields.proofs.Behind.{exact_message}
 use Rattle.ua_fields.specs.Styles.{exact_field_style}
 use Rattle.ua_fields.specs.Tree.{Tree}
 use Rattle.ua_fields.specs.Messages.{AreMessageLines, message_lines, request_tree, response_tree}
-use Rattle.ua_fields.specs.Messages.{open_request_tree, open_answer_tree, close_request_tree}
-use Rattle.ua_fields.specs.Bodies.{AreBodyFields, AreFields, IsBodyText, IsFound, body_fields, fields_found}
+use Rattle.ua_fields.specs.Messages.{open_request_tree, open_answer_tree, close_request_tree, service_fault_tree}
+use Rattle.ua_fields.specs.Bodies.{AreBodyFields, AreFields, IsBodyText, IsFound, IsHeaderText, behind_id, body_fields, fields_found, header_fields}
+use Rattle.ua_fields.specs.declared.side.Side.{Side}
+use Rattle.ua_fields.specs.declared.side.Side.TheVariants.{Client, Server}
 use Rattle.ua_fields.specs.declared.body.BodyKind.{BodyKind}
 use Rattle.ua_fields.specs.declared.body.BodyKind.TheVariants.{Request, Response, OpenRequest, OpenResponse, CloseRequest}
 
@@ -52,6 +55,11 @@ exact_text_of names Response octets text h = exact_found names response_tree (bo
 exact_text_of names OpenRequest octets text h = exact_found names open_request_tree (body_of (message 446 open_request) octets) text h
 exact_text_of names OpenResponse octets text h = exact_found names open_answer_tree (answer_read octets) text h
 exact_text_of names CloseRequest octets text h = exact_found names close_request_tree (body_of (message 452 close_request) octets) text h
+
+pub exact_header : (names : Bool) (side : Side) (octets text : List ℕ) → IsHeaderText (exact_field_style names) side octets text
+    → text ≡ header_fields names side octets
+exact_header names Client octets text h = exact_found names close_request_tree (behind_id close_request octets) text h
+exact_header names Server octets text h = exact_found names service_fault_tree (behind_id service_fault octets) text h
 
 pub exact_body : {E : Type 0} (r : Result (Unit {0}) E) (names : Bool) (kind : BodyKind) (octets old new : List ℕ)
     → Adds r old new (IsBodyText (exact_field_style names) kind octets) → OnOk r (new ≡ old ++ body_fields names kind octets)
