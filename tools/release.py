@@ -30,7 +30,7 @@ HERE = os.path.dirname(os.path.abspath(__file__))
 sys.path.insert(0, HERE)
 import install
 import write_definitions
-from unproved import TOP, VERSION
+from kit import TOP, VERSION
 
 GATE = os.path.join(TOP, ".ci", "run")
 RECORD = "share/ua/RECORD"
@@ -136,7 +136,7 @@ def main(words: list[str]) -> int:
         if install.main([it for pair in given for it in pair] + ["/tree"]):
             stop("nothing was installed")
         root = os.path.join(folder, "tree")
-        if subprocess.run([sys.executable, os.path.join(HERE, "try_install.py"), "--at", root], check=False).returncode:
+        if subprocess.run([sys.executable, os.path.join(HERE, "install.py"), "--try", "--at", root], check=False).returncode:
             stop("what was installed is not as wanted")
         record = [install.text_of(os.path.join(root, RECORD)).rstrip("\n"), f"gate {line}", *trusted(root)]
         with open(os.path.join(root, RECORD), "w", encoding="utf-8") as file:

@@ -1,5 +1,5 @@
 #!/usr/bin/env python3
-"""Talks to the program `ua` over many loopback connections at once: try_at_once PROGRAM [COUNT].
+"""Talks to the program `ua serve` over loopback connections, one after another and many at once: try_at_once PROGRAM.
 
 PROGRAM is the built program. It serves at most 50 connections at a time, 62 in all, over a node file. The driver
 opens 50 at once: some stay idle, some send octet by octet, some ask and never read, some are reset or refused, and
@@ -7,21 +7,17 @@ the others write one node in turn and read it again; and 12 more, which wait unt
 compared with what is written out in examples/c/data. Each value that is read is one that a single server which
 handles the messages in the order of completion may answer: that of a Write which began before the Read ended, and
 behind which no other Write came before the Read began. The lines that are printed have each number once, and say how
-the connection of that number may have ended. CurrentTime is read, where it is the server's own. Then words are given
-that it cannot take, and a system that gives no connection. The status is 1 at the first difference.
+the connection of that number may have ended. CurrentTime is read, where it is the server's own.
 
-With COUNT it is asked in 24 turns by one connection, with --at-once and without, and by 64 together, and 2000 times at most
-beside 1000 idle ones and one that floods; printed is how many were answered a second, how much memory each idle one took
-without and with a session, and how long the slowest answer took.
+One after another there are whole connections between ones that are cut, reset or refused. Then there is too little
+memory for an answer, values are stored up to the limit of --kept, and a system gives no connection. The status is 1
+at the first difference; what rows/program.rows shows is not tried again.
 """
 from __future__ import annotations
 
-import os
 import random
 import re
 import resource
-import socket
-import statistics
 import struct
 import sys
 import threading
@@ -29,14 +25,11 @@ import time
 from typing import Any, Callable
 
 sys.dont_write_bytecode = True
-sys.path.insert(0, os.path.dirname(os.path.abspath(__file__)))
-from try_parts.served import CLIENT, PORT, Program, check, connect, is_answer, node_file, read_all, read_frame, run
-from try_parts.talking import ANSWERED, READ, SENT, Send, Talk, at_once, one_by_one
+from sockets import ANSWERED, CLIENT, NULL, PORT, PUMP, READ, SENT, WHOLE, WRITE, Program, Send, Talk, at_once, check, connect, drop
+from sockets import is_answer, most_memory, node_file, one_by_one, read_all, read_frame, run
 
+sys.dont_write_bytecode = True
 PLACES, LATE = 50, 12
-# Bursts of each kind, which are compared in turns.
-ROUNDS, ORDINALS = 24, ('first', 'second', 'third', 'fourth', 'fifth')
-NODES = 'ns=1;s=Pump\trw\tPump\tInt32\t5\n'
 
 
 class Bench:
@@ -93,16 +86,14 @@ class Bench:
         try:
             while not self.stop.is_set():
                 talk.line.sendall(talk.message(READ))
-        except TimeoutError:
+        except OSError:
             self.stop.wait()
-        talk.line.setsockopt(socket.SOL_SOCKET, socket.SO_LINGER, struct.pack('ii', 1, 0))
-        talk.line.close()
+        drop(talk.line)
 
     def reset(self, length: int) -> None:
         line = connect()
-        line.setsockopt(socket.SOL_SOCKET, socket.SO_LINGER, struct.pack('ii', 1, 0))
         line.sendall(CLIENT[:length])
-        line.close()
+        drop(line)
 
     def refused(self) -> None:
         """Many octets stand behind those that are refused: the ERR message arrives all the same."""
@@ -138,12 +129,8 @@ def percent(trips: list[float], part: float) -> float:
     return sorted(trips)[int(len(trips) * part)] * 1000
 
 
-def served(program: str, nodes: str, connections: int | str, places: int, limit: Callable[[], None] | None = None) -> Program:
-    return Program(program, nodes, connections, '--at-once', str(places), limit=limit)
-
-
 def try_many(program: str, nodes: str) -> None:
-    server, bench = served(program, nodes, PLACES + LATE, PLACES), Bench()
+    server, bench = Program(program, nodes, PLACES + LATE, '--at-once', str(PLACES)), Bench()
     held = [bench.thread(bench.idle, octets) for octets in [b'', SENT[0], SENT[0][:7], SENT[0] + SENT[1]] * 3]
     held += [bench.thread(bench.never_reads) for _ in range(4)]
     askers = [bench.thread(bench.reset, length) for length in (0, 10, 56, 188, 300)]
@@ -167,14 +154,14 @@ def try_many(program: str, nodes: str) -> None:
 
 def try_places(program: str, nodes: str) -> None:
     """A peer beyond the places waits, and is served once one is free. Lines stand in the order of the ends."""
-    server = served(program, nodes, 3, 2)
+    server = Program(program, nodes, 3, '--at-once', '2')
     first, second = Talk(), Talk()
     with connect() as waiting:
         waiting.sendall(SENT[0])
         waiting.settimeout(0.3)
         try:
             check(not waiting.recv(1), 'an answer beyond the places')
-        except TimeoutError:
+        except OSError:
             pass
         second.close()
         server.expect('connection 2 Closed')
@@ -185,34 +172,6 @@ def try_places(program: str, nodes: str) -> None:
     first.close()
     server.expect('connection 1 Closed')
     server.end()
-
-
-def try_faults(program: str, nodes: str) -> None:
-    """Words, a port, and a system that gives no connection."""
-    for places in ('0', '1025', '-1', 'x', '+5', ''):
-        err = 'ua: a number of connections at once is not from 1 to 1024\n'
-        got = run(program, ['serve', nodes, str(PORT), '--at-once', places])
-        check(got == (2, '', err), '%r ended with %r' % (places, got))
-    got = run(program, ['serve', nodes, str(PORT), '--at-once', '5', '--requests'])
-    check(got[:2] == (2, '') and got[2], '--at-once beside --requests ended with %r' % (got,))
-    with socket.create_server(('127.0.0.1', PORT)):
-        got = run(program, ['serve', nodes, str(PORT), '--at-once', '1024'])
-        check(got == (1, '', 'ua: cannot listen\n'), 'a port that is taken ended with %r' % (got,))
-
-    def limit() -> None:
-        resource.setrlimit(resource.RLIMIT_NOFILE, (6, 64))
-
-    server = served(program, nodes, 'all', 4, limit)
-    talk = Talk()
-    with connect():
-        told = server.process.stderr.readline() if server.process.stderr else b''
-        check(told == b'ua: cannot listen\n', 'told %r of a system that gives no connection' % told)
-        check(talk.read() == 5, 'another value beside a peer that cannot be taken')
-        resource.prlimit(server.process.pid, resource.RLIMIT_NOFILE, (64, 64))
-        other = Talk()
-        other.close()
-    talk.close()
-    server.stop()
 
 
 def try_standard(program: str, nodes: str) -> None:
@@ -233,117 +192,148 @@ def try_standard(program: str, nodes: str) -> None:
     server.end()
 
 
-def memory(process: int) -> int:
-    """The most memory of a process so far, in KiB."""
-    with open('/proc/%d/status' % process, encoding='ascii') as file:
-        return int(re.findall(r'VmHWM:\s*(\d+)', file.read())[0])
+def try_descriptors(program: str, nodes: str) -> None:
+    """A system that gives no connection: that is told, the others are served, and it is tried again."""
+    server = Program(program, nodes, 'all', '--at-once', '4', limit=lambda: resource.setrlimit(resource.RLIMIT_NOFILE, (6, 64)))
+    talk = Talk()
+    with connect():
+        told = server.process.stderr.readline() if server.process.stderr else b''
+        check(told == b'ua: cannot listen\n', 'told %r of a system that gives no connection' % told)
+        check(talk.read() == 5, 'another value beside a peer that cannot be taken')
+        resource.prlimit(server.process.pid, resource.RLIMIT_NOFILE, (64, 64))
+        Talk().close()
+    talk.close()
+    server.stop()
 
 
-def ask(count: int, talk: Talk) -> list[float]:
-    """How long each answer took."""
-    trips = []
-    for _ in range(count):
-        begun = time.monotonic()
-        talk.read()
-        trips.append(time.monotonic() - begun)
-    return trips
+# ---- one after another
+
+def try_connections(program: str, nodes: str) -> None:
+    """Whole connections, with others between them that are cut, reset, refused or empty."""
+    cuts = WHOLE + [1, 7, 8, 55, 57, 100, 187, 189, 346, 400, 541, 690, 699, 701, 756]
+    resets, refused = [0, 10, 56, 188, 300], [(b'HEXF\x38\0\0\0', 0x807E0000), (CLIENT[:188] + b'MSGF\xFF\xFF\xFF\x7F', 0x80800000)]
+    server = Program(program, nodes, 2 + 2 * len(cuts) + 2 * len(resets) + 5)
+    server.whole(len(CLIENT))
+    server.whole(1)
+    for length in cuts:
+        server.cut(length)
+        server.whole(100)
+    for length in resets:
+        server.reset(length)
+        server.whole(57)
+    for octets, code in refused:
+        # Many octets stand behind those that are refused.
+        with connect() as line:
+            line.sendall(octets + bytes(20000))
+            got = b''
+            while not got.endswith(struct.pack('<4sIIi', b'ERRF', 16, code, -1)):
+                piece = line.recv(65536)
+                check(piece, 'no ERR frame of %08X' % code)
+                got += piece
+        server.expect_outcome('Refused %08X' % code)
+    server.whole(7)
+    with connect(), connect():
+        pass
+    server.expect_outcome('NoClose')
+    server.expect_outcome('NoClose')
+    server.end()
 
 
-def together(count: int, talks: list[Talk], group: int) -> float:
-    """How many Reads are answered a second, where each connection sends so many at a time."""
-    talks[0].line.sendall(talks[0].message(READ))
-    length = len(read_frame(talks[0].line)) * group
-    rounds = max(count // (len(talks) * group), 1)
-    octets = [[b''.join(talk.message(READ) for _ in range(group)) for talk in talks] for _ in range(rounds)]
-    for talk in talks:
-        talk.line.settimeout(None)
-    begun = time.monotonic()
-    for groups in octets:
-        for talk, asked in zip(talks, groups):
-            talk.line.sendall(asked)
-        for talk in talks:
-            check(len(talk.line.recv(length, socket.MSG_WAITALL)) == length, 'a short answer')
-    return rounds * len(talks) * group / (time.monotonic() - begun)
+# A ByteString of so many octets, which is read so often at once, is more than the program may hold.
+LARGE, TIMES = 1000000, 64
+# A Write of so many null Strings has a MiB, and stores 14 MB.
+ROWS, ELEMENTS = 100, 262000
 
 
-def flood(talk: Talk, stop: threading.Event) -> None:
-    """Sends Reads without an end; another thread drops the answers."""
-    def drop() -> None:
-        while talk.line.recv(1 << 20):
-            pass
-    other = threading.Thread(target=drop)
-    other.start()
-    octets = b''.join(talk.message(READ) for _ in range(60000))
-    for place in range(0, len(octets), 65536):
-        if stop.is_set():
-            break
-        talk.line.sendall(octets[place:place + 65536])
-    talk.line.shutdown(socket.SHUT_WR)
-    other.join()
+def item(name: str, attribute: int, rest: bytes) -> bytes:
+    """An item for an attribute of a node in namespace 1."""
+    return b'\x03\x01\0' + struct.pack('<I', len(name)) + name.encode() + struct.pack('<Ii', attribute, -1) + rest
 
 
-def burst(program: str, nodes: str, count: int, connections: int, group: int, words: list[str]) -> float:
-    """How many Reads are answered a second over so many connections of a server of their own, in groups."""
-    server = Program(program, nodes, 'all', *words)
-    talks = [Talk() for _ in range(connections)]
-    together(4096, talks, group)
-    reads = together(count, talks, group)
-    server.process.kill()
-    server.process.wait()
-    for talk in talks:
-        talk.line.close()
-    return reads
+def write_of(talk: Talk, name: str, value: bytes) -> int:
+    """The result of a Write of this value to this node."""
+    front = WRITE[24:WRITE.find(b'\x03\x01\0\x04\0\0\0Pump')]
+    _, _, answer, _ = talk.ask(front.replace(b'\x01\x02\x01\0', b'\x01\x02' + struct.pack('<H', talk.session)) + item(name, 13, b'\x01' + value))
+    check(answer[24:28] == b'\x01\0\xA4\x02' and answer[52:56] == struct.pack('<I', 1), 'no WriteResponse with one result')
+    return int(struct.unpack('<I', answer[56:60])[0])
 
 
-def compare(program: str, nodes: str, count: int) -> None:
-    """Bursts in turns, since times differ from run to run: of one connection, also under --at-once, and of 64."""
-    few, many = ['--at-once', '16'], ['--at-once', '64']
-    kinds = [(1, 1, []), (1, 1, few), (1, 64, []), (1, 64, few), (64, 64, many)]
-    rounds = [[burst(program, nodes, count // (8 if kind[1] == 1 else 1), *kind) for kind in kinds] for _ in range(ROUNDS)]
-    for place, (connections, group, words) in enumerate(kinds):
-        reads = [each[place] for each in rounds]
-        print('%2d connections in groups of %2d, %s: %d requests a second, at most %d'
-              % (connections, group, ' '.join(words) or 'one after the other', statistics.median(reads), max(reads)))
-    for part, whole in ((1, 0), (4, 2), (4, 3)):
-        print('the %s of these to the %s: %.2f of it'
-              % (ORDINALS[part], ORDINALS[whole], statistics.median(each[part] / each[whole] for each in rounds)))
+def ask_too_much(limited: bool) -> None:
+    """Writes a large value and reads it often at once, over a connection that the program ends, or over one on which it gives up a
+    response that is larger than it allows itself, and answers the next request."""
+    # A HEL that takes answers of any size (OPC 10000-6, 7.1.2.3).
+    talk = Talk(limit=0)
+    check(write_of(talk, 'Large', b'\x0F' + struct.pack('<I', LARGE) + bytes(LARGE)) == 0, 'no Write of a large value')
+    front = READ[24:-25 - 4]
+    answered, flag, first, _ = talk.ask(front + struct.pack('<I', TIMES) + TIMES * item('Large', 13, bytes(2) + NULL))
+    if not limited:
+        check(not answered, 'an answer that takes more memory than there is')
+    else:
+        # Bad_ResponseTooLarge in an abort chunk (OPC 10000-6, 6.7.3).
+        check(flag == 'A' and first[24:28] == struct.pack('<I', 0x80B90000), 'a response that is larger than the server allows')
+        first = talk.ask(front + struct.pack('<I', 1) + item('Large', 2, bytes(2) + NULL))[2]
+        check(first[24:28] == b'\x01\0\x7A\x02', 'no ReadResponse behind a response that was given up')
+    talk.line.close()
 
 
-def measure(program: str, nodes: str, count: int) -> None:
-    compare(program, nodes, count)
-    server = served(program, nodes, 'all', 1024)
-    before = memory(server.process.pid)
-    idle = [connect() for _ in range(1000)]
-    for line in idle:
-        line.sendall(SENT[0])
-        read_frame(line)
-    print('1000 idle connections: %.1f KiB each' % ((memory(server.process.pid) - before) / 1000))
-    for line in idle:
-        line.close()
-    idle = [Talk().line for _ in range(1000)]
-    print('1000 idle connections with a session: %.1f KiB each' % ((memory(server.process.pid) - before) / 1000))
-    talk, stop = Talk(), threading.Event()
-    other = threading.Thread(target=flood, args=(Talk(), stop))
-    other.start()
-    trips = ask(min(count, 2000), talk)
-    stop.set()
-    other.join()
-    print('beside one that floods, and 1000 idle ones: half within %.2f ms, the slowest %.2f ms' % (percent(trips, 0.5), max(trips) * 1000))
-    server.process.kill()
+def try_memory(program: str) -> None:
+    """Want of memory ends a connection alone, where all are served; else the program."""
+    def serving(connections: int | str, *words: str) -> Program:
+        return Program(program, nodes, connections, *words, limit=lambda: resource.setrlimit(resource.RLIMIT_AS, (64 << 20, 64 << 20)))
+
+    with node_file(PUMP + 'ns=1;s=Large\trw\tLarge\tByteString\t\n') as nodes:
+        server = serving('all')
+        server.sessions += 1
+        ask_too_much(False)
+        server.expect_outcome('NoMemory')
+        server.whole(len(CLIENT))
+        server.stop()
+        server = serving(2)
+        ask_too_much(False)
+        server.end(b'ua: no memory\n')
+        for words in (('--answers', '1000000'), ('--standard',)):
+            server = serving('all', *words)
+            ask_too_much(True)
+            server.expect_outcome('NoClose')
+            server.stop()
+
+
+def write_rows(server: Program, rows: list[tuple[int, int]]) -> list[int]:
+    """The results of Writes over one connection, each of an array of so many null Strings to the row of this number."""
+    talk = Talk()
+    results = [write_of(talk, 'Row%d' % row, b'\x8C' + struct.pack('<I', elements) + elements * NULL) for row, elements in rows]
+    talk.line.close()
+    server.expect_outcome('NoClose')
+    return results
+
+
+def try_kept(program: str) -> None:
+    """Values are stored up to the limit of memory that is said, over all connections; a value that takes less gives its room back."""
+    with node_file(''.join('ns=1;s=Row%d\trw\tRow\tString[]\t\n' % row for row in range(ROWS))) as nodes:
+        server, results = Program(program, nodes, 'all', '--kept'), []
+        for first in range(0, ROWS, 25):
+            results += write_rows(server, [(row, ELEMENTS) for row in range(first, first + 25)])
+        check(results == 4 * [0] + (ROWS - 4) * [0x80030000], 'other results of Writes past the limit')
+        results = write_rows(server, [(3, ELEMENTS), (3, 0), (4, ELEMENTS), (3, 1), (5, ELEMENTS)])
+        check(results == 4 * [0] + [0x80030000], 'other results where a value gives its room back')
+        most = most_memory(server.process.pid)
+        check(0 < most < 160000, '%d KiB of memory for 64 MiB of values' % most)
+        server.stop()
 
 
 def main(words: list[str]) -> None:
-    if not words:
+    if len(words) != 1:
         raise SystemExit(__doc__)
-    with node_file(NODES) as nodes:
-        if len(words) > 1:
-            measure(words[0], nodes, int(words[1]))
-            return
-        try_faults(words[0], nodes)
-        try_places(words[0], nodes)
-        try_standard(words[0], nodes)
-        try_many(words[0], nodes)
-        print('as written out')
+    program = words[0]
+    with node_file(PUMP) as nodes:
+        try_connections(program, nodes)
+        try_memory(program)
+        try_kept(program)
+        try_descriptors(program, nodes)
+        try_places(program, nodes)
+        try_standard(program, nodes)
+        try_many(program, nodes)
+    print('try_at_once: as written out')
 
 
 if __name__ == '__main__':

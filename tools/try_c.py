@@ -24,10 +24,11 @@ import time
 from typing import Any, Callable, NoReturn
 
 sys.dont_write_bytecode = True
-TOP = os.path.dirname(os.path.dirname(os.path.abspath(__file__)))
+from kit import kit_folder
+from sockets import HOME, READ, SENT, STREAMS, TOP, chunks, free_port
+
 INCLUDE = os.path.join(TOP, 'crates/ua_c/include')
 EXAMPLES = os.path.join(TOP, 'examples')
-DATA = os.path.join(EXAMPLES, 'c/data')
 NODES = 'ns=1;s=Pump\trw\tPump\tInt32\t5\nns=1;s=Row\trw\tRow\tInt32[]\t10,20,30\n'
 LIVE = NODES + 'ns=1;s=Sensor\tr\tSensor\tDouble\t0x0000000000000000\nns=1;s=Setpoint\trw\tSetpoint\tDouble\t0x0000000000000000\n'
 ASKED = ['ns=1;s=Pump', 'ns=1;s=Row', 'i=9']
@@ -92,18 +93,11 @@ def same(what: str, got: str, wanted: str) -> None:
     say('%s: as wanted' % what)
 
 
-def free_port() -> str:
-    """A port at which nobody listens."""
-    with socket.socket() as line:
-        line.bind(('127.0.0.1', 0))
-        return str(line.getsockname()[1])
-
-
 class Serving:
     """A server in the background for so many connections, and some more that end as idle, that says when it listens."""
 
     def __init__(self, words_at: Callable[[str], list[str]], connections: int, idle: int = 0) -> None:
-        self.port, self.connections, self.idle = free_port(), connections, idle
+        self.port, self.connections, self.idle = str(free_port()), connections, idle
         words = words_at(self.port)
         self.process = subprocess.Popen(words, stdout=subprocess.PIPE, text=True)
         if not self.process.stdout or self.process.stdout.readline() != 'listening %s\n' % self.port:
@@ -121,22 +115,16 @@ class Serving:
 
 def stall(port: str) -> socket.socket:
     """A line to a server that is asked on and on, until it takes no more, and whose answers are not read."""
-    with open(os.path.join(DATA, 'client.bin'), 'rb') as file:
-        octets = file.read()
-    frames: list[bytes] = []
-    while octets:
-        size = struct.unpack_from('<I', octets, 4)[0]
-        frames, octets = frames + [octets[:size]], octets[size:]
     line = socket.socket()
     line.setsockopt(socket.SOL_SOCKET, socket.SO_RCVBUF, 4096)
-    line.connect(('127.0.0.1', int(port)))
+    line.connect((HOME, int(port)))
     line.settimeout(0.5)
     item = 25  # the octets of the one item of the Read, which ends it behind the count of items
-    body = frames[5][24:-item - 4] + struct.pack('<I', 100) + 100 * frames[5][-item:]
+    body = READ[24:-item - 4] + struct.pack('<I', 100) + 100 * READ[-item:]
     try:
-        line.sendall(b''.join(frames[:4]))
+        line.sendall(b''.join(SENT[:4]))
         for number in range(4, 1000000):
-            line.sendall(struct.pack('<4sIIIII', b'MSGF', 24 + len(body), 1, 1, number, number) + body)
+            line.sendall(chunks(body, number)[0])
     except socket.timeout:
         return line
     end('a server took a million requests of a client that reads nothing')
@@ -165,8 +153,7 @@ class Examples:
 
     def archives(self) -> list[str]:
         """The library, and the kit's archive for memory."""
-        kit = os.path.dirname(run(['rt', 'doc']).strip())
-        return [self.library, os.path.join(kit, 'c/liblibc_c.a')]
+        return [self.library, os.path.join(kit_folder(), 'c/liblibc_c.a')]
 
     def build_c(self, name: str, *flags: str) -> str:
         """Compiles, and where the library is at hand links, a C example."""
@@ -273,7 +260,7 @@ class Examples:
                 words, wanted = client(serving.port)
                 same('%s asks %s beside %s' % (name, gateway, beside), run(words), wanted)
             if len(lines) == 1:
-                lines += [socket.create_connection(('127.0.0.1', int(serving.port))) for _ in range(16)]
+                lines += [socket.create_connection((HOME, int(serving.port))) for _ in range(16)]
         serving.end()
 
     def ask_at_once(self, program: str, gateway: str) -> None:
@@ -314,7 +301,7 @@ class Examples:
         """Every call in ample memory: answers.txt beside the example has what it answers."""
         with open(os.path.join(EXAMPLES, language, 'answers.txt'), encoding='utf-8') as file:
             wanted = file.read()
-        sides = [os.path.join(DATA, name) for name in ('client.bin', 'server.bin')]
+        sides = [os.path.join(STREAMS, name) for name in ('client.bin', 'server.bin')]
         same('answers.' + language, run([self.answers[language], *sides]), wanted)
 
     def threads(self) -> None:
@@ -328,12 +315,12 @@ class Examples:
         """No call takes more of a painted stack than include/ua.h says was measured."""
         with open(os.path.join(INCLUDE, 'ua.h'), encoding='utf-8') as file:
             most, = re.findall(r'#define UA_STACK_MEASURED (\d+)', file.read())
-        print(run([self.at('stack'), os.path.join(DATA, 'client.bin'), most]), end='')
+        print(run([self.at('stack'), os.path.join(STREAMS, 'client.bin'), most]), end='')
         say('the stack of the calls: below %s octets' % most)
 
     def hammer(self, pieces: int) -> None:
         """Pieces that are random, or parts of whole conversations that are changed."""
-        streams = sorted(os.path.join(DATA, name) for name in os.listdir(DATA))
+        streams = sorted(os.path.join(STREAMS, name) for name in os.listdir(STREAMS))
         print(run([self.build_c('hammer', SANITIZED), str(pieces), '500', '1', *streams]), end='')
         if self.is_there('valgrind', 'hammer.c under memcheck'):
             words = ['valgrind', '--error-exitcode=9', '--leak-check=full', '-q', self.build_c('hammer')]

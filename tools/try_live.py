@@ -1,26 +1,29 @@
 #!/usr/bin/env python3
-"""Changes the node file of `ua serve --live` while it is served, and takes what `--writes` prints: try_live PROGRAM.
+"""Tries what goes on while the program `ua` runs: try_live PROGRAM.
 
-PROGRAM is the built program. Its server is read by `ua read` and written by `ua write` between changes of the file:
-lines that change, come, go and stay, lines that do not load, a file that goes away and comes back, one that is renamed
-over, one that is no UTF-8, and a node whose type changes; one connection at a time, and several. With `--writes` each
-value that is stored has its line, in order and before its response. What is read and what is printed is compared
-with what docs/PROGRAM.md says of it; the status is 1 at the first difference.
+PROGRAM is the built program. The node file of `ua serve --live` changes while it is read and written: lines that change,
+come, go and stay, lines that do not load, a file that goes away and comes back, one that is renamed over, one that is no
+UTF-8, and a node whose type changes; one connection at a time, and several. With `--writes` each value that is stored
+has its line, in order and before its response. `ua ask` answers lines that come one by one, reads nodes again and again,
+and renews a token of a short lifetime. What is read and printed is compared with what docs/PROGRAM.md says of it; the
+status is 1 at the first difference.
 """
 from __future__ import annotations
 
 import os
 import select
+import struct
+import subprocess
 import sys
 import tempfile
 import threading
 import time
 
 sys.dont_write_bytecode = True
-sys.path.insert(0, os.path.dirname(os.path.abspath(__file__)))
-from try_parts.served import PORT, Program, check, connect, run
-from try_parts.talking import Talk
+from sockets import ACK, ACTIVATE, ACTIVATED, CLOSE, CLOSED, CREATE, CREATED, HELLO, LEAVE, OPEN, OPENED, PORT, READ, VALUE, WRITE
+from sockets import Program, Server, Talk, check, connect, is_answer, node_file, numbered, run
 
+sys.dont_write_bytecode = True
 PUMP = 'ns=1;s=Pump\trw\tPump\tInt32\t%d\n'
 LEVEL = 'ns=1;s=Level\tr\tLevel\tDouble\t0x%016X\n'
 NAME = 'ns=1;s=Name\trw\tName\tString\t%s\n'
@@ -207,15 +210,6 @@ def try_writes(program: str, folder: str, *options: str) -> None:
     served.stop()
 
 
-def try_words(program: str, path: str) -> None:
-    """Words that do not stand together, and what cannot be followed."""
-    for option in ('--live', '--writes'):
-        got = run(program, ['serve', path, str(PORT), option, '--requests'])
-        check(got[:2] == (2, '') and got[2], '%s beside --requests ended with %r' % (option, got))
-    got = run(program, ['serve', '-', str(PORT), '--live'])
-    check(got == (2, '', 'ua: standard input is not read again\n'), 'standard input ended with %r' % (got,))
-
-
 def try_closed_output(program: str, folder: str) -> None:
     """Where nobody takes the lines, the server ends at the next one, before its response."""
     path = os.path.join(folder, 'nodes.txt')
@@ -227,7 +221,7 @@ def try_closed_output(program: str, folder: str) -> None:
     served.expect('write ns=1;s=Pump Int32 6')
     if served.process.stdout:
         served.process.stdout.close()
-    talk.line.sendall(talk.message(4, 7))
+    talk.line.sendall(talk.message(WRITE, 7))
     check(served.process.wait(timeout=20) == 1, 'another status where the lines are not taken')
 
 
@@ -243,8 +237,138 @@ def try_standard(program: str, folder: str, *options: str) -> None:
     live.served.stop()
 
 
-def main() -> None:
-    program = os.path.abspath(sys.argv[1])
+# ---- lines and rounds of `ua ask`
+
+# Where the sequence header of an OPN stands, and from its end the type of a request, the token and its lifetime.
+OPN_NUMBERS, KIND, TOKEN, LIFETIME = 71, -16, -20, -8
+NODES = PUMP % 5 + 'ns=1;s=Row\trw\tRow\tInt32[]\t10,20,30\ni=2001\tr\tLevel\tFloat\t0xC0D00000\n'
+
+
+def opening(frame: bytes, number: int, place: int, value: int) -> bytes:
+    """An OPN frame with this number, on the channel 1, and with this value at a place."""
+    out = bytearray(frame)
+    struct.pack_into('<I', out, 8, 1)
+    struct.pack_into('<II', out, OPN_NUMBERS, number, number)
+    struct.pack_into('<I', out, len(out) + place, value)
+    return bytes(out)
+
+
+def under(frame: bytes, token: int) -> bytes:
+    """A frame under another token."""
+    return frame[:12] + struct.pack('<I', token) + frame[16:]
+
+
+class Asking:
+    """The program as it answers lines, and what it printed so far."""
+
+    def __init__(self, program: str, *words: str) -> None:
+        self.process = subprocess.Popen([program, 'ask', str(PORT), *words], stdin=subprocess.PIPE, stdout=subprocess.PIPE, stderr=subprocess.PIPE)
+        self.out = b''
+
+    def read(self, seconds: float) -> bytes:
+        """What is printed within so many seconds, up to the end of a line."""
+        got, end = b'', time.monotonic() + seconds
+        while not got.endswith(b'\n') and select.select([self.process.stdout], [], [], max(0, end - time.monotonic()))[0]:
+            piece = os.read(self.process.stdout.fileno(), 4096)
+            if not piece:
+                break
+            got += piece
+        return got
+
+    def say(self, line: str, answer: str) -> None:
+        """A line is answered like this before the next one is written."""
+        self.process.stdin.write(line.encode() + b'\n')
+        self.process.stdin.flush()
+        got = self.read(20 if answer else 0.2).decode()
+        check(got == answer, '%r is answered by %r' % (line, got))
+
+    def end(self, status: int, out: str, err: str) -> None:
+        """The input ends; the program prints the rest and ends like this."""
+        got, told = self.process.communicate(timeout=20)
+        ended = (self.process.returncode, got.decode(), told.decode())
+        check(ended == (status, out, err), 'it ended with %r' % (ended,))
+
+
+def try_lines(program: str, nodes: str) -> None:
+    """Lines are answered one by one, in one session, up to the end of the input or a bad line."""
+    six, written = 'ns=1;s=Pump 00000000 Int32 6\n', 'ns=1;s=Pump 00000000\n'
+    served = Program(program, nodes, 5)
+    asking = Asking(program)
+    asking.say('# a comment', '')
+    asking.say('', '')
+    asking.say('read\tns=1;s=Pump', 'ns=1;s=Pump 00000000 Int32 5\n')
+    asking.say('write\tns=1;s=Pump\tInt32\t6', written)
+    asking.say('renew', '')
+    asking.say('read\tns=1;s=Pump\r', six)
+    asking.say('read\tns=1;s=Row\t1:2', 'ns=1;s=Row 00000000 Int32[] 20,30\n')
+    asking.say('endpoints', 'opc.tcp://localhost:%d 1 http://opcfoundation.org/UA/SecurityPolicy#None\n' % PORT)
+    begun = time.monotonic()
+    asking.process.stdin.write(b'sleep\t700\n')
+    asking.say('read\tns=1;s=Pump', six)
+    check(time.monotonic() - begun > 0.6, 'no pause')
+    asking.say('write\ti=2001\tFloat\t0x00000000', 'i=2001 803B0000\n')
+    asking.end(0, '', '')
+    served.expect_outcome('Closed')
+    for words, line, status, out, err in [
+        (['-', '--strict', '--names'], 'read\ti=9', 3, 'i=9 80340000 BadNodeIdUnknown\n', ''),
+        (['--plain', '--json'], 'write\ti=2001\tFloat\t1.5', 0, '{"node":"i=2001","status":"803B0000"}\n', ''),
+        (['--why'], 'read\tns=1;s=Pump\nsleep\t0\nread\tns=1;s=Pump', 1, six, 'ua: script line 2\n  because 0\n'),
+        ([], 'read\tns=1;s=Pump\nend\nread\tns=1;s=Pump', 1, six, 'ua: script line 2\n'),
+    ]:
+        asking = Asking(program, *words)
+        asking.process.stdin.write(line.encode())
+        asking.end(status, out, err)
+        served.expect_outcome('Closed')
+    served.end()
+
+
+def try_rounds(program: str, nodes: str) -> None:
+    """Nodes are read again and again, and each time is printed as it comes."""
+    served = Program(program, nodes, 2)
+    line = b'ns=1;s=Pump 00000000 Int32 5\ni=2001 00000000 Float 0xc0d00000\n'
+    begun = time.monotonic()
+    done = subprocess.run([program, 'ask', str(PORT), 'ns=1;s=Pump', 'i=2001', '--every', '300', '--count', '3'], capture_output=True, timeout=20)
+    check((done.returncode, done.stdout, done.stderr) == (0, 3 * line, b''), 'rounds ended with %r' % (done,))
+    check(time.monotonic() - begun > 0.5, 'no pauses')
+    served.expect_outcome('Closed')
+    asking = Asking(program, 'ns=1;s=Pump', '--every', '300')
+    for _ in range(3):
+        check(asking.read(20) == line[:29], 'a round is not printed as it comes')
+    asking.process.kill()
+    asking.process.communicate()
+    served.expect_outcome('NoClose', 'Read')
+    served.end()
+
+
+def try_lifetimes(program: str) -> None:
+    """A token of a short lifetime is renewed before the next request, one of an hour is not."""
+    for lifetime, renews in [(2000, True), (3600000, False)]:
+        opened = opening(OPENED, 1, LIFETIME, lifetime)
+        numbers = range(4, 8) if renews else range(4, 7)
+        token = 2 if renews else 1
+        reads = [numbers[0], numbers[-2]]
+        asked = [HELLO, OPEN, CREATE, ACTIVATE, numbered(READ, reads[0], 40)]
+        answers = [ACK, opened, CREATED, ACTIVATED, numbered(VALUE, reads[0], 36)]
+        if renews:
+            asked.append(opening(OPEN, numbers[1], KIND, 1))
+            answers.append(opening(opened, numbers[1], TOKEN, token))
+        asked += [under(numbered(frame, number, handle), token)
+                  for frame, number, handle in [(READ, reads[1], 40), (CLOSE, numbers[-1], 40), (LEAVE, numbers[-1] + 1, None)]]
+        answers += [under(numbered(frame, number, 36), token) for frame, number in [(VALUE, reads[1]), (CLOSED, numbers[-1])]]
+        server = Server(answers)
+        asking = Asking(program)
+        for _ in range(2):
+            asking.say('read\tns=1;s=Pump', 'ns=1;s=Pump 00000000 Int32 6\n')
+            time.sleep(1.6)
+        asking.end(0, '', '')
+        server.join(20)
+        check(is_answer(server.got, b''.join(asked)), 'other requests where a token has %d ms' % lifetime)
+
+
+def main(words: list[str]) -> None:
+    if len(words) != 1:
+        raise SystemExit(__doc__)
+    program = os.path.abspath(words[0])
     with tempfile.TemporaryDirectory() as folder:
         try_alone(program, folder)
         try_alone(program, folder, '--at-once', '3', '--answers', '100000')
@@ -252,12 +376,15 @@ def main() -> None:
         try_plain(program, folder)
         try_writes(program, folder)
         try_writes(program, folder, '--at-once', '2', '--standard', '--answers', '100000')
-        try_words(program, os.path.join(folder, 'nodes.txt'))
         try_closed_output(program, folder)
         try_standard(program, folder)
         try_standard(program, folder, '--at-once', '2')
+    with node_file(NODES) as nodes:
+        try_lines(program, nodes)
+        try_rounds(program, nodes)
+    try_lifetimes(program)
     print('try_live: all as docs/PROGRAM.md says')
 
 
 if __name__ == '__main__':
-    main()
+    main(sys.argv[1:])

@@ -23,7 +23,7 @@ from collections import Counter
 
 sys.dont_write_bytecode = True
 sys.path.insert(0, os.path.dirname(os.path.abspath(__file__)))
-from definitions import TOP, Unit, block_of, calls, code_of, docs, heads, in_order, place_of, rests_on, sources, text_of, unit
+from trust import TOP, Unit, block_of, calls, code_of, docs, heads, in_order, place_of, rests_on, sources, text_of, unit
 
 THEOREMS = "docs/THEOREMS.md"
 MARK = re.compile(r"^<!-- (?P<kind>contract|rests) (?P<calls>[\w: ]+) -->\n(?P<body>.*?)^<!-- end -->\n", re.M | re.S)

@@ -1,23 +1,19 @@
-"""What a program is run with where rows ask it: calls of the C library that answer as a row says, by LD_PRELOAD (needs gcc).
-
-The clock of the day is at 1970-01-01. The environment says the rest, each by a variable ROWS_..:
-
-- PORT: a connection to the port 4840 goes to this one; ALONE: nothing takes a connection
-- LISTENER: the listener on the port 4840 is this descriptor, on which connections wait already; DEAF: nothing can be listened on
-- ACCEPTS: how each call of accept is answered: `next`, or the number of an error. At the call after the last one the
-  program ends with the status 0. A pause takes no time
-- OUT, ERR: standard output, standard error take so many bytes, and then fail (EIO); IN: standard input fails at its end
-- READ: the read of connections of this number fails (ECONNRESET); ENDED: one fails at the end of a connection;
-  ROOM: connections take so many bytes, and then fail (EPIPE)
-- TOLD: the file to which lines are added: `near HEX` and `far HEX`, what was written to a connection that the program made,
-  and that it took; `out N`, behind a write to standard output, how many bytes connections had taken; `pause`
-"""
-from __future__ import annotations
-
-import os
-import subprocess
-
-SHIM = r'''
+/* What a program is run with where rows ask it: calls of the C library that answer as a row says, by LD_PRELOAD.
+ *
+ * The clock of the day is at 1970-01-01. The environment says the rest, each by a variable ROWS_..:
+ *
+ * - PORT: a connection to the port 4840 goes to this one; ALONE: nothing takes a connection
+ * - LISTENER: the listener on the port 4840 is this descriptor, on which connections wait already; DEAF: nothing can be listened on
+ * - ACCEPTS: how each call of accept is answered: `next`, or the number of an error. At the call after the last one the
+ *   program ends with the status 0. A pause takes no time
+ * - OUT, ERR: standard output, standard error take so many bytes, and then fail (EIO); IN: standard input fails at its end
+ * - READ: the read of connections of this number fails (ECONNRESET); ENDED: one fails at the end of a connection;
+ *   ROOM: connections take so many bytes, and then fail (EPIPE)
+ * - TOLD: the file to which lines are added: `near HEX` and `far HEX`, what was written to a connection that the program made,
+ *   and that it took; `out N`, behind a write to standard output, how many bytes connections had taken; `pause`
+ *
+ * Built with ALLOCATIONS it has other calls alone: the one of number FAIL_N of malloc, realloc, posix_memalign and
+ * aligned_alloc answers that there is no memory, and makes the file FAIL_TOLD. */
 #define _GNU_SOURCE
 #include <arpa/inet.h>
 #include <dlfcn.h>
@@ -31,6 +27,20 @@ SHIM = r'''
 #include <unistd.h>
 #define REAL(name) static __typeof__(name) *real; if (!real) real = (__typeof__(name) *)dlsym(RTLD_NEXT, #name)
 #define FAILS(code) do { errno = (code); return -1; } while (0)
+#ifdef ALLOCATIONS
+static long left; static int ready;
+static int fails(void) {
+    if (!ready) { ready = 1; const char *n = getenv("FAIL_N"); left = n ? atol(n) : 0; }
+    if (left <= 0 || --left > 0) return 0;
+    const char *f = getenv("FAIL_TOLD"); int d = f ? open(f, O_WRONLY | O_CREAT, 0644) : -1;
+    if (d >= 0) close(d);
+    errno = ENOMEM; return 1;
+}
+void *malloc(size_t n) { REAL(malloc); return fails() ? NULL : real(n); }
+void *realloc(void *p, size_t n) { REAL(realloc); return fails() ? NULL : real(p, n); }
+int posix_memalign(void **p, size_t a, size_t n) { REAL(posix_memalign); return fails() ? ENOMEM : real(p, a, n); }
+void *aligned_alloc(size_t a, size_t n) { REAL(aligned_alloc); return fails() ? NULL : real(a, n); }
+#else
 static const char *said(const char *name) { return getenv(name); }
 static long number(const char *name) { const char *text = said(name); return text ? atol(text) : -1; }
 static long sent, reads, made = -1;
@@ -136,13 +146,4 @@ int clock_gettime(clockid_t clock, struct timespec *time) {
     if (clock == CLOCK_REALTIME && !status) memset(time, 0, sizeof *time);
     return status;
 }
-'''
-
-
-def preloaded(folder: str) -> str:
-    """The path of the library of these calls, which is made in this folder."""
-    source, made = os.path.join(folder, "preload.c"), os.path.join(folder, "preload.so")
-    with open(source, "w", encoding="utf-8") as file:
-        file.write(SHIM)
-    subprocess.run(["gcc", "-O2", "-Wall", "-fno-builtin", "-shared", "-fPIC", "-o", made, source, "-ldl"], check=True)
-    return made
+#endif

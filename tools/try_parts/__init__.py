@@ -1,1 +1,0 @@
-"""What tools/try_serve.py and tools/try_ask.py share."""
