@@ -2,13 +2,13 @@
 """Compares what the program `ua` prints of random values with what docs/PROGRAM.md says: fuzz_values PROGRAM [COUNT] [SEED].
 
 PROGRAM is the built program; COUNT values are made, 100000 by default, the same for the same SEED, 1 by default: of all built-in
-types of OPC 10000-6, 5.2.2, with their corners. They are encoded here, also in ways that are not the plain one. `ua read` with
-several options asks a server that answers with some 200 of them, and `ua dissect --fields` takes the same response from a file.
-The first differences are printed with the value's octets in hexadecimal, and the status is 1; else the last line counts.
+types of OPC 10000-6, 5.2.2, with their corners. Each is made with its encoding, plain and in one of the other ways that are read
+as the same value, and with its texts. `ua read` with several options asks a server that answers with some 200 of them, and
+`ua dissect --fields` takes the same response from a file. The first differences are printed with the value's octets in
+hexadecimal, and the status is 1; else the last line counts.
 """
 from __future__ import annotations
 
-import json
 import os
 import random
 import re
@@ -16,24 +16,42 @@ import struct
 import subprocess
 import sys
 import tempfile
-from time import monotonic
-from typing import NamedTuple, Sequence, TypeVar
+import time
+from typing import Any, Callable, NamedTuple, Sequence
 
 sys.dont_write_bytecode = True
 from fuzz_texts import *
 from sockets import ACK, ACTIVATED, CHUNK, CLOSED, CREATED, OPENED, PORT, TOP, Server, check, chunks, numbered
 
-T = TypeVar('T')
-FLOATS = [0, 1, 2, 0x7FFFFF, 0x800000, 0x3F800000, 0x3FC00000, 0x7F7FFFFF, 0x7F800000, 0x7F800001, 0x7FBFFFFF,
-          0x7FC00000, 0x7FC00001, 0x7FFFFFFF, 0x4B000000, 0x4B800000, 0x5F000000, 0x3DCCCCCD, 0x358637BD]
-DOUBLES = [0, 1, 2, 0xFFFFFFFFFFFFF, 0x10000000000000, 0x3FF0000000000000, 0x3FF8000000000000, 0x7FEFFFFFFFFFFFFF,
-           0x7FF0000000000000, 0x7FF0000000000001, 0x7FF7FFFFFFFFFFFF, 0x7FF8000000000000, 0x7FF8000000000001,
-           0x7FFFFFFFFFFFFFFF, 0x4340000000000000, 0x4340000000000001, 0x433FFFFFFFFFFFFF, 0x3FB999999999999A,
-           0x3EB0C6F7A0B5ED8D, 0x444B1AE4D6E2EF50]
-PIECES = ['\0', '\t', '\n', '\r', '\x1b', '\x1f', ' ', '\x7f', '\x80', '\x85', '\x9f', '\xa0', '"', "'", '\\', '\\x2c',
-          '\\n', '/', ',', '(', ')', '{', '}', '[', ']', '|', ';', ':', '=', '<', '&', '%', '-', 'null', 'ns=', 'é', 'ß',
-          '水', '\u2028', '\u2029', '\ufeff', '\ufffd', '\uffff', '😀', '\U0010ffff', '\ud7ff', '\ue000', 'true', '0x', '1e5']
-LETTERS = 'abcdefghijklmnopqrstuvwxyzABCDEFGHIJKLMNOPQRSTUVWXYZ0123456789_. '
+# ---- values, of which each function has the encoding, the text and what it is in JSON
+
+def counted(of: bytes | None, odd: Odd) -> bytes:
+    """An Int32 count, and bytes."""
+    return struct.pack('<i', (-1, -2, -1 << 31)[odd() + odd()]) if of is None else struct.pack('<i', len(of)) + of
+
+
+def encoded(of: str | None) -> bytes | None:
+    return None if of is None else of.encode()
+
+
+def swapped(of: bytes) -> bytes:
+    """A Guid from its 16 bytes in the order of its text.
+
+    >>> swapped(bytes.fromhex('72962b91fa754ae68d28b404dc7daf63')).hex()
+    '912b967275fae64a8d28b404dc7daf63'
+    """
+    return of[3::-1] + of[5:3:-1] + of[7:5:-1] + of[8:]
+
+
+def by_bytes(kind: int, both: Sequence[bytes], text: Callable[[Style], Parts] | None = None, members: Callable[[Style], Any] | None = None,
+             more: Any = None, is_null: bool = False) -> Value:
+    """A value that prints by its bytes, or with `--plain` by a text, and in JSON as an object."""
+    # PROGRAM.md says both that a null is null, and that such a type is printed by its bytes.
+    digits: Parts = [('0x' + both[1].hex(), 'null')] if is_null else ['0x' + both[1].hex()]
+
+    def line(style: Style) -> Parts:
+        return text(style) if text and style.plain else digits
+    return Value(kind, both[0], both[1], line, lambda style: members(style) if members and style.plain else Text(line(style)), more)
 
 
 class Maker:
@@ -43,8 +61,16 @@ class Maker:
         self.source, self.codes = source, codes
         self.chance, self.below = source.random, source.randrange
 
-    def pick(self, of: Sequence[T]) -> T:
+    def pick(self, of: Sequence) -> Any:
         return of[self.below(len(of))]
+
+    def odd(self) -> bool:
+        """Whether the next choice of an encoding is not the plain one."""
+        return self.chance() < 0.1
+
+    def both(self, encode: Callable[[Odd], bytes]) -> tuple[bytes, bytes]:
+        """An encoding as it is sent, and the plain one."""
+        return encode(self.odd), encode(never)
 
     def few(self, chance: float = 0.5) -> int:
         """A count that is often small."""
@@ -54,7 +80,8 @@ class Maker:
         return count
 
     def integer(self, kind: int) -> int:
-        least, greatest = range_of(kind)
+        bits, is_signed = 8 * struct.calcsize(INTEGERS[kind]), INTEGERS[kind].islower()
+        least, greatest = (-1 << bits - 1, (1 << bits - 1) - 1) if is_signed else (0, (1 << bits) - 1)
         how = self.below(4)
         if how == 0:
             near = self.pick([least, greatest, 0, 0, 10, 100, 1 << 31, 1 << 53, -1 << 53]) + self.below(5) - 2
@@ -70,50 +97,40 @@ class Maker:
         how = self.below(7)
         if how in (0, 6):
             return self.pick(FLOATS if kind == FLOAT else DOUBLES) ^ self.below(2) << bits - 1
-        if how == 1:
-            number = round(self.source.uniform(-1000, 1000), self.below(7))
-        elif how == 2:
-            number = self.pick([1.0, -1.0, 9.5, 1.25]) * 10.0 ** (self.below(76) - 38)
-        elif how == 3:
+        if how == 3:
             # Not a number, an infinity, zero or a subnormal one.
             exponent = self.pick([0, (1 << bits - 1 - fraction) - 1])
             return self.below(2) << bits - 1 | exponent << fraction | self.source.getrandbits(self.below(fraction + 1))
-        else:
+        if how > 3:
             return self.source.getrandbits(bits)
-        return int.from_bytes(struct.pack('<' + form, number), 'little')
+        near = round(self.source.uniform(-1000, 1000), self.below(7)) if how == 1 else self.pick([1.0, -1.0, 9.5, 1.25]) * 10.0 ** (self.below(76) - 38)
+        return int.from_bytes(struct.pack('<' + form, near), 'little')
 
     def text(self) -> str | None:
         how = self.below(12)
-        if how == 0:
-            return None
-        if how == 1:
-            return ''
-        if how == 2:
-            return self.pick(['null', 'Pump', 'en', 'de-CH', '|', ';', ',', 'x' * 300, '水' * 20, '0x00', '{ }', '()'])
+        if how < 3:
+            return self.pick([[None], [''], ['null', 'Pump', 'en', 'de-CH', '|', ';', ',', 'x' * 300, '水' * 20, '0x00', '{ }', '()']][how])
         if how < 8:
             return ''.join(self.pick(LETTERS) for _ in range(1 + self.few(0.8)))
-        return ''.join(self.pick(PIECES) if self.chance() < 0.6 else chr(self.character()) for _ in range(1 + self.few(0.8)))
+        return ''.join(self.pick(PIECES) if self.chance() < 0.6 else self.character() for _ in range(1 + self.few(0.8)))
 
-    def character(self) -> int:
-        """A code point that UTF-8 has."""
+    def character(self) -> str:
+        """A character that UTF-8 has."""
         code = self.below(self.pick([0x80, 0x100, 0x800, 0x10000, 0x110000]))
-        return 0x41 if 0xD800 <= code <= 0xDFFF else code
+        return 'A' if 0xD800 <= code <= 0xDFFF else chr(code)
 
     def octets(self) -> bytes | None:
         how = self.below(8)
         if how == 0:
             return None
-        count = 0 if how == 1 else self.pick([255, 256, 1000]) if how == 2 and self.chance() < 0.1 else 1 + self.few(0.8)
-        return self.source.randbytes(count)
+        return self.source.randbytes(0 if how == 1 else self.pick([255, 256, 1000]) if how == 2 and self.chance() < 0.1 else 1 + self.few(0.8))
 
-    def time(self) -> int:
+    def ticks(self) -> int:
         how = self.below(10)
         if how == 0:
-            return self.pick([0, LEAST_TIME, GREATEST_TIME, 1, -1, LEAST_TIME + 1, GREATEST_TIME - 1])
+            return self.pick([0, -1 << 63, (1 << 63) - 1, 1, -1, (-1 << 63) + 1, (1 << 63) - 2])
         if how == 1:
-            # The greatest time that has a text is 9999-12-30T22:00:00.9999999Z.
-            edge = self.pick(MIDNIGHTS + [LAST_DAY - 7200 * 10**7, LAST_DAY - 7199 * 10**7, LAST_DAY + DAY])
-            return edge + self.pick([-10**7, -1, 0, 1, 10**7])
+            return self.pick(MIDNIGHTS + [LAST_DAY - 7200 * 10**7, LAST_DAY - 7199 * 10**7, LAST_DAY + DAY]) + self.pick([-10**7, -1, 0, 1, 10**7])
         if how == 2:
             return self.integer(INT64)
         if how == 3:
@@ -121,91 +138,185 @@ class Maker:
         unit = 10 ** self.below(9)
         return (YEAR_0 + self.below(LAST_DAY - YEAR_0)) // unit * unit
 
+    def code(self) -> int:
+        return self.pick(self.codes) ^ (self.below(3) // 2) if self.chance() < 0.5 else self.integer(UINT32)
+
+    def plain(self, kind: int) -> Value:
+        """A Boolean, a number, a String, a DateTime, a Guid, a ByteString or a StatusCode."""
+        if kind == BOOLEAN:
+            holds = self.chance() < 0.5
+            return Value(kind, *self.both(lambda odd: bytes([(1, 2, 255)[odd() + odd()] * holds])), lambda style: ['true' if holds else 'false'], lambda style: holds)
+        if kind in INTEGERS:
+            it = self.integer(kind)
+            octets = struct.pack('<' + INTEGERS[kind], it)
+            return Value(kind, octets, octets, lambda style: [str(it)], lambda style: it if abs(it) <= 1 << 53 else Text([str(it)]))
+        if kind in (FLOAT, DOUBLE):
+            bits = self.pattern(kind)
+            octets, text = struct.pack('<I' if kind == FLOAT else '<Q', bits), pattern_text(kind, bits)
+
+            def as_json(style: Style) -> Any:
+                near = number(kind, bits) if style.plain else text
+                return near if isinstance(near, Bits) else Text([near])
+            return Value(kind, octets, octets, lambda style: [number(kind, bits) if style.plain else text], as_json)
+        if kind == STRING:
+            said = self.text()
+            return Value(kind, *self.both(lambda odd: counted(encoded(said), odd)), lambda style: ['null' if said is None else escaped(said, style)],
+                         lambda style: text_json(said))
+        if kind == DATE_TIME:
+            when = self.ticks()
+            octets = struct.pack('<q', when)
+            return Value(kind, octets, octets, lambda style: [moment(when, style)], lambda style: Text([moment(when, style)]))
+        if kind == GUID:
+            of = self.guid()
+            return Value(kind, swapped(of), swapped(of), lambda style: [guid_text(of)], lambda style: Text([guid_text(of)]))
+        if kind == BYTE_STRING:
+            body = self.octets()
+            return Value(kind, *self.both(lambda odd: counted(body, odd)), lambda style: [base64_text(body)], lambda style: None if body is None else Text([base64_text(body)]))
+        code = self.code()
+        octets = struct.pack('<I', code)
+
+        def text_of(style: Style) -> Parts:
+            return [code_text(code, style if style.plain else Style())]
+        return Value(kind, octets, octets, text_of, lambda style: code_json(code, style) if style.plain else Text(text_of(style)))
+
     def guid(self) -> bytes:
         return self.pick([bytes(16), b'\xFF' * 16]) if self.chance() < 0.1 else self.source.randbytes(16)
 
-    def code(self) -> int:
-        how = self.below(4)
-        return self.pick(self.codes) ^ (self.below(3) // 2) if how < 2 else self.integer(UINT32)
+    def node_id(self, is_expanded: bool = False) -> Value:
+        """A NodeId, or an ExpandedNodeId."""
+        form, space = self.pick('iisgb'), self.pick([0, 0, 1, 2, 255, 256, 65535])
+        at: Any = self.pick([0, 1, 255, 256, 65535, 65536, (1 << 32) - 1, self.integer(UINT32)])
+        if form != 'i':
+            at = self.text() if form == 's' else self.guid() if form == 'g' else self.octets()
+        uri, server = self.text() if is_expanded and self.chance() < 0.5 else None, self.integer(UINT32) if is_expanded and self.chance() < 0.5 else 0
 
-    def node_id(self) -> NodeId:
-        form, namespace = self.pick('iisgb'), self.pick([0, 0, 1, 2, 255, 256, 65535])
-        if form == 'i':
-            return NodeId(namespace, form, self.pick([0, 1, 255, 256, 65535, 65536, (1 << 32) - 1, self.integer(UINT32)]))
-        return NodeId(namespace, form, self.text() if form == 's' else self.guid() if form == 'g' else self.octets())
+        def encode(odd: Odd) -> bytes:
+            has_uri, has_server = (is_expanded and (holds or odd()) for holds in (uri is not None, server != 0))
+            flags = 0x80 * has_uri | 0x40 * has_server
+            behind = (counted(encoded(uri), odd) if has_uri else b'') + (struct.pack('<I', server) if has_server else b'')
+            if form == 'i' and space == 0 and at < 256 and not odd():
+                return struct.pack('<BB', flags, at) + behind
+            if form == 'i' and space < 256 and at < 65536 and not odd():
+                return struct.pack('<BBH', 1 | flags, space, at) + behind
+            head = struct.pack('<BH', 'isgb'.index(form) + 2 | flags, space)
+            return head + (struct.pack('<I', at) if form == 'i' else swapped(at) if form == 'g' else counted(encoded(at) if form == 's' else at, odd)) + behind
 
-    def token(self) -> ExtensionObject:
-        """An identity token, now and then with an octet more."""
-        number = self.pick(sorted(TOKENS))
-        parts = [self.octets() if field in TOKEN_OCTETS else text.encode() if (text := self.text()) is not None else None
-                 for field in TOKENS[number][1]]
-        body = b''.join(struct.pack('<i', -1) if it is None else struct.pack('<i', len(it)) + it for it in parts)
-        return ExtensionObject(NodeId(0, 'i', number), 1, body + b'\0' * (self.below(8) // 7))
+        def identifier(style: Style) -> str:
+            if at is None or form == 'i':
+                return '' if at is None else str(at)
+            return guid_text(at) if form == 'g' else base64_text(at) if form == 'b' else escaped(at, style)
+        is_null = space == 0 and at in (None, 0, '', b'', bytes(16))
 
-    def extension(self) -> ExtensionObject:
+        def text(style: Style) -> Parts:
+            line = ('ns=%d;' % space if space else '') + form + '=' + identifier(style)
+            front = ('svr=%d;' % server if server else '') + ('nsu=%s;' % escaped(uri, style, ';') if uri is not None else '')
+            return [front, (line, 'null') if is_null else line]
+
+        def members(style: Style) -> dict[str, Any]:
+            it = at if at is None or form == 'i' else Text([at if form == 's' else identifier(style)])
+            return {**({'server': server, 'uri': text_json(uri)} if is_expanded else {}), 'ns': space, 'id_type': Text([form]), 'id': it}
+        return by_bytes(EXPANDED_NODE_ID if is_expanded else NODE_ID, self.both(encode), text, members, (space, at))
+
+    def qualified(self) -> Value:
+        space, name = self.integer(UINT16), self.text()
+        return by_bytes(QUALIFIED_NAME, self.both(lambda odd: struct.pack('<H', space) + counted(encoded(name), odd)),
+                        lambda style: ['%d:' % space, ('null', '') if name is None else escaped(name, style)], lambda style: {'ns': space, 'name': text_json(name)})
+
+    def localized(self) -> Value:
+        locale, said = self.text() if self.chance() < 0.6 else None, self.text()
+
+        def encode(odd: Odd) -> bytes:
+            flags = [it is not None or odd() for it in (locale, said)]
+            return bytes([flags[0] | 2 * flags[1]]) + b''.join(counted(encoded(it), odd) for it, has in zip((locale, said), flags) if has)
+
+        def text(style: Style) -> Parts:
+            # An empty locale may be one or none.
+            front = [('|', '')] if locale == '' else [escaped(locale, style, '|') + '|'] if locale else []
+            return [*front, ('null', '') if said is None else escaped(said, style, '|')]
+        return by_bytes(LOCALIZED_TEXT, self.both(encode), text, lambda style: {'locale': text_json(locale), 'text': text_json(said)})
+
+    def extension(self) -> Value:
+        """An ExtensionObject, without a body, or with one in bytes or XML; now and then an identity token, or one with an octet more."""
         if self.chance() < 0.1:
-            return self.token()
-        kind = self.below(3)
-        return ExtensionObject(self.node_id(), kind, self.octets() if kind else None)
+            number_of = self.pick(sorted(TOKENS))
+            name, fields = TOKENS[number_of]
+            given = [(it, self.octets() if it in TOKEN_OCTETS else self.text()) for it in fields]
+            more = b'\0' * (self.below(8) // 7)
+            body = b''.join(counted(encoded(it) if isinstance(it, str) else it, never) for _, it in given) + more
+            lines = [(it, base64_text(part) if it in TOKEN_OCTETS else told(part)) for it, part in given]
+            octets = struct.pack('<BBHB', 1, 0, number_of, 1) + counted(body, never)
+            return by_bytes(EXTENSION_OBJECT, (octets, octets), more=(None if more else (name, lines), ['0x' + octets.hex()]))
+        node, kind = self.node_id(), self.below(3)
+        part = self.octets()
+        both = self.both(lambda odd: bytes([kind]) + (counted(part, odd) if kind else b''))
+        digits = '0x' + (node.plain + both[1]).hex()
+        # One of a null NodeId without a body is null, or may be where its NodeId has another form.
+        is_null = kind == 0 and node.more[0] == 0 and node.more[1] in (None, 0, '', b'', bytes(16))
+        field: Parts = ['null'] if node.plain + both[1] == bytes(3) else [(digits, 'null')] if is_null else [digits]
+        return by_bytes(EXTENSION_OBJECT, (node.sent + both[0], node.plain + both[1]), more=(None, field))
 
-    def data_value(self, depth: int) -> DataValue:
-        def part(of: T) -> T | None:
-            return of if self.chance() < 0.5 else None
-        value = self.variant(depth - 1) if self.chance() < 0.95 else None
-        return DataValue(value, part(self.code()), part(self.time()), part(self.integer(UINT16)), part(self.time()),
-                         part(self.integer(UINT16)))
-
-    def diagnostic(self, depth: int) -> DiagnosticInfo:
-        def part(of: T) -> T | None:
+    def diagnostic(self, depth: int) -> Value:
+        def part(of: Any) -> Any:
             return of if self.chance() < 0.4 else None
         inner = self.diagnostic(depth - 1) if depth > 1 and self.chance() < 0.5 else None
-        numbers = [part(self.integer(INT32)) for _ in range(4)]
-        return DiagnosticInfo(*numbers, part(self.text()), part(self.code()), inner)
+        return self.info([part(self.integer(INT32)) for _ in range(4)], part(self.text()), part(self.code()), inner)
 
-    def scalar(self, kind: int, depth: int) -> object:
-        """A value of a built-in type that lies in at most so many levels more."""
-        if kind in INTEGERS:
-            return self.integer(kind)
-        if kind in (FLOAT, DOUBLE):
-            return self.pattern(kind)
-        if kind == VARIANT:
-            return self.variant(depth - 1)
-        if kind in (DATA_VALUE, DIAGNOSTIC_INFO):
-            return (self.data_value if kind == DATA_VALUE else self.diagnostic)(depth - 1)
-        makers = {BOOLEAN: lambda: self.chance() < 0.5, STRING: self.text, DATE_TIME: self.time, GUID: self.guid,
-                  BYTE_STRING: self.octets, XML_ELEMENT: self.octets, NODE_ID: self.node_id, STATUS_CODE: self.code,
-                  EXPANDED_NODE_ID: self.expanded, QUALIFIED_NAME: self.qualified, LOCALIZED_TEXT: self.localized,
-                  EXTENSION_OBJECT: self.extension}
-        # The reserved types are encoded as a ByteString.
-        return makers.get(kind, self.octets)()
+    def info(self, numbers: list[int | None], said: str | None = None, code: int | None = None, inner: Value | None = None) -> Value:
+        """A DiagnosticInfo."""
+        def encode(odd: Odd) -> bytes:
+            mask, out = 0, b''
+            for bit, it in zip((1, 2, 8, 4), numbers):
+                if it is not None:
+                    mask, out = mask | bit, out + struct.pack('<i', it)
+            if said is not None or odd():
+                mask, out = mask | 0x10, out + counted(encoded(said), odd)
+            if code is not None:
+                mask, out = mask | 0x20, out + struct.pack('<I', code)
+            return bytes([mask | 0x40 * (inner is not None)]) + out
+        names = list(zip(['symbolic_id', 'namespace_uri', 'locale', 'localized_text'], numbers))
 
-    def expanded(self) -> ExpandedNodeId:
-        uri = self.text() if self.chance() < 0.5 else None
-        return ExpandedNodeId(self.node_id(), uri, self.integer(UINT32) if self.chance() < 0.5 else 0)
+        def text(style: Style) -> Parts:
+            out = '{ ' + ''.join('%s %d ' % it for it in names if it[1] is not None)
+            out += 'additional_info (%s) ' % escaped(said, style._replace(within=True)) if said is not None else ''
+            out += 'inner_status_code %s ' % code_text(code, style) if code is not None else ''
+            return [out, *(['inner ', *inner.text(style), ' '] if inner else []), '}']
 
-    def qualified(self) -> QualifiedName:
-        return QualifiedName(self.integer(UINT16), self.text())
+        def members(style: Style) -> dict[str, Any]:
+            out: dict[str, Any] = {name: it for name, it in names if it is not None}
+            out |= {'additional_info': Text([said])} if said is not None else {}
+            out |= {'inner_status_code': code_json(code, style)} if code is not None else {}
+            return out | ({'inner': inner.json(style)} if inner else {})
+        sent, plain = self.both(encode)
+        return by_bytes(DIAGNOSTIC_INFO, (sent + (inner.sent if inner else b''), plain + (inner.plain if inner else b'')), text, members)
 
-    def localized(self) -> LocalizedText:
-        return LocalizedText(self.text() if self.chance() < 0.6 else None, self.text())
+    def scalar(self, kind: int, depth: int) -> Value:
+        """A value of a built-in type that lies in at most so many levels more; the reserved types are encoded as a ByteString."""
+        if kind <= BYTE_STRING or kind == STATUS_CODE:
+            return self.plain(kind)
+        if kind in (VARIANT, DATA_VALUE, DIAGNOSTIC_INFO):
+            return {VARIANT: self.variant, DATA_VALUE: self.data_value, DIAGNOSTIC_INFO: self.diagnostic}[kind](depth - 1)
+        if kind in (NODE_ID, EXPANDED_NODE_ID):
+            return self.node_id(kind == EXPANDED_NODE_ID)
+        if kind in (QUALIFIED_NAME, LOCALIZED_TEXT, EXTENSION_OBJECT):
+            return {QUALIFIED_NAME: self.qualified, LOCALIZED_TEXT: self.localized, EXTENSION_OBJECT: self.extension}[kind]()
+        body = self.octets()
+        return by_bytes(kind, self.both(lambda odd: counted(body, odd)), is_null=body is None)
 
-    def variant(self, depth: int) -> Variant:
+    def variant(self, depth: int) -> Value:
         kind = self.pick(OFTEN) if self.chance() < 0.25 else self.below(26)
         if self.chance() < 0.01:
             kind = 26 + self.below(6)
         if kind == 0 or depth < 2 and kind in (DATA_VALUE, VARIANT, DIAGNOSTIC_INFO):
-            return Variant()
-        array = kind == VARIANT or self.chance() < 0.4
-        if not array:
-            return Variant(kind, False, self.scalar(kind, depth))
+            return self.holding(0)
+        if kind != VARIANT and self.chance() >= 0.4:
+            return self.holding(kind, self.scalar(kind, depth))
         how = self.below(20)
         if how == 0:
-            return Variant(kind, True, None)
+            return self.holding(kind, None, True)
         count = 0 if how == 1 else self.few(0.7)
         if how == 2 and self.chance() < 0.1:
             count = self.pick([127, 128, 256, 1000] if kind < STRING else [30, 100])
-        dimensions = self.dimensions(count) if how > 12 else ()
-        return Variant(kind, True, tuple(self.scalar(kind, depth) for _ in range(count)), dimensions)
+        return self.holding(kind, [self.scalar(kind, depth) for _ in range(count)], True, self.dimensions(count) if how > 12 else ())
 
     def dimensions(self, count: int) -> tuple[int, ...]:
         """Some dimensions of so many elements."""
@@ -219,343 +330,169 @@ class Maker:
             left //= out[-1]
         return tuple(out) or (1,)
 
-    def result(self) -> DataValue:
+    def holding(self, kind: int, of: Any = None, is_array: bool = False, dimensions: tuple[int, ...] = ()) -> Value:
+        """A Variant, which holds a value, or a list of them, or none. `more` is whether it has an encoding, its TYPE and VALUE, and its members."""
+        inside = [] if of is None else of if is_array else [of]
+        is_writable = kind <= DIAGNOSTIC_INFO and all(it.more[0] for it in inside if kind in (VARIANT, DATA_VALUE))
+
+        def encode(odd: Odd) -> bytes:
+            sizes = struct.pack('<%di' % (1 + len(dimensions)), len(dimensions), *dimensions) if dimensions else (b'', bytes(4), struct.pack('<i', -5))[odd() + odd()]
+            parts = b''.join(it.plain if odd is never else it.sent for it in inside)
+            if not is_array:
+                return bytes([kind]) + parts
+            return bytes([kind | 0x80 | 0x40 * bool(sizes)]) + (counted(None, odd) if of is None else struct.pack('<i', len(of))) + parts + sizes
+
+        def line(style: Style) -> Parts:
+            if not is_array:
+                return [NAMES[kind], *([' ', *of.text(style)] if kind else [])]
+            within = style._replace(within=style.plain)
+            parts = [part for it in inside for part in [',', *it.text(within)]][1:]
+            return [NAMES[kind] + (''.join('[%d]' % it for it in dimensions) if style.plain and dimensions else '[]') + ' ', *(['null'] if of is None else parts)]
+
+        def members(style: Style) -> dict[str, Any]:
+            value = (None if of is None else [it.json(style) for it in of]) if is_array else of.json(style) if kind else None
+            return {'type': Text([NAMES[kind] + '[]' * is_array]), 'value': value, **({'dimensions': list(dimensions)} if dimensions else {})}
+        more = is_writable, lambda style: line(style) if is_writable else ['unwritable'], lambda style: members(style) if is_writable else {'unwritable': True}
+        return by_bytes(VARIANT, self.both(encode), lambda style: ['(', *line(style._replace(within=True)), ')'], members, more)
+
+    def data_value(self, depth: int) -> Value:
+        def part(of: Any) -> Any:
+            return of if self.chance() < 0.5 else None
+        value = self.variant(depth - 1) if self.chance() < 0.95 else None
+        return self.data(value, part(self.code()), part(self.ticks()), part(self.integer(UINT16)), part(self.ticks()), part(self.integer(UINT16)))
+
+    def data(self, value: Value | None = None, code: int | None = None, *times: int | None) -> Value:
+        """A DataValue; `more` is whether it has an encoding, and what it is made of."""
+        parts = (code, *(times or (None,) * 4))
+        fields = [it for it in zip((2, 4, 0x10, 8, 0x20), 'IqHqH', parts) if it[2] is not None]
+        behind = b''.join(struct.pack('<' + form, it) for _, form, it in fields)
+        mask = bytes([sum(bit for bit, _, _ in fields) | (value is not None)])
+        names = list(zip(('source', 'source_picoseconds', 'server', 'server_picoseconds'), parts[1:]))
+
+        def text(style: Style) -> Parts:
+            out = 'status %s ' % code_text(code, style) if code is not None else ''
+            out += ''.join('%s %s ' % (name, it if 'pico' in name else date(it)) for name, it in names if it is not None)
+            return ['{ ', *(['value ', *value.text(style), ' '] if value else []), out + '}']
+
+        def members(style: Style) -> dict[str, Any]:
+            out = {**(value.json(style) if value else {}), **({'status': code_json(code, style)} if code is not None else {})}
+            return out | {name: it if 'pico' in name else Text([date(it)]) for name, it in names if it is not None}
+        both = [mask + (it or b'') + behind for it in ((value.sent, value.plain) if value else (b'', b''))]
+        return by_bytes(DATA_VALUE, both, text, members, (value is None or value.more[0], value, parts))
+
+    def result(self) -> Value:
         """A DataValue as a Read answers with it: mostly with a value, and rarely of many levels."""
         how = self.below(1000)
         if how < 3:
             return self.chain(self.pick([LONGEST_CHAIN, LONGEST_CHAIN - 1, 4 + self.below(LONGEST_CHAIN - 3)]), how)
-        if how == 3 and self.chance() < 0.1:
-            # It takes several chunks.
-            return DataValue(Variant(STRING, False, self.pick('a水\\') * (20000 + self.below(50000))))
         return self.data_value(self.pick([2, 3, 4, 5, 6]))
 
-    def chain(self, levels: int, how: int) -> DataValue:
+    def chain(self, levels: int, how: int) -> Value:
         """A DataValue of so many levels, four at least: of DataValues, of arrays of Variants, or of DiagnosticInfos."""
         if how == 0:
-            out = DataValue(Variant()) if levels % 2 == 0 else DataValue(Variant(DATA_VALUE, False, DataValue()))
+            out = self.data(self.holding(0)) if levels % 2 == 0 else self.data(self.holding(DATA_VALUE, self.data()))
             for _ in range(levels // 2 - 1):
-                out = DataValue(Variant(DATA_VALUE, False, out), self.pick([None, 0x80340000]))
+                out = self.data(self.holding(DATA_VALUE, out), self.pick([None, 0x80340000]))
             return out
         if how == 1:
-            inner = Variant(INT32, False, 5)
+            inner = self.holding(INT32, self.plain(INT32))
             for _ in range(levels - 2):
-                inner = Variant(VARIANT, True, (inner,) if self.chance() < 0.9 else (inner, Variant()))
-            return DataValue(inner)
-        info = DiagnosticInfo()
+                inner = self.holding(VARIANT, [inner] if self.chance() < 0.9 else [inner, self.holding(0)], True)
+            return self.data(inner)
+        info = self.info([None] * 4)
         for _ in range(levels - 3):
-            info = DiagnosticInfo(self.pick([None, 5]), inner=info)
-        return DataValue(Variant(DIAGNOSTIC_INFO, False, info))
+            info = self.info([self.pick([None, 5]), None, None, None], inner=info)
+        return self.data(self.holding(DIAGNOSTIC_INFO, info))
 
 
-# ---- what `ua read` and `ua dissect --fields` print of a ReadResponse
-
-MOST_EXACT = 1 << 53
-
-
-class Text(NamedTuple):
-    """A text of JSON with these parts."""
-    parts: Parts
-
-
-class Members(NamedTuple):
-    """An object of JSON with these members, in this order."""
-    members: list[tuple[str, object]]
-
-
-class Number(str):
-    """A number of JSON, by its text."""
-
-
-class Header(NamedTuple):
-    """A ResponseHeader."""
-    timestamp: int
-    handle: int
-    result: int
-    diagnostics: DiagnosticInfo
-    strings: tuple[str | None, ...] | None
-    additional: ExtensionObject
-
+# ---- responses, and what `ua read` and `ua dissect --fields` print of them
 
 class Response(NamedTuple):
-    """A ReadResponse: its octets, what is decoded of it, and where each value begins and ends in them."""
+    """A ReadResponse: its octets, its values, where each begins and ends in them, and the parts of its lines behind the first one."""
     octets: bytes
-    header: Header
-    results: tuple[DataValue, ...] | None
-    diagnostics: tuple[DiagnosticInfo, ...] | None
+    results: list[Value]
     places: list[int]
+    lines: Callable[[Style], list[tuple[bytes, Parts]]]
 
     def value(self, place: int) -> bytes:
         return self.octets[self.places[place]:self.places[place + 1]]
 
 
-def status(of: int, names: dict[int, str] | None) -> str:
-    """A CODE, and its name."""
-    return '%08X%s' % (of, ' ' + names[of] if names and of in names else '')
-
-
-def line(node: str, of: DataValue, style: Style, times: bool) -> Parts:
-    """The line of `ua read`."""
-    out: Parts = ['%s %s' % (node, status(of.status or 0, style.names))]
-    if of.value is not None:
-        out += [' ', *whole(of.value, style)]
-    if times:
-        out.append(''.join(' %s %s' % (name, 'none' if it is None else time(it) if style.plain else it)
-                           for name, it in (('source', of.source), ('server', of.server))))
-    return joined(out)
-
-
-def text_or_null(of: str | None) -> object:
-    return None if of is None else Text([of])
-
-
-def node_members(of: NodeId) -> list[tuple[str, object]]:
-    """The members of a NodeId's object."""
-    at = of.identifier
-    identifier: object = at
-    if isinstance(at, bytes):
-        identifier = Text([guid(at) if of.form == 'g' else octets(at)])
-    elif isinstance(at, str):
-        identifier = Text([at])
-    return [('ns', of.namespace), ('id_type', Text([of.form])), ('id', identifier)]
-
-
-def code_members(of: int, style: Style) -> Members:
-    name = style.names.get(of) if style.names else None
-    return Members([('code', Text(['%08X' % of]))] + ([('name', Text([name]))] if name else []))
-
-
-def variant_members(of: Variant, style: Style) -> list[tuple[str, object]]:
-    """The type, the value and the dimensions of a value that has an encoding."""
-    out: list[tuple[str, object]] = [('type', Text([NAMES[of.kind] + ('[]' if of.array else '')]))]
-    if isinstance(of.value, tuple) and of.array:
-        out.append(('value', [json_value(of.kind, one, style) for one in of.value]))
-    else:
-        out.append(('value', None if of.array or of.kind == 0 else json_value(of.kind, of.value, style)))
-    if of.dimensions:
-        out.append(('dimensions', list(of.dimensions)))
-    return out
-
-
-def data_members(of: DataValue, style: Style) -> list[tuple[str, object]]:
-    """The members of a DataValue's object."""
-    out = variant_members(of.value, style) if of.value is not None else []
-    if of.status is not None:
-        out.append(('status', code_members(of.status, style)))
-    for name, moment, more in [('source', of.source, of.source_picoseconds), ('server', of.server, of.server_picoseconds)]:
-        out += [(name, Text([time(moment)]))] if moment is not None else []
-        out += [(name + '_picoseconds', more)] if more is not None else []
-    return out
-
-
-def diagnostic_members(of: DiagnosticInfo, style: Style) -> list[tuple[str, object]]:
-    """The members of a DiagnosticInfo's object."""
-    names = ['symbolic_id', 'namespace_uri', 'locale', 'localized_text']
-    out: list[tuple[str, object]] = [(name, it) for name, it in zip(names, of[:4]) if it is not None]
-    if of.additional_info is not None:
-        out.append(('additional_info', Text([of.additional_info])))
-    if of.inner_status_code is not None:
-        out.append(('inner_status_code', code_members(of.inner_status_code, style)))
-    if of.inner is not None:
-        out.append(('inner', Members(diagnostic_members(of.inner, style))))
-    return out
-
-
-def json_object(of: object, style: Style) -> Members | None:
-    """The object that a value is in JSON with `--plain`, if it is one."""
-    if isinstance(of, NodeId):
-        return Members(node_members(of))
-    if isinstance(of, ExpandedNodeId):
-        return Members([('server', of.server), ('uri', text_or_null(of.uri)), *node_members(of.node)])
-    if isinstance(of, QualifiedName):
-        return Members([('ns', of.namespace), ('name', text_or_null(of.name))])
-    if isinstance(of, LocalizedText):
-        return Members([('locale', text_or_null(of.locale)), ('text', text_or_null(of.text))])
-    if isinstance(of, Variant):
-        return Members(variant_members(of, style))
-    if isinstance(of, DataValue):
-        return Members(data_members(of, style))
-    return Members(diagnostic_members(of, style)) if isinstance(of, DiagnosticInfo) else None
-
-
-def json_value(kind: int, of: object, style: Style) -> object:
-    """A value in JSON: True, False or None, an int, Bits, a Text, or Members."""
-    if kind == BOOLEAN or of is None and kind in (STRING, BYTE_STRING):
-        return of
-    if kind in INTEGERS and isinstance(of, int):
-        return of if abs(of) <= MOST_EXACT else Text([str(of)])
-    if kind == STRING:
-        return Text([str(of)])
-    if not style.plain:
-        return Text(joined(scalar(kind, of, Style())))
-    if kind in (FLOAT, DOUBLE) and isinstance(of, int):
-        it = number(kind, of)
-        return it if isinstance(it, Bits) else Text([it])
-    if kind == STATUS_CODE and isinstance(of, int):
-        return code_members(of, style)
-    return json_object(of, style) or Text(joined(scalar(kind, of, style)))
-
-
-def json_line(node: str, of: DataValue, style: Style, times: bool) -> list[tuple[str, object]]:
-    """The members of the object of `ua read --json`."""
-    code = of.status or 0
-    out: list[tuple[str, object]] = [('node', Text([node])), ('status', Text(['%08X' % code]))]
-    if style.names and code in style.names:
-        out.append(('name', Text([style.names[code]])))
-    it = of.value
-    if it is not None:
-        out += variant_members(it, style) if is_encodable(it) else [('unwritable', True)]
-    for name, moment in (('source', of.source), ('server', of.server)) if times else ():
-        out.append((name, None if moment is None else Text([time(moment) if style.plain else str(moment)])))
-    return out
-
-
-def no_constant(text: str) -> object:
-    raise ValueError('a constant %s' % text)
-
-
-TEXT = re.compile(r'"(?:[^"\\]|\\.)*"')
-READ = json.JSONDecoder(parse_int=Number, parse_float=Number, parse_constant=no_constant, object_pairs_hook=tuple)
-
-
-def is_json(wanted: object, got: object) -> bool:
-    """Whether what came is what is wanted."""
-    if isinstance(wanted, Text):
-        return isinstance(got, str) and not isinstance(got, Number) and fits(wanted.parts, got)
-    if isinstance(wanted, Bits):
-        return isinstance(got, Number) and DECIMAL.fullmatch(got) is not None and bits_of(got, wanted.kind) == wanted.pattern
-    if isinstance(wanted, Members):
-        return isinstance(got, tuple) and are_members(wanted.members, got)
-    if wanted is None or isinstance(wanted, bool):
-        return got is wanted
-    if isinstance(wanted, int):
-        return isinstance(got, Number) and got == str(wanted)
-    return (isinstance(wanted, list) and isinstance(got, list) and len(wanted) == len(got)
-            and all(is_json(one, other) for one, other in zip(wanted, got)))
-
-
-def are_members(wanted: list[tuple[str, object]], got: tuple[tuple[str, object], ...]) -> bool:
-    """Whether the members that came are those wanted, in this order."""
-    return ([name for name, _ in got] == [name for name, _ in wanted]
-            and all(is_json(one, other) for (_, one), (_, other) in zip(wanted, got)))
-
-
-def is_json_line(wanted: list[tuple[str, object]], got: str) -> bool:
-    """Whether a line is an object of JSON without spaces that has these members in this order."""
-    try:
-        members = READ.decode(got)
-    except ValueError:
-        return False
-    return ' ' not in TEXT.sub('', got) and isinstance(members, tuple) and are_members(wanted, members)
-
-
-def show_json(wanted: object) -> str:
-    """What is wanted, as a person reads it."""
-    if isinstance(wanted, (Text, Bits)):
-        return json.dumps(shown(wanted.parts), ensure_ascii=False) if isinstance(wanted, Text) else shown([wanted])
-    if isinstance(wanted, list):
-        return '[%s]' % ','.join(show_json(it) for it in wanted)
-    if isinstance(wanted, Members):
-        return '{%s}' % ','.join('"%s":%s' % (name, show_json(it)) for name, it in wanted.members)
-    return json.dumps(wanted)
-
-
-def told(text: str) -> str:
-    """A String or NodeId of a field: a control character by its bytes in UTF-8."""
-    out = escaped(text, Style())
-    return re.sub('[\x80-\x9f]', lambda it: ''.join('\\x%02x' % octet for octet in it[0].encode()), out)
-
-
-def info(of: DiagnosticInfo, style: Style) -> Parts:
+def field_of(info: Value, style: Style) -> Parts:
     """A DiagnosticInfo of a field."""
-    if of == DiagnosticInfo():
-        return ['null']
-    return joined(diagnostic(of, style)) if style.plain else ['0x' + PLAIN.diagnostic(of).hex()]
+    return ['null'] if info.plain == b'\0' else info.text(style)
 
 
-def extension(of: ExtensionObject) -> Parts:
-    octets = '0x' + PLAIN.extension(of).hex()
-    if of == ExtensionObject(NodeId(0, 'i', 0), 0, None):
-        return ['null']
-    # Of another null NodeId it may be a null one, too.
-    return [(octets, 'null')] if of.kind == 0 and is_null(of.type) else [octets]
+def made(maker: Maker, count: int) -> Response:
+    """A response with so many random values."""
+    pick, empty = maker.pick, maker.info([None] * 4)
+    results = [maker.result() for _ in range(count)]
+    infos = pick([None, [], [maker.diagnostic(3) for _ in range(1 + maker.few())]])
+    ticks, code, info, strings = maker.ticks(), maker.code(), empty, None
+    nothing = by_bytes(EXTENSION_OBJECT, (bytes(3), bytes(3)), more=(None, ['null']))
+    additional = nothing
+    if maker.chance() < 0.7:
+        info, strings, additional = pick([empty, maker.diagnostic(3)]), pick([None, [maker.text() for _ in range(maker.few())]]), maker.extension()
+
+    def array(of: list[bytes] | None) -> bytes:
+        return counted(None, maker.odd) if of is None else struct.pack('<i', len(of)) + b''.join(of)
+    texts = None if strings is None else [counted(encoded(it), maker.odd) for it in strings]
+    octets, places = struct.pack('<BBHqII', 1, 0, 634, ticks, 4, code) + info.sent + array(texts) + additional.sent + struct.pack('<i', count), []
+    for it in results:
+        places.append(len(octets))
+        octets += it.sent
+    places.append(len(octets))
+    front, behind = octets[:places[0]], array(None if infos is None else [it.sent for it in infos])
+
+    def lines(style: Style) -> list[tuple[bytes, Parts]]:
+        head = '    response_header.'
+        out: list[Parts] = [[head + 'timestamp ' + moment(ticks, style)], [head + 'request_handle 4'], [head + 'service_result ' + status(code, style.names)],
+                            [head + 'service_diagnostics ', *field_of(info, style)], [head + 'string_table %s' % ('null' if strings is None else len(strings))]]
+        out += [['  %sstring_table[%d] %s' % (head, place, told(it))] for place, it in enumerate(strings or ())]
+        token, field = additional.more
+        if token and style.plain:
+            out += [[head + 'additional_header ' + token[0]]] + [['  %sadditional_header.%s %s' % (head, *it)] for it in token[1]]
+        else:
+            out.append([head + 'additional_header ', *field])
+        found = [(front, it) for it in out + [['  results %d' % count]]]
+        for place, it in enumerate(results):
+            found += [(it.sent, line) for line in value_lines(place, it, style)]
+        found.append((behind, ['  diagnostic_infos %s' % ('null' if infos is None else len(infos))]))
+        return found + [(behind, ['    diagnostic_infos[%d] ' % place, *field_of(it, style)]) for place, it in enumerate(infos or ())]
+    return Response(octets + behind, results, places, lines)
 
 
-def token(of: ExtensionObject) -> tuple[str, list[tuple[str, str]]] | None:
-    """The type and the fields of an identity token, where its body is just these."""
-    if of.type not in [NodeId(0, 'i', it) for it in TOKENS] or of.kind != 1 or of.body is None:
-        return None
-    (name, fields), left, read = TOKENS[of.type.identifier], of.body, []
-    for field in fields:
-        if len(left) < 4:
-            return None
-        size = max(struct.unpack_from('<i', left)[0], -1)
-        body, left = left[4:4 + size] if size >= 0 else None, left[4 + max(size, 0):]
-        try:
-            read.append((field, octets(body) if field in TOKEN_OCTETS else text_or_word(None if body is None else body.decode())))
-        except UnicodeDecodeError:
-            return None
-    return None if left else (name, read)
-
-
-def text_or_word(of: str | None) -> str:
-    return 'null' if of is None else told(of)
-
-
-def additional_lines(of: ExtensionObject, style: Style) -> list[Parts]:
-    """The additional header of a header."""
-    path = 'response_header.additional_header'
-    found = token(of) if style.plain else None
-    if found is None:
-        return [joined(['    %s ' % path, *extension(of)])]
-    return [['    %s %s' % (path, found[0])]] + [['      %s.%s %s' % (path, field, text)] for field, text in found[1]]
-
-
-def moment(ticks: int | None, style: Style) -> str:
-    return 'null' if ticks is None else time(ticks) if style.plain else str(ticks)
-
-
-def header_lines(of: Header, style: Style) -> list[Parts]:
-    """The fields of a ResponseHeader."""
-    texts: list[tuple[str, Parts]] = [
-        ('timestamp', [moment(of.timestamp, style)]), ('request_handle', [str(of.handle)]),
-        ('service_result', [status(of.result, style.names)]), ('service_diagnostics', info(of.diagnostics, style)),
-        ('string_table', ['null' if of.strings is None else str(len(of.strings))])]
-    out = [joined(['    response_header.%s ' % name, *text]) for name, text in texts]
-    for place, text in enumerate(of.strings or ()):
-        out.append(['      response_header.string_table[%d] %s' % (place, text_or_word(text))])
-    return out + additional_lines(of.additional, style)
-
-
-def value_lines(place: int, of: DataValue, style: Style) -> list[Parts]:
+def value_lines(place: int, of: Value, style: Style) -> list[Parts]:
     """The fields of a DataValue."""
-    def text(it: int | None) -> str:
-        return 'null' if it is None else str(it)
-    texts: list[tuple[str, Parts]] = [
-        ('value', ['null'] if of.value is None else whole(of.value, style)),
-        ('status', ['null' if of.status is None else status(of.status, style.names)]),
-        ('source_timestamp', [moment(of.source, style)]), ('source_picoseconds', [text(of.source_picoseconds)]),
-        ('server_timestamp', [moment(of.server, style)]), ('server_picoseconds', [text(of.server_picoseconds)])]
-    return [joined(['    results[%d].%s ' % (place, name), *it]) for name, it in texts]
+    _, value, (code, *times) = of.more
+    texts = ['null' if code is None else status(code, style.names)]
+    texts += [moment(it, style) if at % 2 == 0 else 'null' if it is None else str(it) for at, it in enumerate(times)]
+    names = ['status', 'source_timestamp', 'source_picoseconds', 'server_timestamp', 'server_picoseconds']
+    first: Parts = ['    results[%d].value ' % place, *(value.more[1](style) if value else ['null'])]
+    return [first] + [['    results[%d].%s %s' % (place, *it)] for it in zip(names, texts)]
 
 
-def message_lines(of: Response, style: Style) -> list[tuple[bytes, Parts]]:
-    """The fields of a ReadResponse, each with the octets that hold it."""
-    front = header_lines(of.header, style) + [['  results %s' % ('null' if of.results is None else len(of.results))]]
-    out = [(of.octets[:of.places[0]], it) for it in front]
-    for place, value in enumerate(of.results or ()):
-        octets = of.octets[of.places[place]:of.places[place + 1]]
-        out += [(octets, it) for it in value_lines(place, value, style)]
-    back: list[Parts] = [['  diagnostic_infos %s' % ('null' if of.diagnostics is None else len(of.diagnostics))]]
-    back += [joined(['    diagnostic_infos[%d] ' % place, *info(it, style)]) for place, it in enumerate(of.diagnostics or ())]
-    return out + [(of.octets[of.places[-1]:], it) for it in back]
+def read_line(node: str, of: Value, style: Style, has_times: bool) -> Parts:
+    """The line of `ua read`."""
+    _, value, (code, source, _, server, _) = of.more
+    times = ' source %s server %s' % tuple('none' if it is None else moment(it, style) for it in (source, server))
+    return ['%s %s' % (node, status(code or 0, style.names)), *([' ', *value.more[1](style)] if value else []), times * has_times]
+
+
+def json_of(node: str, of: Value, style: Style, has_times: bool) -> dict[str, Any]:
+    """The object of `ua read --json`."""
+    _, value, (code, source, _, server, _) = of.more
+    out: dict[str, Any] = {'node': Text([node]), 'status': Text(['%08X' % (code or 0)])}
+    if style.names and (code or 0) in style.names:
+        out['name'] = Text([style.names[code or 0]])
+    out |= value.more[2](style) if value else {}
+    times = {'source': source, 'server': server} if has_times else {}
+    return out | {name: None if it is None else Text([moment(it, style)]) for name, it in times.items()}
 
 
 # ---- runs
 
 BATCH, MOST_TOLD = 200, 20
-# The program takes a response of so many octets.
-MOST_OCTETS = 1 << 20
-READ_RESPONSE = b'\1\0' + struct.pack('<H', 634)
 # The options of each run; one with --fields is a `dissect`. Of the others one in turn.
 ALWAYS = ['', '--plain', '--json', '--json --plain', '--json --names', '--fields', '--fields --plain --names']
 TURNS = ['--times', '--times --plain', '--times --json', '--times --plain --names', '--times --json --plain --names', '--fields --plain', '--fields --names']
@@ -568,35 +505,12 @@ def names_of_codes() -> dict[int, str]:
     return {int(high + low, 16): name for high, low, name in found}
 
 
-def made(maker: Maker, writer: Writer, count: int) -> Response:
-    """A response with so many random values."""
-    source = maker.source
-    diagnostics = source.choice([None, (), tuple(maker.diagnostic(3) for _ in range(1 + maker.few()))])
-    parts = DiagnosticInfo(), None, ExtensionObject(NodeId(0, 'i', 0), 0, None)
-    if source.random() < 0.7:
-        strings = source.choice([None, tuple(maker.text() for _ in range(maker.few()))])
-        parts = source.choice([DiagnosticInfo(), maker.diagnostic(3)]), strings, maker.extension()
-    header = Header(maker.time(), 4, maker.code(), *parts)
-    octets = READ_RESPONSE + struct.pack('<qII', *header[:3]) + writer.diagnostic(header.diagnostics)
-    octets += writer.array(STRING, header.strings) + writer.extension(header.additional) + struct.pack('<i', count)
-    results, places = tuple(maker.result() for _ in range(count)), []
-    for it in results:
-        places.append(len(octets))
-        octets += writer.data_value(it)
-    places.append(len(octets))
-    octets += writer.array(DIAGNOSTIC_INFO, diagnostics)
-    check(len(octets) <= MOST_OCTETS, 'a response of %d octets' % len(octets))
-    return Response(octets, header, results, diagnostics, places)
-
-
 class Fuzz:
     """The runs of the program, and what they count."""
 
     def __init__(self, program: str, seed: int) -> None:
         self.program, self.names = program, names_of_codes()
-        source = random.Random(seed)
-        self.maker = Maker(source, sorted(self.names) + [0, 0, 0x80520000])
-        self.writer = Writer(source)
+        self.maker = Maker(random.Random(seed), sorted(self.names) + [0, 0, 0x80520000])
         self.compared = self.told = 0
 
     def compare(self, options: str, octets: bytes, is_same: bool, got: str, wanted: str) -> None:
@@ -607,17 +521,15 @@ class Fuzz:
             self.told += 1
             check(self.told < MOST_TOLD, '%d differences' % self.told)
 
-    def lines(self, count: int, words: Sequence[str]) -> list[str]:
-        """What the program prints with these words: so many lines, or more."""
+    def lines(self, words: Sequence[str]) -> list[str]:
+        """What the program prints with these words."""
         done = subprocess.run([self.program, *words], capture_output=True, timeout=60)
         check(done.returncode == 0 and not done.stderr, '%r ends with %d, %r' % (words, done.returncode, done.stderr))
-        got = done.stdout.decode(errors='backslashreplace').removesuffix('\n').split('\n')
-        check(len(got) >= count, '%d lines in place of %d of %r' % (len(got), count, words[:2]))
-        return got
+        return done.stdout.decode(errors='backslashreplace').removesuffix('\n').split('\n')
 
     def batch(self, number: int, count: int) -> None:
         """So many values, in one response."""
-        response = made(self.maker, self.writer, count)
+        response = made(self.maker, count)
         sent = chunks(response.octets, 4, request=4, size=self.maker.pick([CHUNK, CHUNK, 8192, 8193 + self.maker.below(50000)]))
         for options in ALWAYS + [TURNS[number % len(TURNS)]]:
             style = Style('--plain' in options, self.names if '--names' in options else None)
@@ -629,30 +541,30 @@ class Fuzz:
         struct.pack_into('<I', closed, 16, 4 + len(sent))
         server = Server([ACK, OPENED, CREATED, ACTIVATED, b''.join(sent), bytes(closed)])
         nodes, times = ['i=%d' % it for it in range(1, len(of.results) + 1)], '--times' in options
-        got = self.lines(len(nodes), ['read', str(PORT), *nodes, *options.split()])
+        got = self.lines(['read', str(PORT), *nodes, *options.split()])
         server.join(20)
         check(len(got) == len(nodes), '%d lines of %d values with %s' % (len(got), len(nodes), options))
         for place, (node, it, printed) in enumerate(zip(nodes, of.results, got)):
             if '--json' in options:
-                members = json_line(node, it, style, times)
-                self.compare(options, of.value(place), is_json_line(members, printed), printed, show_json(Members(members)))
+                wanted = json_of(node, it, style, times)
+                self.compare(options, of.value(place), is_json_line(wanted, printed), printed, repr(wanted))
             else:
-                parts = line(node, it, style, times)
+                parts = read_line(node, it, style, times)
                 self.compare(options, of.value(place), fits(parts, printed), printed, shown(parts))
 
     def dissected(self, options: str, style: Style, of: Response, sent: list[bytes]) -> None:
         """A run of `ua dissect --fields` of what a server sends."""
         before = ACK + OPENED + CREATED + ACTIVATED
         place, front = len(before), []
-        for number, chunk in enumerate(sent):
-            front.append('%d MSG %s %d channel 1 token 1 sequence %d request 4' % (place, chr(chunk[3]), len(chunk), 4 + number))
+        for number_of, chunk in enumerate(sent):
+            front.append('%d MSG %s %d channel 1 token 1 sequence %d request 4' % (place, chr(chunk[3]), len(chunk), 4 + number_of))
             place += len(chunk)
         front.append('message 4 octets %d ReadResponse' % len(of.octets))
-        wanted = [(b'', [it]) for it in front] + message_lines(of, style) + [(b'', ['end %d' % place])]
+        wanted = [(b'', [it]) for it in front] + of.lines(style) + [(b'', ['end %d' % place])]
         with tempfile.NamedTemporaryFile(suffix='.bin') as file:
             file.write(before + b''.join(sent))
             file.flush()
-            got = self.lines(len(wanted), ['dissect', file.name, '--server', *options.split()])
+            got = self.lines(['dissect', file.name, '--server', *options.split()])
         check(front[0] in got and len(got) - got.index(front[0]) == len(wanted), 'other lines than %d with %s' % (len(wanted), options))
         for (octets, parts), printed in zip(wanted, got[got.index(front[0]):]):
             self.compare(options, octets, fits(parts, printed), printed, shown(parts))
@@ -662,11 +574,10 @@ def main(words: list[str]) -> int:
     if not 1 <= len(words) <= 3:
         raise SystemExit(__doc__)
     count, seed = (int(it) for it in (words[1:] + ['100000', '1'][len(words) - 1:]))
-    begun = monotonic()
-    fuzz = Fuzz(words[0], seed)
-    for number, first in enumerate(range(0, count, BATCH)):
-        fuzz.batch(number, min(BATCH, count - first))
-    print('fuzz_values: %d values, seed %d, %d comparisons, %d differences, %.0f seconds' % (count, seed, fuzz.compared, fuzz.told, monotonic() - begun))
+    begun, fuzz = time.monotonic(), Fuzz(words[0], seed)
+    for number_of, first in enumerate(range(0, count, BATCH)):
+        fuzz.batch(number_of, min(BATCH, count - first))
+    print('fuzz_values: %d values, seed %d, %d comparisons, %d differences, %.0f seconds' % (count, seed, fuzz.compared, fuzz.told, time.monotonic() - begun))
     return 1 if fuzz.told else 0
 
 

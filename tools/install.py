@@ -1,6 +1,7 @@
 #!/usr/bin/env python3
 """Installs the program, the library for C and their pages: install [--unproved | --program FILE --library FILE] PREFIX, or tries it:
-install --try [--unproved | --program FILE --library FILE | --at FOLDER].
+install --try [--unproved | --program FILE --library FILE | --at FOLDER]; or makes the files of a version: install --release VERSION
+[--gate COMMAND] [--to FOLDER] [--program FILE --library FILE].
 
 What is installed is what `rt run` in crates/ua_cli and `rt lib` in crates/ua_c proved and built; both are called, and prove
 what has changed since. With --unproved it is compiled without a proof, in minutes, and `ua version` says `unproved`. With
@@ -21,19 +22,29 @@ With --try it is installed into a new folder, or stands in FOLDER. The record's 
 and the symbols of both libraries with the header's; a program in C is compiled by what pkg-config says, against the shared and
 the static library, and run, and one in C++, Python and Rust by the header and modules that are there; pages are read by `man`,
 and bash completes a word, each where it is at hand. The status is 1 at the first that is not as wanted.
+
+With --release the tree is a commit without changes, whose program and CHANGELOG.md have this version. The gate (.ci/run, or
+COMMAND) has to end with status 0 and a last line `N passed, 0 failed`. What is proved is installed, tried, and goes into FOLDER
+(release/ unless another is named), each file anew: ua-VERSION-linux-x86_64.tar.gz, a folder ua-VERSION; RECORD, with the gate's
+last line, and what is trusted and not proved; DEFINITIONS.md, the definitions that contracts of public calls name; SHA256SUMS of
+these three. Two runs of one commit on one machine give the same octets: names are sorted, times are the commit's, owners are 0.
 """
 from __future__ import annotations
 
+import gzip
 import hashlib
+import io
 import os
 import re
 import shutil
 import subprocess
 import sys
+import tarfile
 import tempfile
 
 sys.dont_write_bytecode = True
 sys.path.insert(0, os.path.dirname(os.path.abspath(__file__)))
+import write_definitions
 from kit import TOP, VERSION, keep, kit_folder, text_of, unproved
 
 sys.dont_write_bytecode = True
@@ -375,14 +386,117 @@ def put_all(to: str, program: str, library: str, is_unproved: bool) -> None:
         say(f"{len(tree.files()) + 2} files are in {to}; {RECORD} tells what was built")
 
 
+# ---- a version
+
+GATE = os.path.join(TOP, ".ci", "run")
+PASSED = re.compile(r"\d+ passed, 0 failed")
+
+
+def judge(version: str) -> None:
+    """Ends where this commit is none of this version."""
+    if run("git", "status", "--porcelain").strip():
+        raise SystemExit("release: files differ from the commit: git status lists them")
+    named = version_in(text_of(os.path.join(TOP, VERSION)))
+    if named != version:
+        raise SystemExit(f"release: {VERSION} has the version {named}")
+    if not re.search(rf"^## \[?v?{re.escape(version)}\b", text_of(os.path.join(TOP, "CHANGELOG.md")), re.M):
+        raise SystemExit(f"release: CHANGELOG.md has no heading of {version}")
+
+
+def passed(gate: list[str]) -> str:
+    """The last line of the gate, which passed; its lines are shown as they come."""
+    line = ""
+    with subprocess.Popen(gate, cwd=TOP, stdout=subprocess.PIPE, text=True, errors="replace") as running:
+        for line in running.stdout:
+            print(line, end="", flush=True)
+    if running.returncode or not PASSED.fullmatch(line.strip()):
+        raise SystemExit(f"release: the gate did not pass: status {running.returncode}, and last {line.strip()!r}")
+    return line.strip()
+
+
+def libraries_of_kit(crates: str) -> list[str]:
+    """The libraries of the kit that the installed crates use, by crates.txt.
+
+    >>> libraries_of_kit("# a\\nlow: bytes\\nua_cli: low hex\\nua_c staticlib: std_heap low\\nrows: uuid\\n")
+    ['bytes', 'hex', 'std_heap']
+    """
+    uses = {line.split(":")[0].split()[0]: line.split(":")[1].split() for line in crates.split("\n") if ":" in line and not line.startswith("#")}
+    found, wanted = set(), ["ua_cli", "ua_c"]
+    for name in wanted:
+        wanted += [it for it in uses.get(name, []) if it not in wanted]
+        found |= {it for it in uses.get(name, []) if it not in uses}
+    return sorted(found)
+
+
+def called_by(path: str) -> list[str]:
+    """The functions of the C library that a file calls: what they do is a statement, and not proved."""
+    words = ["nm", "-u"] + (["-D"] if path.endswith("/ua") else [])
+    names = re.findall(r"^\s+[Uw] (\w+)", run(*words, path), re.M)
+    return sorted({it for it in names if not re.match(r"_ITM_|__cxa_|__gmon|__libc_start|_GLOBAL_OFFSET", it)})
+
+
+def trusted(root: str) -> list[str]:
+    """What is trusted: the kit, the statements of its libraries, and those of the C functions that the files call."""
+    crates = libraries_of_kit(text_of(os.path.join(TOP, "crates.txt")))
+    return [
+        "trusted the kit: its compiler, prover, logic and standard library",
+        f"trusted the statements of the kit's libraries {' '.join(crates)}",
+        f"trusted the C functions that bin/ua calls: {' '.join(called_by(f'{root}/bin/ua'))}",
+        f"trusted the C functions that lib/libua.a calls: {' '.join(called_by(f'{root}/lib/libua.a'))}",
+    ]
+
+
+def archive(root: str, name: str, moment: int) -> bytes:
+    """A folder as a tar file: sorted, with one time and no owners."""
+    made = io.BytesIO()
+    with gzip.GzipFile(filename="", mode="wb", fileobj=made, mtime=0) as packed, tarfile.open(fileobj=packed, mode="w", format=tarfile.GNU_FORMAT) as tar:
+        paths = [root] + sorted(os.path.join(at, it) for at, folders, names in os.walk(root) for it in folders + names)
+        for path in paths:
+            one = tar.gettarinfo(path, os.path.normpath(os.path.join(name, os.path.relpath(path, root))))
+            one.mtime, one.uid, one.gid, one.uname, one.gname = moment, 0, 0, "", ""
+            one.mode = 0o755 if one.isdir() or one.mode & 0o100 else 0o644
+            with open(path, "rb") if one.isreg() else io.BytesIO() as file:
+                tar.addfile(one, file if one.isreg() else None)
+    return made.getvalue()
+
+
+def put(folder: str, files: dict[str, bytes]) -> None:
+    os.makedirs(folder, exist_ok=True)
+    files["SHA256SUMS"] = "".join(f"{hashlib.sha256(text).hexdigest()}  {name}\n" for name, text in sorted(files.items())).encode()
+    for name, text in files.items():
+        with open(os.path.join(folder, name), "wb") as file:
+            file.write(text)
+        print(f"release: {os.path.join(folder, name)}")
+
+
+def release(version: str, gate: str, to: str, program: str, library: str) -> None:
+    judge(version)
+    line = passed([gate])
+    with tempfile.TemporaryDirectory(prefix="ua-release-") as folder:
+        root, name = os.path.join(folder, "tree"), f"ua-{version}"
+        put_all(root, program, library, False)
+        try_all(root)
+        record = "\n".join([text_of(os.path.join(root, RECORD)).rstrip("\n"), f"gate {line}", *trusted(root), ""])
+        with open(os.path.join(root, RECORD), "w", encoding="utf-8") as file:
+            file.write(record)
+        moment = int(run("git", "log", "-1", "--format=%ct"))
+        put(to, {
+            f"{name}-linux-x86_64.tar.gz": archive(root, name, moment), "RECORD": record.encode(),
+            "DEFINITIONS.md": write_definitions.definitions_page().encode(),
+        })
+
+
 def main(words: list[str]) -> int:
-    program, library, at = (option(words, it) for it in ("--program", "--library", "--at"))
+    program, library, at, version = (option(words, it) for it in ("--program", "--library", "--at", "--release"))
+    gate, to = option(words, "--gate") or GATE, option(words, "--to") or os.path.join(TOP, "release")
     is_trial, is_unproved = "--try" in words, "--unproved" in words
     prefix = [it for it in words if it not in ("--unproved", "--try")]
-    if len(prefix) != (not is_trial) or prefix and not prefix[0].startswith("/") or bool(program) != bool(library) or program and is_unproved:
+    if len(prefix) != (not is_trial and not version) or prefix and not prefix[0].startswith("/") or bool(program) != bool(library) or program and is_unproved:
         print(__doc__, file=sys.stderr)
         return 2
-    if not is_trial:
+    if version:
+        release(version, gate, to, program, library)
+    elif not is_trial:
         put_all(os.environ.get("DESTDIR", "") + prefix[0], program, library, is_unproved)
     elif at:
         try_all(at)
