@@ -56,16 +56,15 @@ def checks() -> list[Part]:
     ]
 
 
-def trials(program: str, library: str, unproved: bool, needs: dict[str, tuple[str, ...]]) -> list[Part]:
-    """The parts that try a program and a library."""
-    ua, both = needs.get("program", ()), needs.get("program", ()) + needs.get("library", ())
-    linked = ["--library", library] if library else []
+def trials(program: str, library: str, unproved: tuple[str, ...], ua: tuple[str, ...], ua_c: tuple[str, ...]) -> list[Part]:
+    """The parts that try a program and a library, of which some are not proved; they need these parts."""
+    both, linked = ua + ua_c, ["--library", library] if library else []
     parts = [
-        Part("examples", tool("try_c", "--program", program, *linked), both),
+        Part("examples", tool("try_c", "--program", program, *linked, *["--unproved"] * ("library" in unproved)), both),
         Part("large", tool("try_large", "--bound", program), ua), Part("at once", tool("try_at_once", program), ua, True),
         Part("live", tool("try_live", program), ua, True), Part("long", tool("try_large", "--long", program), ua),
         Part("values", tool("fuzz_values", program, "1000"), ua),
-        Part("rows", tool("try_rows", *["--unproved"] * unproved, program), ua),
+        Part("rows", tool("try_rows", *["--unproved"] * ("program" in unproved), program), ua),
     ]
     return parts + [Part("installed", tool("install", "--try", "--program", program, *linked), both)] * bool(library)
 
@@ -171,7 +170,7 @@ def proved_trials(run: Run, folder: str) -> None:
         if subprocess.run(kit_words(library), stdin=subprocess.DEVNULL, check=False).returncode:
             print("this kit keeps no library, and compiles none without a proof: the examples are compiled, and not run", flush=True)
             library = ""
-    parts = trials(built, library, False, {"library": ("library",) if kit.keeps() else ()})
+    parts = trials(built, library, () if library.endswith(".a") else ("library",), (), ("library",) if kit.keeps() else ())
     if os.path.exists(built + ".by-rattle"):
         parts.append(Part("other rows", tool("try_rows", built + ".by-rattle")))
     run.all(parts)
@@ -190,7 +189,7 @@ def main(words: list[str]) -> int:
         program, library = os.path.join(folder, "ua"), os.path.join(folder, "ua_c.o")
         if not words:
             builds = [Part("program", kit_words(program, "program")), Part("library", kit_words(library))]
-            run.all([*builds, *checks(), *trials(program, library, True, {"program": ("program",), "library": ("library",)})])
+            run.all([*builds, *checks(), *trials(program, library, ("program", "library"), ("program",), ("library",))])
             return run.end()
         run.all(checks())
         if not run.failed:

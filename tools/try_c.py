@@ -1,5 +1,5 @@
 #!/usr/bin/env python3
-"""Builds and runs the examples of docs/C.md and docs/CPP.md: try_c [--library FILE] [--program FILE] [--hammer PIECES].
+"""Builds and runs the examples of docs/C.md and docs/CPP.md: try_c [--library FILE [--unproved]] [--program FILE] [--hammer PIECES].
 
 Each example, and each snippet of these pages, is compiled against crates/ua_c/include/ua.h and ua.hpp where its compiler
 is at hand, and run where the library is: crates/ua_c/out/libua_c.a unless FILE is another; those in C++ under the sanitizers, too.
@@ -315,6 +315,8 @@ class Examples:
         """No call takes more of a painted stack than include/ua.h says was measured."""
         with open(os.path.join(INCLUDE, 'ua.h'), encoding='utf-8') as file:
             most, = re.findall(r'#define UA_STACK_MEASURED (\d+)', file.read())
+        if '--unproved' in sys.argv:
+            return say('stack.c is passed over: what a proved library takes was measured')
         print(run([self.at('stack'), os.path.join(STREAMS, 'client.bin'), most]), end='')
         say('the stack of the calls: below %s octets' % most)
 
