@@ -8,11 +8,9 @@
                                      ratios to them; also of two calls of the library for C, where it is built. With --faults the
                                      page faults of a further turn of each row instead
   messages COUNT FOLDER              writes the octets that it works on, of so many elements
-  time PROGRAM [ROUNDS]              times `ua serve` over loopback beside plain C: a client in C (plain_c/load.c) reads and writes
-                                     nodes of a table of 1,000, and reads an array of a megabyte: of `ua serve`, of a server of
-                                     Reads in C (serve.c), and of an echo in C that only gives as many octets for as many, in turns
-  at-once PROGRAM COUNT              how many Reads a second `ua serve` answers, by one connection, with --at-once and without, and
-                                     by 64 together, and what 1,000 idle connections take
+  time PROGRAM [ROUNDS]              times `ua serve` over loopback: a client in C (plain_c/load.c) reads and writes nodes of a table of
+                                     1,000, and reads an array of a megabyte: of `ua serve`, with --at-once and without, and of an echo
+                                     in C that only gives as many octets for as many, in turns; and what idle connections take
   allocations [--input FILE] PROGRAM [WORD..]    runs a program once for each of its allocations, with that one refused (preload.c),
                                      up to the first run that meets none: for each kind of end how often, the numbers of the first
                                      allocations, status, the last line of standard error, and how its output compares with that
@@ -24,17 +22,15 @@ from __future__ import annotations
 
 import os
 import re
-import statistics
 import struct
 import subprocess
 import sys
 import tempfile
-import time
 from collections.abc import Callable
 
 sys.dont_write_bytecode = True
 from kit import kit_folder
-from sockets import ANSWERED, NULL, PORT, PUMP, READ, SENT, STREAMS, TOP, Program, Talk, check, chunks, most_memory, node_file, read_frame
+from sockets import ANSWERED, NULL, PORT, PUMP, SENT, TOP, Program, Talk, chunks, most_memory, node_file
 
 PLAIN_C = os.path.join(TOP, 'tools/plain_c')
 
@@ -104,23 +100,13 @@ def write_files(folder: str, made: dict[str, bytes]) -> None:
 
 # The row; the words of bench_messages and those of C, in which a name of a file stands for it; the turns of the
 # two runs, and how many units a turn has, of each.
+WAYS = (('read', 'dec'), ('write', 'enc'))
 ROWS = [
-    ('int32s-read', 'read int32s N', 'variant-dec int32s N', (2, 12, 1000), (2, 12, 1000)),
-    ('int32s-write', 'write int32s N', 'variant-enc int32s N', (2, 12, 1000), (2, 12, 1000)),
-    ('booleans-read', 'read booleans N', 'variant-dec booleans N', (2, 12, 1000), (2, 12, 1000)),
-    ('booleans-write', 'write booleans N', 'variant-enc booleans N', (2, 12, 1000), (2, 12, 1000)),
-    ('doubles-read', 'read doubles N', 'variant-dec doubles N', (2, 12, 1000), (2, 12, 1000)),
-    ('doubles-write', 'write doubles N', 'variant-enc doubles N', (2, 12, 1000), (2, 12, 1000)),
-    ('strings-read', 'read strings N', 'variant-dec strings N', (2, 12, 1000), (2, 12, 1000)),
-    ('strings-write', 'write strings N', 'variant-enc strings N', (2, 12, 1000), (2, 12, 1000)),
-    ('response-read', 'read-response-body response N', 'response-dec response N', (2, 12, 1000), (2, 12, 1000)),
-    ('response-write', 'write-response-body response N', 'response-enc response N', (2, 12, 1000), (2, 12, 1000)),
-    ('request-read', 'read-request-body request N', 'request-dec request N', (2, 12, 1000), (2, 12, 1000)),
-    ('request-write', 'write-request-body request N', 'request-enc request N', (2, 12, 1000), (2, 12, 1000)),
-    ('small-request-read', 'read-request-body small N', 'request-dec small N', (100, 600, 1), (100, 600, 1)),
-    ('small-request-write', 'write-request-body small N', 'request-enc small N', (100, 600, 1), (100, 600, 1)),
-    ('small-response-read', 'read-response-body small-response N', 'response-dec small-response N', (100, 600, 1), (100, 600, 1)),
-    ('small-response-write', 'write-response-body small-response N', 'response-enc small-response N', (100, 600, 1), (100, 600, 1)),
+    *[(f'{it}-{way}', f'{way} {it} N', f'variant-{c} {it} N', (2, 12, 1000), (2, 12, 1000))
+      for it in ('int32s', 'booleans', 'doubles', 'strings') for way, c in WAYS],
+    *[(f'{it}-{way}', f'{way}-{it}-body {it} N', f'{it}-{c} {it} N', (2, 12, 1000), (2, 12, 1000)) for it in ('response', 'request') for way, c in WAYS],
+    *[(f'small-{it}-{way}', f'{way}-{it}-body small{"-response" * (it == "response")} N', f'{it}-{c} small{"-response" * (it == "response")} N',
+       (100, 600, 1), (100, 600, 1)) for it in ('request', 'response') for way, c in WAYS],
     ('load', 'load nodes N', 'load nodes N', (1, 3, 1000), (1, 3, 1000)),
     ('read-item', 'read-item request N nodes', 'read_item request N nodes', (2, 12, 1000), (2, 12, 1000)),
     ('cut', 'cut client-large N', 'cut client-large N 8168', (2, 12, 'client-large'), (2, 12, 'client-large')),
@@ -227,14 +213,6 @@ Row = tuple[str, int, int, int]
 TIMED: list[Row] = [('read', 60000, 1, 1), ('read', 96000, 64, 1), ('read', 2000, 1, NODES), ('write', 96000, 64, 1), ('array', 1000, 1, 1)]
 
 
-def built(folder: str, name: str) -> str:
-    """The program of a file of plain C."""
-    program = os.path.join(folder, name)
-    source = os.path.join(PLAIN_C, name + '.c')
-    subprocess.run(['gcc', '-O2', '-o', program, source], check=True, stderr=subprocess.DEVNULL)
-    return program
-
-
 def table(folder: str) -> str:
     path = os.path.join(folder, 'table.txt')
     with open(path, 'w', encoding='ascii') as file:
@@ -268,18 +246,12 @@ def asked(load: str, port: int, server: subprocess.Popen[bytes], row: Row) -> re
     return told([load, str(port), str(count), str(group), str(nodes), what, '0', table_of, str(server.pid)])
 
 
-def of_program(load: str, program: str, nodes: str, row: Row) -> re.Match[str]:
-    words = [program, 'serve', nodes, str(PORT), '--connections', '1']
+def of_program(load: str, program: str, nodes: str, row: Row, *options: str) -> re.Match[str]:
+    words = [program, 'serve', nodes, str(PORT), '--connections', '1', *options]
     with subprocess.Popen(words, stdout=subprocess.PIPE) as server:
         assert server.stdout
         server.stdout.readline()
         return asked(load, PORT, server, row)
-
-
-def of_plain_c(load: str, serve: str, nodes: str, row: Row) -> int:
-    with subprocess.Popen([serve, nodes, f'{STREAMS}/server.bin'], stdout=subprocess.PIPE) as server:
-        assert server.stdout
-        return int(asked(load, int(server.stdout.readline()), server, row).group(3))
 
 
 def of_echo(load: str, row: Row, found: re.Match[str]) -> int:
@@ -288,49 +260,20 @@ def of_echo(load: str, row: Row, found: re.Match[str]) -> int:
 
 def tell_times(program: str, rounds: int) -> None:
     with tempfile.TemporaryDirectory() as folder:
-        load, serve = built(folder, 'load'), built(folder, 'serve')
+        load = os.path.join(folder, 'load')
+        subprocess.run(['gcc', '-O2', '-o', load, f'{PLAIN_C}/load.c'], check=True, stderr=subprocess.DEVNULL)
         nodes = {'read': table(folder), 'array': array_of(folder)}
         for row in TIMED:
             print('%s of %d nodes, in groups of %d' % (row[0], row[3], row[2]))
             for _ in range(rounds):
                 given = nodes.get(row[0], nodes['read'])
                 found = of_program(load, program, given, row)
-                ours, echo = int(found.group(3)), of_echo(load, row, found)
-                print('  ua %d, echo %d a second; to the echo %.2f' % (ours, echo, ours / echo), end='')
-                if row[0] == 'read':
-                    plain_c = of_plain_c(load, serve, given, row)
-                    print('; C %d, %.2f' % (plain_c, plain_c / echo), end='')
-                print(flush=True)
+                ours, many, echo = int(found.group(3)), int(of_program(load, program, given, row, '--at-once', '16').group(3)), of_echo(load, row, found)
+                print('  ua %d, with --at-once %d, echo %d a second; to the echo %.2f, %.2f' % (ours, many, echo, ours / echo, many / echo), flush=True)
 
 
-def burst(program: str, nodes: str, count: int, connections: int, group: int, words: list[str]) -> float:
-    """How many Reads are answered a second over so many connections of a server of their own, each of which sends so many at a time."""
-    server, talks = Program(program, nodes, 'all', *words), [Talk() for _ in range(connections)]
-    talks[0].line.sendall(talks[0].message(READ))
-    length, rounds = len(read_frame(talks[0].line)) * group, max(count // (connections * group), 1)
-    octets = [[b''.join(talk.message(READ) for _ in range(group)) for talk in talks] for _ in range(rounds)]
-    begun = time.monotonic()
-    for groups in octets:
-        for talk, asked_at_once in zip(talks, groups):
-            talk.line.sendall(asked_at_once)
-        for talk in talks:
-            check(len(talk.line.recv(length, 0x100)) == length, 'a short answer')  # MSG_WAITALL
-    seconds = time.monotonic() - begun
-    server.process.kill()
-    server.process.wait()
-    for talk in talks:
-        talk.line.close()
-    return rounds * connections * group / seconds
-
-
-def tell_at_once(program: str, count: int) -> None:
-    kinds = [(1, 1, []), (1, 1, ['--at-once', '16']), (1, 64, []), (1, 64, ['--at-once', '16']), (64, 64, ['--at-once', '64'])]
+def tell_idle(program: str) -> None:
     with node_file(PUMP) as nodes:
-        rounds = [[burst(program, nodes, count // (8 if kind[1] == 1 else 1), *kind) for kind in kinds] for _ in range(24)]
-        for place, (connections, group, words) in enumerate(kinds):
-            reads = [each[place] for each in rounds]
-            print('%2d connections in groups of %2d, %s: %d requests a second, at most %d'
-                  % (connections, group, ' '.join(words) or 'one after the other', statistics.median(reads), max(reads)))
         server = Program(program, nodes, 'all', '--at-once', '1024')
         before = most_memory(server.process.pid)
         talks = [Talk() for _ in range(1000)]
@@ -378,8 +321,7 @@ def main(words: list[str]) -> None:
         write_files(rest[1], files(int(rest[0])))
     elif word == 'time' and rest:
         tell_times(rest[0], int((rest + ['3'])[1]))
-    elif word == 'at-once' and len(rest) == 2:
-        tell_at_once(rest[0], int(rest[1]))
+        tell_idle(rest[0])
     elif word == 'allocations' and rest:
         given = b''
         if rest[0] == '--input':

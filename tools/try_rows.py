@@ -244,9 +244,9 @@ class Place:
         return ran, got
 
 
-# ---- how each kind of row is answered
+# ---- how each kind of row is answered; rows/README.md says what each asks
 
-# The name of a file of these nodes, which no row has.
+# The name of a file of the node that is served, which no row has.
 SERVED = "served nodes"
 PORT = "4840"
 
@@ -268,21 +268,27 @@ class Kinds:
     def __init__(self, place: Place) -> None:
         self.place = place
         place.put(SERVED, PUMP.encode())
+        run, failing, told, channels = self.run, self.failing, self.told, self.channels
         self.kinds: dict[str, Callable[[str], str]] = {
-            "file": self.file, "text": self.text, "holds": self.holds, "same": self.same,
-            "run": self.run, "pipe": self.pipe, "broken": self.broken, "words": self.words,
-            "out": self.out, "out-told": self.out_told, "err": self.err, "no-words": self.no_words, "offline": self.offline,
-            "script": self.script, "connected": self.connected, "ask": self.ask, "ask-out": self.ask_out, "flushed": self.flushed,
-            "heard": self.heard, "serve": self.serve, "connections": self.connections, "request-lines": self.request_lines,
-            "at-once": self.at_once, "writes": self.writes, "accepts": self.accepts, "standard": self.standard,
+            "file": lambda words: self.written(words, place.octets), "text": lambda words: self.written(words, lambda text: unmarked(text).encode()),
+            "holds": lambda words: digits(place.content(words)), "same": self.same,
+            "run": lambda words: run(words).text(), "pipe": lambda words: self.pipe(words), "broken": lambda words: self.pipe(words, **{"in": 1}),
+            "words": lambda words: "{0.status} out {1} err {2}".format(ran := run(words), presence(ran.out), presence(ran.err)),
+            "out": lambda words: "{0.status} err {1}".format(ran := failing("out", words), presence(ran.err)),
+            "out-told": lambda words: '{0.status} err "{1}"'.format(ran := failing("out", words), marked(ran.err)),
+            "err": lambda words: "{0.status} out {1}".format(ran := failing("err", words), presence(ran.out)),
+            "no-words": self.no_words, "offline": self.offline, "script": self.script, "connected": self.connected,
+            "ask": lambda words: 'out "{1}" {2} sent {0}'.format(*self.asked(words)), "ask-out": self.ask_out, "flushed": self.flushed,
+            "heard": lambda words: f'err "{marked(self.question(words, "--why", ended=1)[0].err)}"', "serve": self.serve,
+            "connections": channels, "at-once": lambda words: channels(first_word(words)[1], "--at-once", first_word(words)[0]),
+            "request-lines": lambda words: told(words, "--requests")[0], "writes": lambda words: told(words, "--writes")[0],
+            "accepts": self.accepts, "standard": self.standard,
         }
 
     def answer(self, question: str) -> str:
         kind, words = first_word(question)
-        if kind not in self.kinds:
-            return "no row"
         try:
-            return self.kinds[kind](words)
+            return self.kinds[kind](words) if kind in self.kinds else "no row"
         except NoRow:
             return "no row"
         except subprocess.TimeoutExpired:
@@ -290,20 +296,11 @@ class Kinds:
 
     # ---- files
 
-    def written(self, name: str, octets: bytes) -> str:
+    def written(self, words: str, octets_of: Callable[[str], bytes]) -> str:
+        name, text = first_word(words)
+        octets = octets_of(text)
         self.place.put(name, octets)
         return f"{len(octets)} octets"
-
-    def file(self, words: str) -> str:
-        name, octets = first_word(words)
-        return self.written(name, self.place.octets(octets))
-
-    def text(self, words: str) -> str:
-        name, text = first_word(words)
-        return self.written(name, unmarked(text).encode())
-
-    def holds(self, words: str) -> str:
-        return digits(self.place.content(words))
 
     def same(self, words: str) -> str:
         one, other = (self.place.content(name) for name in first_word(words))
@@ -311,38 +308,17 @@ class Kinds:
 
     # ---- runs
 
-    def run(self, words: str) -> str:
-        return self.place.run(self.place.words(words)).text()
+    def run(self, words: str, given: bytes = b"", **calls: object) -> Ran:
+        return self.place.run(self.place.words(words), given, **calls)
 
-    def pipe(self, words: str) -> str:
+    def pipe(self, words: str, **calls: object) -> str:
         name, words = first_word(words)
-        return self.place.run(self.place.words(words), self.place.content(name)).text()
-
-    def broken(self, words: str) -> str:
-        name, words = first_word(words)
-        given = {"in": 1}
-        return self.place.run(self.place.words(words), self.place.content(name), **given).text()
-
-    def words(self, words: str) -> str:
-        ran = self.place.run(self.place.words(words))
-        return f"{ran.status} out {presence(ran.out)} err {presence(ran.err)}"
+        return self.run(words, self.place.content(name), **calls).text()
 
     def failing(self, stream: str, words: str) -> Ran:
         """The run of which this stream takes so many bytes, and fails behind them."""
         size, words = first_word(words)
-        return self.place.run(self.place.words(words), **{stream: number_of(size)})
-
-    def out(self, words: str) -> str:
-        ran = self.failing("out", words)
-        return f"{ran.status} err {presence(ran.err)}"
-
-    def out_told(self, words: str) -> str:
-        ran = self.failing("out", words)
-        return f'{ran.status} err "{marked(ran.err)}"'
-
-    def err(self, words: str) -> str:
-        ran = self.failing("err", words)
-        return f"{ran.status} out {presence(ran.out)}"
+        return self.run(words, **{stream: number_of(size)})
 
     def no_words(self, words: str) -> str:
         if words != "text":
@@ -354,7 +330,7 @@ class Kinds:
         network, words = first_word(words)
         if network not in ("deaf", "alone"):
             raise NoRow
-        return self.place.run(self.place.words(words), **{network: 1}).text()
+        return self.run(words, **{network: 1}).text()
 
     def script(self, words: str) -> str:
         cut, files = first_word(words)
@@ -376,9 +352,9 @@ class Kinds:
             raise NoRow
         return self.place.asked(self.place.content(name), ["ua", command, PORT, *self.place.words(rest), *options], **calls)
 
-    def ask(self, words: str) -> str:
+    def asked(self, words: str) -> tuple[str, str, str]:
         ran, sent = self.question(words)
-        return f'out "{marked(ran.out)}" {end_of(ran)} sent {digits(sent)}'
+        return digits(sent), marked(ran.out), end_of(ran)
 
     def ask_out(self, words: str) -> str:
         size, words = first_word(words)
@@ -389,10 +365,6 @@ class Kinds:
         ran, sent = self.question(words)
         last = ([it for it in ran.told if it.startswith("out")] or ["out 0"])[-1].split()[1]
         return f"at {last} of {len(sent)} {end_of(ran)}"
-
-    def heard(self, words: str) -> str:
-        ran, _ = self.question(words, "--why", ended=1)
-        return f'err "{marked(ran.err)}"'
 
     # ---- a server whose clients wait
 
@@ -420,19 +392,6 @@ class Kinds:
     def channels(self, words: str, *options: str) -> str:
         text, sent = self.told(words, *options)
         return " ".join([text, *(f"{len(it)}:{digits(it[36:40])}" for it in sent)])
-
-    def connections(self, words: str) -> str:
-        return self.channels(words)
-
-    def request_lines(self, words: str) -> str:
-        return self.told(words, "--requests")[0]
-
-    def at_once(self, words: str) -> str:
-        places, words = first_word(words)
-        return self.channels(words, "--at-once", places)
-
-    def writes(self, words: str) -> str:
-        return self.told(words, "--writes")[0]
 
     def accepts(self, words: str) -> str:
         how, answers = first_word(words)
