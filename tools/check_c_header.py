@@ -23,21 +23,10 @@ Calls = dict[str, tuple[str, list[tuple[str, str]]]]
 CRATE = os.path.join(os.path.dirname(os.path.abspath(__file__)), '..', 'crates', 'ua_c')
 # The types in C of a parameter, and what stands behind its name in each of theirs.
 PARAMETERS: dict[str, list[str]] = {
-    'Global': [],
-    '&mut UaHandle': ['struct ua_handle *'],
-    '&mut UaNodes': ['struct ua_nodes *'],
-    '&mut UaConnection': ['struct ua_connection *'],
-    '&UaLimits': ['const struct ua_limits *'],
-    '&UaReading': ['const struct ua_reading *'],
-    '&mut UaReading': ['struct ua_reading *'],
-    '&mut [UaReading]': ['struct ua_reading *', 'size_t'],
-    '&[u8]': ['const uint8_t *', 'size_t'],
-    '&mut [u8]': ['uint8_t *', 'size_t'],
-    '&mut usize': ['size_t *'],
-    '&mut u32': ['uint32_t *'],
-    'u32': ['uint32_t'],
-    'i64': ['int64_t'],
-    'usize': ['size_t'],
+    'Global': [], '&mut UaHandle': ['struct ua_handle *'], '&mut UaNodes': ['struct ua_nodes *'], '&mut UaConnection': ['struct ua_connection *'],
+    '&UaLimits': ['const struct ua_limits *'], '&UaReading': ['const struct ua_reading *'], '&mut UaReading': ['struct ua_reading *'],
+    '&mut [UaReading]': ['struct ua_reading *', 'size_t'], '&[u8]': ['const uint8_t *', 'size_t'], '&mut [u8]': ['uint8_t *', 'size_t'],
+    '&mut usize': ['size_t *'], '&mut u32': ['uint32_t *'], 'u32': ['uint32_t'], 'i64': ['int64_t'], 'usize': ['size_t'],
 }
 # The structures that cross: of each its name in C, and the file that has it.
 STRUCTURES = {'UaLimits': ('ua_limits', 'limits.rt'), 'UaReading': ('ua_reading', 'readings.rt')}
@@ -264,8 +253,7 @@ def check_numbers(header: str) -> None:
 RECORDS = {
     ('Connecting', 'IsNewConnection'): ('ua_server/src/connection.rt', 'pub fn new('),
     ('Connecting', 'StepsConnectionAs'): ('ua_server/src/connection.rt', 'pub fn step_telling('),
-    ('Serving', 'IsFreshServer'): ('ua_server/src/server.rt', 'pub fn new('),
-    ('Serving', 'StepsAs'): ('ua_server/src/server.rt', 'pub fn step('),
+    ('Serving', 'IsFreshServer'): ('ua_server/src/server.rt', 'pub fn new('), ('Serving', 'StepsAs'): ('ua_server/src/server.rt', 'pub fn step('),
     ('Asking', 'IsNewClient'): ('ua_channel/src/client/channel.rt', 'pub fn new('),
     ('Asking', 'TakesAs'): ('ua_channel/src/client/channel.rt', 'pub fn take('),
     ('Asking', 'AsksAs'): ('ua_channel/src/client/channel.rt', 'pub fn ask('),

@@ -439,8 +439,7 @@ def trusted(root: str) -> list[str]:
     """What is trusted: the kit, the statements of its libraries, and those of the C functions that the files call."""
     crates = libraries_of_kit(text_of(os.path.join(TOP, "crates.txt")))
     return [
-        "trusted the kit: its compiler, prover, logic and standard library",
-        f"trusted the statements of the kit's libraries {' '.join(crates)}",
+        "trusted the kit: its compiler, prover, logic and standard library", f"trusted the statements of the kit's libraries {' '.join(crates)}",
         f"trusted the C functions that bin/ua calls: {' '.join(called_by(f'{root}/bin/ua'))}",
         f"trusted the C functions that lib/libua.a calls: {' '.join(called_by(f'{root}/lib/libua.a'))}",
     ]

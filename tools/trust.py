@@ -7,11 +7,9 @@ line and what the comment above it says first; then the words of the kit that th
 kit's words are not followed: the kit is trusted whole.
 
   --count          the counts alone
-  --why WORD       how the contract comes to rest on a word: one of the shortest ways, a line a step
   --aside CRATES   definitions of these crates, as ua_wire,ua_builtin, are counted apart
   --given WORDS    leaves out what these words are made of, as Goes,ClientGoes: a relation between a machine and what it
                    received, which the contracts of the machine's calls establish, can be taken as they give it
-
 
 What a definition rests on is read from the text of .rt and .antt files, rather too much than too little:
 
@@ -419,20 +417,6 @@ sys.dont_write_bytecode = True
 LONG = 100
 
 
-def way_to(roots: list[Unit], name: str) -> list[Unit]:
-    """One of the shortest ways from a root to a definition of this name."""
-    ways = [[it] for it in roots]
-    seen = set(roots)
-    for way in ways:
-        if way[-1].name == name:
-            return way
-        for below in rests_on(way[-1]):
-            if below not in seen:
-                seen.add(below)
-                ways.append(way + [below])
-    return []
-
-
 def place(it: Unit) -> str:
     return f"{os.path.relpath(it.path, kit() if it.of_kit else TOP)}:{it.line}" if it.path else "built in" if it.crate else "in the kit"
 
@@ -468,17 +452,13 @@ def counts(found: list[Unit], aside: list[str]) -> list[str]:
 
 
 def main(words: list[str]) -> int:
-    options = {it: words[words.index(it) + 1] for it in ("--why", "--aside", "--given") if it in words}
+    options = {it: words[words.index(it) + 1] for it in ("--aside", "--given") if it in words}
     names = [it for it in words if not it.startswith("--") and it not in options.values()]
     roots = [it for name in names for it in calls(name)]
-    for name in names:
-        if not calls(name):
-            print(f"trust: no function {name}", file=sys.stderr)
-    if not roots or any(not calls(name) for name in names):
+    unknown = [name for name in names if not calls(name)]
+    if unknown or not roots:
+        print(f"trust: no function {' '.join(unknown)}", file=sys.stderr)
         return 1
-    if "--why" in options:
-        print("\n".join(show(it) for it in way_to(roots, options["--why"])) or f"{options['--why']}: not among them")
-        return 0
     given = frozenset(options.get("--given", "").split(","))
     found = [it for it in in_order(roots, given) if it not in roots]
     if "--count" not in words:

@@ -68,8 +68,7 @@ PRINTED = [
     ('ReadResponse of empty DataValues', '--server', b'\x01\0\x7A\x02' + RESPONSE, NULL, b'\0'),
     ('ReadResponse of DataValues of an Int32', '--server', b'\x01\0\x7A\x02' + RESPONSE, NULL, b'\1\6' + bytes(4)),
     ('ReadResponse of empty DiagnosticInfos', '--server', b'\x01\0\x7A\x02' + RESPONSE + NULL, b'', b'\0'),
-    ('Read of items', '', READ, b'', item(TEXT, bytes(2) + NULL)),
-    ('Write of items without a value', '', WRITE, b'', item(TEXT, b'\0')),
+    ('Read of items', '', READ, b'', item(TEXT, bytes(2) + NULL)), ('Write of items without a value', '', WRITE, b'', item(TEXT, b'\0')),
     ('ReadResponse with a StringTable of null Strings', '--server', b'\x01\0\x7A\x02' + RESPONSE[:17], bytes(3) + 2 * NULL, NULL),
     ('WriteResponse of StatusCodes', '--server', b'\x01\0\xA4\x02' + RESPONSE, NULL, bytes(4)),
     ('WriteResponse of empty DiagnosticInfos', '--server', b'\x01\0\xA4\x02' + RESPONSE + NULL, b'', b'\0'),
@@ -83,58 +82,27 @@ PRINTED = [
 ]
 # The same of one value: an array, by its type id and element, or one of one array that holds others; and a text.
 VALUES = [
-    ('Booleans', 1, b'\1'),
-    ('SBytes', 2, b'\1'),
-    ('Bytes', 3, b'\1'),
-    ('Int16s', 4, bytes(2)),
-    ('UInt16s', 5, bytes(2)),
-    ('Int32s', 6, bytes(4)),
-    ('UInt32s', 7, bytes(4)),
-    ('Int64s', 8, bytes(8)),
-    ('UInt64s', 9, bytes(8)),
-    ('Floats', 10, bytes(4)),
-    ('Doubles', 11, bytes(8)),
-    ('null Strings', 12, NULL),
-    ('DateTimes', 13, bytes(8)),
-    ('Guids', 14, bytes(16)),
-    ('null ByteStrings', 15, NULL),
-    ('null XmlElements', 16, NULL),
-    ('null NodeIds', 17, bytes(2)),
-    ('null ExpandedNodeIds', 18, bytes(2)),
-    ('StatusCodes', 19, bytes(4)),
-    ('QualifiedNames', 20, bytes(2) + NULL),
-    ('LocalizedTexts', 21, b'\0'),
-    ('ExtensionObjects', 22, bytes(3)),
-    ('empty DataValues', 23, b'\0'),
-    ('null Variants', 24, b'\0'),
-    ('Variants of a Boolean', 24, b'\1\1'),
-    ('empty DiagnosticInfos', 25, b'\0'),
-    ('null reserved values', 26, NULL),
+    ('Booleans', 1, b'\1'), ('SBytes', 2, b'\1'), ('Bytes', 3, b'\1'), ('Int16s', 4, bytes(2)), ('UInt16s', 5, bytes(2)), ('Int32s', 6, bytes(4)),
+    ('UInt32s', 7, bytes(4)), ('Int64s', 8, bytes(8)), ('UInt64s', 9, bytes(8)), ('Floats', 10, bytes(4)), ('Doubles', 11, bytes(8)),
+    ('null Strings', 12, NULL), ('DateTimes', 13, bytes(8)), ('Guids', 14, bytes(16)), ('null ByteStrings', 15, NULL), ('null XmlElements', 16, NULL),
+    ('null NodeIds', 17, bytes(2)), ('null ExpandedNodeIds', 18, bytes(2)), ('StatusCodes', 19, bytes(4)), ('QualifiedNames', 20, bytes(2) + NULL),
+    ('LocalizedTexts', 21, b'\0'), ('ExtensionObjects', 22, bytes(3)), ('empty DataValues', 23, b'\0'), ('null Variants', 24, b'\0'),
+    ('Variants of a Boolean', 24, b'\1\1'), ('empty DiagnosticInfos', 25, b'\0'), ('null reserved values', 26, NULL),
 ]
 ONE_VARIANT = b'\x98\1\0\0\0'
 ONE_DATA_VALUE = b'\x97\1\0\0\0\1'
 NESTED = [
-    ('one Variant of null Variants', ONE_VARIANT + b'\x98', b'\0'),
-    ('one Variant of null Variants, 90 deep', 89 * ONE_VARIANT + b'\x98', b'\0'),
-    ('one Variant of Doubles', ONE_VARIANT + b'\x8B', bytes(8)),
-    ('one DataValue of null Strings', ONE_DATA_VALUE + b'\x8C', NULL),
+    ('one Variant of null Variants', ONE_VARIANT + b'\x98', b'\0'), ('one Variant of null Variants, 90 deep', 89 * ONE_VARIANT + b'\x98', b'\0'),
+    ('one Variant of Doubles', ONE_VARIANT + b'\x8B', bytes(8)), ('one DataValue of null Strings', ONE_DATA_VALUE + b'\x8C', NULL),
     ('one DataValue of empty DataValues, 40 deep', 39 * ONE_DATA_VALUE + b'\x97', b'\0'),
-    ('one Variant of null reserved values', ONE_VARIANT + b'\x9A', NULL),
-    ('one String', b'\x8C\1\0\0\0', b'a'),
-    ('one String that prints escaped', b'\x8C\1\0\0\0', b'\1'),
-    ('one ByteString', b'\x8F\1\0\0\0', b'a'),
-    ('one Variant of a String', ONE_VARIANT + b'\x0C', b'a'),
-    ('one ExtensionObject', b'\x96\1\0\0\0' + bytes(2) + b'\1', b'a'),
+    ('one Variant of null reserved values', ONE_VARIANT + b'\x9A', NULL), ('one String', b'\x8C\1\0\0\0', b'a'),
+    ('one String that prints escaped', b'\x8C\1\0\0\0', b'\1'), ('one ByteString', b'\x8F\1\0\0\0', b'a'),
+    ('one Variant of a String', ONE_VARIANT + b'\x0C', b'a'), ('one ExtensionObject', b'\x96\1\0\0\0' + bytes(2) + b'\1', b'a'),
 ]
 TEXTS = [
-    ('a String', b'\x0C', b'a'),
-    ('a String that prints escaped', b'\x0C', b'\1'),
-    ('a ByteString', b'\x0F', b'a'),
-    ('an ExtensionObject', b'\x16' + bytes(2) + b'\1', b'a'),
-    ('a LocalizedText', b'\x15\2', b'a'),
-    ('a NodeId of bytes', b'\x11\5\0\0', b'a'),
-    ('an ExpandedNodeId of a text that prints escaped', b'\x12\3\0\0', b'\1'),
-    ('a DiagnosticInfo that prints escaped', b'\x19\x10', b'\1'),
+    ('a String', b'\x0C', b'a'), ('a String that prints escaped', b'\x0C', b'\1'), ('a ByteString', b'\x0F', b'a'),
+    ('an ExtensionObject', b'\x16' + bytes(2) + b'\1', b'a'), ('a LocalizedText', b'\x15\2', b'a'), ('a NodeId of bytes', b'\x11\5\0\0', b'a'),
+    ('an ExpandedNodeId of a text that prints escaped', b'\x12\3\0\0', b'\1'), ('a DiagnosticInfo that prints escaped', b'\x19\x10', b'\1'),
 ]
 PRINTED += [
     *[('ReadResponse of an array of %s' % name, '--server', ONE_VALUE + bytes([0x80 + kind]), NULL, one) for name, kind, one in VALUES],
@@ -240,17 +208,10 @@ def within(front: bytes, rest: bytes, one: bytes, before: bytes, behind: bytes, 
 
 # Arrays whose elements take most memory where they are kept, with their type id and an element.
 ARRAYS = [
-    ('null Variants', 24, b'\0'),
-    ('empty DataValues', 23, b'\0'),
-    ('empty DiagnosticInfos', 25, b'\0'),
-    ('Variants of a Boolean', 24, b'\x01\x01'),
-    ('DataValues of a null Variant', 23, b'\x01\0'),
-    ('DataValues of a Boolean', 23, b'\x01\x01\x01'),
-    ('DiagnosticInfos around an empty one', 25, b'\x40\0'),
-    ('DiagnosticInfos in chains of 90', 25, 89 * b'\x40' + b'\0'),
-    ('DataValues in chains of 40', 23, 39 * b'\x01\x17' + b'\0'),
-    ('null Strings', 12, NULL),
-    ('null NodeIds', 17, bytes(2)),
+    ('null Variants', 24, b'\0'), ('empty DataValues', 23, b'\0'), ('empty DiagnosticInfos', 25, b'\0'), ('Variants of a Boolean', 24, b'\x01\x01'),
+    ('DataValues of a null Variant', 23, b'\x01\0'), ('DataValues of a Boolean', 23, b'\x01\x01\x01'),
+    ('DiagnosticInfos around an empty one', 25, b'\x40\0'), ('DiagnosticInfos in chains of 90', 25, 89 * b'\x40' + b'\0'),
+    ('DataValues in chains of 40', 23, 39 * b'\x01\x17' + b'\0'), ('null Strings', 12, NULL), ('null NodeIds', 17, bytes(2)),
 ]
 # A name, the limit of messages in the HEL, what the text node is set to in a session before (b'' for a session and no
 # more, None for no session), and the request.
@@ -261,8 +222,7 @@ THINNED = [
 ]
 REQUESTS = [
     ('Read of 1 MB 1000 times, no limit', 0, text(1000000), read(True, 1000)),
-    ('Read of 1 MB 100 times, limit 1048576', MOST, text(1000000), read(True, 100)),
-    *THINNED,
+    ('Read of 1 MB 100 times, limit 1048576', MOST, text(1000000), read(True, 100)), *THINNED,
     ('Write of items without a value, no session', MOST, None, items(b'\x01\0\xA1\x02' + header(False), b'', item(TEXT, b'\0'))),
     ('Read of items, no session', MOST, None, items(b'\x01\0\x77\x02' + header(False) + bytes(8) + struct.pack('<I', 2), b'', item(TEXT, bytes(2) + NULL))),
 ]

@@ -1,5 +1,5 @@
 #!/usr/bin/env python3
-"""Writes the copied parts of docs/THEOREMS.md, or a page of definitions: write_definitions [--check | --bare | --definitions FILE].
+"""Writes the copied parts of docs/THEOREMS.md, or a page of definitions: write_definitions [--check | --definitions FILE].
 
 With --definitions the page goes into FILE, which a version has as DEFINITIONS.md. It has each definition of specs/ that the contract of a public call of a library names: a row has its
 name, its file and line, and the comment above it, or where it has none the comment above its block, or the one before.
@@ -11,7 +11,6 @@ docs/THEOREMS.md is written by hand but for what stands between a mark and the n
     <!-- rests ua_wire::Wire::read ua_wire::Wire::write -->   the definitions that their clauses name, and how many those rest on
 
 With --check nothing is written: the status is 1 where docs/THEOREMS.md is not what the sources give.
-With --bare it prints the definitions of that page that no comment explains, and writes nothing.
 """
 from __future__ import annotations
 
@@ -153,9 +152,6 @@ def filled(text: str) -> str:
 
 
 def main(words: list[str]) -> int:
-    if "--bare" in words:
-        print("".join(f"{os.path.relpath(it.path, TOP)}:{it.line}: {it.name}\n" for it in named_by_contracts() if not it.comment), end="")
-        return 0
     if "--definitions" in words:
         with open(words[words.index("--definitions") + 1], "w", encoding="utf-8") as file:
             file.write(definitions_page())

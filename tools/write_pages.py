@@ -18,8 +18,7 @@ TABLE = "crates/ua_words/src/commands.rt"
 FILES = ("FILE", "NODES", "SCRIPT", "UP", "DOWN")
 VALUES = {"policy": ["anonymous", "auto"], "connections": ["all"]}
 STATUS = [
-    ("0", "The command did what it is for."),
-    ("1", "A fault, which one line on standard error tells, or a stream that could not be written."),
+    ("0", "The command did what it is for."), ("1", "A fault, which one line on standard error tells, or a stream that could not be written."),
     ("2", "The words do not parse, or are not UTF-8; the help has this status too."),
 ]
 HAS_STRICT = "the status is 3 where "
