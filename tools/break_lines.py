@@ -25,7 +25,6 @@ TRAILING = ("=", ":", "}", ".", "where", "{", ";", ",")
 CODE = ("//", "#[", "use ", "fn ", "pub fn", "println", "return", "assert", "help: ")
 USE = re.compile(r"^(\s*(?:pub )?(?:ghost )?(?:pub )?use [^{]*\.\{)(.*)(\};?)$")
 
-
 def places(text: str) -> list[tuple[int, bool]]:
     """For each character how many brackets are open before it, and whether it is within a text.
 
@@ -43,7 +42,6 @@ def places(text: str) -> list[tuple[int, bool]]:
             depth += (c in OPEN) - (c in CLOSE)
     return found
 
-
 def cost(text: str, at: int, depth: int, limit: int, start_depth: int) -> float | None:
     """What it costs to break at this space, or None where that may not be."""
     word, last = text[at + 1:].split(" ", 1)[0], text[:at].rsplit(" ", 1)[-1]
@@ -60,7 +58,6 @@ def cost(text: str, at: int, depth: int, limit: int, start_depth: int) -> float 
         worth = min(worth, 3)
     return depth * 1.25 + worth * 0.35 + (limit - at) / limit * 2.2
 
-
 def best(text: str, limit: int, start: int) -> int | None:
     """The space at which a line is broken, or None."""
     marks, found = places(text), None
@@ -71,7 +68,6 @@ def best(text: str, limit: int, start: int) -> int | None:
             if price is not None and (found is None or price <= found[0]):
                 found = (price, at)
     return found and found[1]
-
 
 def pieces(line: str, limit: int) -> list[str]:
     """A line as lines of at most so many columns.
@@ -89,7 +85,6 @@ def pieces(line: str, limit: int) -> list[str]:
         line, start = " " * more + line[at + 1:].lstrip(" "), more
     return found + [line]
 
-
 def names(text: str) -> list[str]:
     """Names that commas part.
 
@@ -97,7 +92,6 @@ def names(text: str) -> list[str]:
     ['a', '_+_', 'c as d']
     """
     return [it.strip() for it in text.split(",") if it.strip()]
-
 
 def imports(line: str, limit: int) -> list[str]:
     """An import as several, of which none is much shorter than the others.
@@ -125,7 +119,6 @@ def imports(line: str, limit: int) -> list[str]:
         width -= 1
     return filled(width)
 
-
 def comment(line: str, limit: int) -> list[str]:
     """A comment of a definition as several lines.
 
@@ -141,7 +134,6 @@ def comment(line: str, limit: int) -> list[str]:
         held += " " + word
     return found + [held]
 
-
 def lines_of(line: str, is_source: bool) -> list[str]:
     """A line, broken where it is too long and may be broken."""
     limit, bare = 120 if is_source else 160, line.strip()
@@ -155,11 +147,9 @@ def lines_of(line: str, is_source: bool) -> list[str]:
         return comment(line, limit)
     return [line] if " -- " in line else pieces(line, limit)
 
-
 def broken(text: str, is_source: bool) -> str:
     """A file's text with its long lines broken, before `rt fmt` lays it out."""
     return "\n".join(part for line in text.split("\n") for part in lines_of(line, is_source))
-
 
 def settled(texts: dict[str, str], lay_out: Callable[[dict[str, str]], dict[str, str]]) -> dict[str, str]:
     """Files by their paths, broken and laid out until nothing changes, which some turns bring."""
@@ -170,18 +160,15 @@ def settled(texts: dict[str, str], lay_out: Callable[[dict[str, str]], dict[str,
         texts = lay_out(wanted)
     return texts
 
-
 def files(crate: str) -> Iterator[str]:
     """The files of a crate that have clauses or proofs."""
     for part in ("src", "specs", "proofs"):
         for folder, _, found in os.walk(os.path.join(TOP, "crates", crate, part)):
             yield from (os.path.join(folder, name) for name in sorted(found) if name.endswith((".rt", ".antt")))
 
-
 def read(path: str) -> str:
     with open(path, encoding="utf-8") as file:
         return file.read()
-
 
 def break_crate(crate: str) -> None:
     """Breaks the long lines of a crate."""
@@ -197,7 +184,6 @@ def break_crate(crate: str) -> None:
 
     settled(before, lay_out)
 
-
 def main(words: list[str]) -> int:
     crates = sorted(os.listdir(os.path.join(TOP, "crates")))
     if words != ["--check"]:
@@ -210,7 +196,6 @@ def main(words: list[str]) -> int:
         print(f"{os.path.relpath(path, TOP)}:{number}: too long")
     print(f"break_lines: {len(long)} lines are too long")
     return 1 if long else 0
-
 
 if __name__ == "__main__":
     sys.exit(main(sys.argv[1:]))

@@ -37,18 +37,15 @@ FIELDS = {'u8': 'uint8_t', 'u16': 'uint16_t', 'u32': 'uint32_t', 'i64': 'int64_t
 OTHER_NAMES = {'h': 'handle', 'handle': 'request', 'kind': 'type'}
 RESULTS = {'': 'void', 'u32': 'uint32_t', 'usize': 'size_t'}
 
-
 def text(*names: str) -> str:
     """A file of the crate."""
     with open(os.path.join(CRATE, *names), encoding='utf-8') as file:
         return file.read()
 
-
 def end(difference: str) -> NoReturn:
     """Tells the first difference, and ends."""
     print('check_c_header: ' + difference)
     sys.exit(1)
-
 
 def first(pattern: str, text_of: str, flags: int = 0) -> str:
     """What stands in the brackets of a pattern, where a text has it first.
@@ -61,7 +58,6 @@ def first(pattern: str, text_of: str, flags: int = 0) -> str:
         end('nothing is as %s' % pattern)
     return found[1]
 
-
 def exports() -> Calls:
     """What C has to declare."""
     found: Calls = {}
@@ -72,7 +68,6 @@ def exports() -> Calls:
             found[export] = (RESULTS[result], [it for name, kind in given for it in in_c(name.strip(), kind.strip())])
     return found
 
-
 def in_c(name: str, kind: str) -> list[tuple[str, str]]:
     """The parameters in C of one of the crate's.
 
@@ -81,7 +76,6 @@ def in_c(name: str, kind: str) -> list[tuple[str, str]]:
     """
     name = OTHER_NAMES.get(name, name)
     return [(c, name + '_len' * (at == 1)) for at, c in enumerate(PARAMETERS[kind])]
-
 
 def declarations(header: str) -> Calls:
     """What the header declares.
@@ -100,7 +94,6 @@ def declarations(header: str) -> Calls:
             types.append((' '.join(kind.split()) + (' *' if star else ''), given))
         found[name] = (result, types)
     return found
-
 
 NULL = """/* In C and C++ a null pointer whose length is 0 is an empty text, or a buffer without room, and ua_free(NULL) does
  * nothing: ua.h includes this, which tools/check_c_header.py --write writes from its declarations. */
@@ -126,7 +119,6 @@ static inline void ua_free_some(struct ua_handle *handle) {
 #define ua_free ua_free_some
 """
 
-
 def null_header(found: Calls) -> str:
     """What include/ua_null.h has to be: each call with octets or a buffer, with another pointer in the place of a null one."""
     out = NULL
@@ -141,7 +133,6 @@ def null_header(found: Calls) -> str:
             out += '}\n#define %s %s_some\n' % (name, name)
     return out
 
-
 def wrapped(head: str, parameters: list[str], rest: str, indent: str) -> str:
     """A head, parameters and what stands behind them, on as many lines as they take.
 
@@ -152,7 +143,6 @@ def wrapped(head: str, parameters: list[str], rest: str, indent: str) -> str:
     lines = textwrap.wrap(line, 100, initial_indent=indent, subsequent_indent=indent + '    ')
     return ''.join(it.replace('\0', ' ') + '\n' for it in lines)
 
-
 def check_null(found: Calls) -> None:
     """The header for null pointers, which is written first with --write."""
     path = os.path.join(CRATE, 'include', 'ua_null.h')
@@ -162,12 +152,10 @@ def check_null(found: Calls) -> None:
     if text('include', 'ua_null.h') != null_header(found):
         end('include/ua_null.h is not what follows from ua.h: check_c_header --write')
 
-
 # Enumerations of include/ua.hpp: of each what stands in front of its names in the header, and `_RESPONSE` and the like by name.
 ENUMERATIONS = {'Status': '', 'BadLine': 'LINE_', 'BadText': 'TEXT_', 'Event': 'EVENT_', 'Response': ''}
 # The calls of a server of one connection, which go with the next version.
 OLDER = {'ua_server_new', 'ua_server_step', 'ua_server_next_connection'}
-
 
 def check_cpp(found: Calls, header: str) -> None:
     """The header for C++ has each number and each call, but the older ones."""
@@ -185,11 +173,9 @@ def check_cpp(found: Calls, header: str) -> None:
     if set(found) - OLDER - calls or calls & OLDER:
         end('ua.hpp lacks %s' % sorted(set(found) - OLDER - calls or calls & OLDER))
 
-
 # The types in Rust of the header's.
 RUST = {'size_t': 'usize', 'uint32_t': 'u32', 'int64_t': 'i64', 'uint8_t': 'u8', 'ua_handle': 'Handle', 'ua_nodes': 'Handle',
         'ua_connection': 'Handle', 'ua_limits': 'Limits', 'ua_reading': 'CReading'}
-
 
 def in_rust(kind: str) -> str:
     """The type in Rust of a parameter.
@@ -199,7 +185,6 @@ def in_rust(kind: str) -> str:
     """
     pointer = '*const ' if kind.startswith('const ') else '*mut ' if kind.endswith('*') else ''
     return pointer + RUST[kind.removeprefix('const ').removeprefix('struct ').removesuffix(' *')]
-
 
 def check_rust(found: Calls, header: str) -> None:
     """The module in Rust declares each call but the older ones, and has the statuses and the fields of readings."""
@@ -222,7 +207,6 @@ def check_rust(found: Calls, header: str) -> None:
         if [(FIELDS[kind], name) for name, kind in fields] != theirs:
             end('%s of rust/ua.rs has other fields' % ours)
 
-
 def check_structures(header: str) -> None:
     """The structures that cross have the fields of the crate's."""
     for name, (c, file) in STRUCTURES.items():
@@ -230,7 +214,6 @@ def check_structures(header: str) -> None:
         ours = re.findall(r'pub (\w+): (\w+),', first(r'pub struct %s \{(.*?)\n\}' % name, text('src', file), re.DOTALL))
         if theirs != [(FIELDS[kind], field) for field, kind in ours] or not ours:
             end('struct %s has %s and %s has %s' % (c, theirs, name, ours))
-
 
 def check_numbers(header: str) -> None:
     """Statuses, events and kinds of responses have one number each."""
@@ -248,7 +231,6 @@ def check_numbers(header: str) -> None:
         if ours.get(name) != number:
             end('UA_%s is not %s, as in specs/Status.antt' % (name, number))
 
-
 # The records that have the clauses of calls of the library, as fields: of each the file and the head of the call.
 RECORDS = {
     ('Connecting', 'IsNewConnection'): ('ua_server/src/connection.rt', 'pub fn new('),
@@ -261,7 +243,6 @@ RECORDS = {
     ('Asking', 'ClosesAs'): ('ua_channel/src/client/channel.rt', 'pub fn close('),
 }
 
-
 def check_clauses() -> None:
     """The records have a field for each clause."""
     for (file, record), (path, head) in RECORDS.items():
@@ -271,7 +252,6 @@ def check_clauses() -> None:
         fields = [name.removesuffix('_is') for name in re.findall(r'^  pub (\w+) :', body, re.MULTILINE)]
         if fields != clauses or not clauses:
             end('%s has %s, and the call %s of %s says %s' % (record, fields, head, path, clauses))
-
 
 def check_version(header: str) -> None:
     """The version is that of specs/ and of the program."""
@@ -283,7 +263,6 @@ def check_version(header: str) -> None:
         end('UA_VERSION is not %s, as in specs/Words.antt' % word)
     if printed not in text('..', 'ua_program', 'src', 'version.rt'):
         end('ua_program does not print %s' % printed)
-
 
 def main() -> None:
     """All of it; what differs ends it."""
@@ -300,7 +279,6 @@ def main() -> None:
     check_numbers(plain)
     check_version(plain)
     check_clauses()
-
 
 if __name__ == '__main__':
     main()

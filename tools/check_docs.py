@@ -33,11 +33,9 @@ SPEC_USE = re.compile(r"ghost use Rattle\.((?:ua|test|example|bench)_\w+)\.specs
 BRACKET = re.compile(r"[{}()]")
 DEFINED = re.compile(r"^\s*(?:pub\s+)?(?:abbrev|unfoldable|data|record)\s+(?:pub\s+)?([\w'-]+)", re.M)
 
-
 def read(path: str) -> str:
     with open(os.path.join(TOP, path), encoding="utf-8") as f:
         return f.read()
-
 
 def files() -> list[str]:
     """The files of the repository, those too that are not committed yet."""
@@ -47,7 +45,6 @@ def files() -> list[str]:
         return below(TOP, "")
     return [f for f in out.split("\n") if f and os.path.isfile(os.path.join(TOP, f))]
 
-
 def below(folder: str, endings: str | tuple[str, ...]) -> list[str]:
     """The files below a folder whose names end so, but for what was built, also where no git is at hand."""
     found = []
@@ -55,7 +52,6 @@ def below(folder: str, endings: str | tuple[str, ...]) -> list[str]:
         folders[:] = sorted(it for it in folders if it not in ("out", ".git", "__pycache__"))
         found += [os.path.relpath(os.path.join(at, name), TOP) for name in sorted(names) if name.endswith(endings)]
     return found
-
 
 def close(text: str, at: int) -> int:
     """The place behind the bracket that closes the one at this place.
@@ -70,7 +66,6 @@ def close(text: str, at: int) -> int:
             return m.end()
     return len(text)
 
-
 def block_around(text: str, at: int) -> tuple[int, int]:
     """The block in which a place stands.
 
@@ -82,12 +77,10 @@ def block_around(text: str, at: int) -> tuple[int, int]:
             return i, close(text, i)
     return 0, len(text) + 1
 
-
 def bare(text: str) -> str:
     """The text without comments and the contents of string literals, each character in its place."""
     text = re.sub(r"//[^\n]*", lambda m: " " * len(m.group()), text)
     return re.sub(r'"(?:[^"\\\n]|\\.)*"', lambda m: '"' + " " * (len(m.group()) - 2) + '"', text)
-
 
 def clauses_of(text: str, at: int) -> tuple[list[str], int]:
     """The clauses behind a function's name, and the place where its body or its end stands."""
@@ -106,7 +99,6 @@ def clauses_of(text: str, at: int) -> tuple[list[str], int]:
         else:
             at += 1
     return out, at
-
 
 class Source:
     """A source file: what it imports of specs/, and the clauses that its callers see."""
@@ -159,13 +151,11 @@ class Source:
             return False
         return is_seen(kind, exported) if kind else exported is None or m.group("name") in exported
 
-
 def is_seen(head: str, exported: set[str] | None) -> bool:
     """Whether callers of the crate see the type or trait with this head."""
     name = re.search(r"\bfor\s+&?(?:\w+::)*(\w+)", head) or re.search(r"\b(?:trait|struct|enum)\s+(\w+)", head) \
         or re.match(r"impl(?:<.*>)?\s+(\w+)", head)
     return exported is None or not name or name.group(1) in exported or not name.group(1)[0].isupper() or len(name.group(1)) == 1
-
 
 def exported_of(crate: str, listing: list[str]) -> set[str] | None:
     """The names that a library hands out; None for a program, whose public items all count."""
@@ -182,7 +172,6 @@ def exported_of(crate: str, listing: list[str]) -> set[str] | None:
             names |= set(re.findall(r"pub (?:const )?fn (\w+)", bare(read(path))))
     return names
 
-
 def spec_words(listing: list[str]) -> set[str]:
     """The words that specs/ define, with their constructors and fields; lemmas are none."""
     found = set()
@@ -194,28 +183,23 @@ def spec_words(listing: list[str]) -> set[str]:
                 found |= set(re.findall(r"^\s+(?:pub\s+)?([\w']+)\s*:", block.group(), re.M))
     return found
 
-
 def spans(text: str) -> tuple[list[str], list[str]]:
     """The words of a document's code spans; blocks between fences count as one span each."""
     blocks = re.findall(r"^```.*?^```", text, re.M | re.S)
     rest = re.sub(r"^```.*?^```", "", text, flags=re.M | re.S)
     return re.findall(r"`([^`\n]+)`", rest), blocks
 
-
 def only_tries(crate: str) -> bool:
     """Whether a crate only tries others: tests, rows, promises, calls made twice. No program calls it."""
     return crate.startswith("test_")
-
 
 def crates() -> list[str]:
     """The crates of crates.txt, from the lowest up."""
     return [line.split(":")[0].split()[0] for line in read("crates.txt").split("\n") if ":" in line and not line.startswith("#")]
 
-
 def libraries() -> list[str]:
     """The crates that a program calls, from the lowest up: no test and no benchmark."""
     return [it for it in crates() if not only_tries(it) and it != "bench_messages" and os.path.exists(os.path.join(TOP, f"crates/{it}/src/lib.rt"))]
-
 
 def say(title: str, rows: Iterable[str]) -> int:
     """Prints what is wrong under its title; answers how much it is."""
@@ -226,14 +210,12 @@ def say(title: str, rows: Iterable[str]) -> int:
             print("  " + row)
     return len(rows)
 
-
 # ---- the checks
 
 sys.dont_write_bytecode = True
 TACTICS = re.compile(r"(?<![\w.«-])(omega|grind|search|simp|cc|absurd|rw)(?![\w-])")
 LAWFUL_TRAITS = re.compile(r"^impl\b.*\b(PartialEq|Eq|PartialOrd|Ord|Hash)\b.*\bfor\b")
 NUMBERS = "zero one two three four five six seven eight nine ten eleven twelve thirteen fourteen fifteen sixteen seventeen eighteen nineteen twenty".split()
-
 
 def report_names(listing: list[str], sources: list[Source], words: set[str]) -> int:
     functions = set().union(*(s.functions | s.labels for s in sources)) | words
@@ -258,12 +240,10 @@ def report_names(listing: list[str], sources: list[Source], words: set[str]) -> 
                     rows.append(f"{f}: `{span}`: no such file")
     return say("Names in the documents that nothing has:", sorted(set(rows)))
 
-
 def anchors_of(page: str) -> set[str]:
     """The anchors of a page's headings."""
     text = re.sub(r"^```.*?^```", "", read(page), flags=re.M | re.S)
     return {re.sub(r"[^\w\s-]", "", title.strip().lower()).replace(" ", "-") for title in re.findall(r"^#+ (.*)$", text, re.M)}
-
 
 def report_links(listing: list[str]) -> int:
     rows = []
@@ -280,13 +260,11 @@ def report_links(listing: list[str]) -> int:
                 rows.append(f"{f}: {target}#{anchor}")
     return say("Links that lead nowhere:", rows)
 
-
 def report_conditions(sources: list[Source]) -> int:
     named = set(re.findall(r"\w+", " ".join(spans(read("docs/CALLING.md"))[0])))
     rows = sorted({f"{s.path}: {name}" for s in sources for name, clause in s.clauses
                    if clause.startswith("requires") and name not in named})
     return say("Conditions for callers that docs/CALLING.md does not name:", rows)
-
 
 def report_crates() -> int:
     own = set(crates())
@@ -294,7 +272,6 @@ def report_crates() -> int:
                                                   ("docs/ASSURANCE.md", kit_crates()), ("docs/ARCHITECTURE.md", own))
             for name in sorted(names) if f"`{name}`" not in read(page)]
     return say("Crates that the documents lack:", rows)
-
 
 def report_tactics(listing: list[str]) -> int:
     lawful = set()
@@ -320,7 +297,6 @@ def report_tactics(listing: list[str]) -> int:
                 rows.append(f"{f}: {n} lines")
     return say("Tactics in specs/ (definitions there, proofs in proofs/):", rows)
 
-
 def report_edits(listing: list[str]) -> int:
     rows = []
     for f in listing:
@@ -339,7 +315,6 @@ def report_edits(listing: list[str]) -> int:
     wrong += say("Wrong bodies that docs/WRONG-BODIES.md lacks:", sorted(there - named))
     return wrong + say("Wrong bodies that docs/WRONG-BODIES.md names, and that are gone:", sorted(named - there))
 
-
 def report_messages(listing: list[str]) -> int:
     """The numbers of the encodings of messages that ENCODINGS.md has no place for."""
     table = read("docs/ENCODINGS.md").partition("| message | request | response |")[2].partition("\n\n")[0]
@@ -352,17 +327,14 @@ def report_messages(listing: list[str]) -> int:
                          for n in re.findall(r"number(?: \w+)? = (\d+)|\bmessage (\d+)\b", line) for n in n if n and n not in listed]
     return say("Numbers of messages that the table of messages in docs/ENCODINGS.md lacks:", rows)
 
-
 def rows_of(table: str) -> int:
     """How many rows a table has."""
     return sum(" = " in line and not line.startswith("#") for line in read(table).split("\n"))
-
 
 def kit_crates() -> set[str]:
     """The crates of the kit that crates.txt names."""
     lines = [line.split(":") for line in read("crates.txt").split("\n") if ":" in line and not line.startswith("#")]
     return {name for line in lines for name in line[1].split()} - {line[0].split()[0] for line in lines}
-
 
 def number_of(word: str) -> int | None:
     """A number as a text has it.
@@ -372,7 +344,6 @@ def number_of(word: str) -> int | None:
     """
     plain = word.replace(",", "").lower()
     return int(plain) if plain.isdigit() else NUMBERS.index(plain) if plain in NUMBERS else None
-
 
 def report_numbers(listing: list[str]) -> int:
     bodies = [f for f in listing if f.endswith(".edit")]
@@ -388,13 +359,11 @@ def report_numbers(listing: list[str]) -> int:
                          if number_of(it) not in (None, n) and (it[0].isdigit() or what != "crates")]
     return say("Numbers that the tree has not:", rows)
 
-
 def f_exists(listing: list[str], path: str, beside: str = "") -> bool:
     path = path.strip("/")
     near = os.path.dirname(beside)
     return any(g == path or g.endswith("/" + path) or ("/" + path + "/") in ("/" + g) for g in listing) \
         or any(g.startswith(os.path.join(near, path)) for g in listing) or path.split("/")[0] in {g.split("/")[1] for g in listing if g.startswith("crates/")} and path.count("/") == 0
-
 
 def main() -> int:
     listing, sources = files(), []
@@ -405,7 +374,6 @@ def main() -> int:
     wrong = report_names(listing, sources, spec_words(listing)) + report_links(listing) + report_conditions(sources) + report_crates()
     wrong += report_tactics(listing) + report_edits(listing) + report_messages(listing) + report_numbers(listing)
     return 1 if wrong else 0
-
 
 if __name__ == "__main__":
     signal.signal(signal.SIGPIPE, signal.SIG_DFL)

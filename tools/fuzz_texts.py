@@ -48,24 +48,20 @@ LETTERS = 'abcdefghijklmnopqrstuvwxyzABCDEFGHIJKLMNOPQRSTUVWXYZ0123456789_. '
 Parts = list  # of a str, a tuple of str, or Bits
 Odd = Callable[[], bool]
 
-
 class Bits(NamedTuple):
     """The bit pattern of a finite Float or Double."""
     kind: int
     pattern: int
 
-
 class Text(NamedTuple):
     """A text of JSON with these parts."""
     parts: Parts
-
 
 class Style(NamedTuple):
     """How values print: with `--plain`, with `--names` and these names, and within an array or brackets."""
     plain: bool = False
     names: dict[int, str] | None = None
     within: bool = False
-
 
 class Value(NamedTuple):
     """A value: its type, its encoding as it is sent and the plain one, its text in a line, and what it is in JSON: True, False or
@@ -77,10 +73,8 @@ class Value(NamedTuple):
     json: Callable[[Style], Any]
     more: Any = None
 
-
 def never() -> bool:
     return False
-
 
 # ---- texts
 
@@ -93,10 +87,8 @@ def escaped(text: str, style: Style, more: str = '') -> str:
     marks = more + ',(){}' * style.within
     return ''.join('\\\\' if it == '\\' else '\\x%02x' % ord(it) if it < ' ' or it == '\x7f' or it in marks else it for it in text)
 
-
 def pattern_text(kind: int, pattern: int) -> str:
     return '0x%0*x' % (8 if kind == FLOAT else 16, pattern)
-
 
 def number(kind: int, pattern: int) -> str | Bits:
     """A Float or Double with `--plain`.
@@ -112,7 +104,6 @@ def number(kind: int, pattern: int) -> str | Bits:
     if size == greatest:
         return '-Infinity' if pattern >> bits - 1 else 'Infinity'
     return 'NaN' if pattern == (1 << bits) - (1 << fraction - 1) else pattern_text(kind, pattern)
-
 
 def bits_of(text: str, kind: int) -> int:
     """The bit pattern of the number nearest to a decimal.
@@ -132,7 +123,6 @@ def bits_of(text: str, kind: int) -> int:
     except OverflowError:
         return 0x7F800000
 
-
 def days_before(year: int) -> int:
     """The days from the year 0 to a later one.
 
@@ -140,7 +130,6 @@ def days_before(year: int) -> int:
     (0, 366, 36890, 146097)
     """
     return 365 * year + (year + 3) // 4 - (year + 99) // 100 + (year + 399) // 400
-
 
 def date(ticks: int) -> str:
     """A DateTime with `--plain`.
@@ -162,25 +151,20 @@ def date(ticks: int) -> str:
     digits = ('.%07d' % part).rstrip('0') if part else ''
     return '%04d-%02d-%02dT%02d:%02d:%02d%sZ' % (400 * era + year, month + 1, day + 1, second // 3600, second // 60 % 60, second % 60, digits)
 
-
 def moment(ticks: int | None, style: Style) -> str:
     return 'null' if ticks is None else date(ticks) if style.plain else str(ticks)
-
 
 def guid_text(octets: bytes) -> str:
     digits = octets.hex()
     return '-'.join([digits[:8], digits[8:12], digits[12:16], digits[16:20], digits[20:]])
 
-
 def base64_text(of: bytes | None) -> str:
     return 'null' if of is None else base64.b64encode(of).decode()
-
 
 def code_text(of: int, style: Style) -> str:
     """A StatusCode with `--plain`."""
     name = style.names.get(of) if style.names else None
     return '0x%08x%s' % (of, ' ' + name if name else '')
-
 
 def status(of: int, names: dict[int, str] | None) -> str:
     """A CODE, and its name.
@@ -190,15 +174,12 @@ def status(of: int, names: dict[int, str] | None) -> str:
     """
     return '%08X%s' % (of, ' ' + names[of] if names and of in names else '')
 
-
 def code_json(of: int, style: Style) -> dict[str, Any]:
     name = style.names.get(of) if style.names else None
     return {'code': Text(['%08X' % of]), **({'name': Text([name])} if name else {})}
 
-
 def text_json(of: str | None) -> Text | None:
     return None if of is None else Text([of])
-
 
 def told(of: str | None) -> str:
     """A String or NodeId of a field: a control character by its bytes in UTF-8.
@@ -207,7 +188,6 @@ def told(of: str | None) -> str:
     ('\\\\xc2\\\\x85\\\\x09\\\\\\\\', 'null')
     """
     return 'null' if of is None else re.sub('[\x80-\x9f]', lambda it: ''.join('\\x%02x' % octet for octet in it[0].encode()), escaped(of, Style()))
-
 
 def fits(parts: Sequence, text: str) -> bool:
     """Whether a text is one of these parts.
@@ -229,26 +209,21 @@ def fits(parts: Sequence, text: str) -> bool:
         place += len(taken)
     return place == len(text)
 
-
 def shown(parts: Sequence) -> str:
     """Parts as a person reads them."""
     return ''.join(it if isinstance(it, str) else '<%s>' % pattern_text(*it) if isinstance(it, Bits) else '<%s>' % ' or '.join(it) for it in parts)
-
 
 # ---- JSON
 
 class Number(str):
     """A number of JSON, by its text."""
 
-
 def no_constant(text: str) -> Any:
     raise ValueError('a constant %s' % text)
-
 
 DECIMAL = re.compile(r'-?(?:0|[1-9][0-9]*)(?:\.[0-9]+)?(?:[eE][+-]?[0-9]+)?')
 STRINGS = re.compile(r'"(?:[^"\\]|\\.)*"')
 DECODER = json.JSONDecoder(parse_int=Number, parse_float=Number, parse_constant=no_constant, object_pairs_hook=tuple)
-
 
 def is_json(wanted: Any, got: Any) -> bool:
     """Whether what came is what is wanted; the members of an object in order.
@@ -267,7 +242,6 @@ def is_json(wanted: Any, got: Any) -> bool:
     if isinstance(wanted, int):
         return isinstance(got, Number) and got == str(wanted)
     return isinstance(got, list) and len(wanted) == len(got) and all(is_json(one, other) for one, other in zip(wanted, got))
-
 
 def is_json_line(wanted: dict[str, Any], got: str) -> bool:
     """Whether a line is an object of JSON without spaces that has these members in this order.

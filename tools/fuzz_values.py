@@ -29,10 +29,8 @@ def counted(of: bytes | None, odd: Odd) -> bytes:
     """An Int32 count, and bytes."""
     return struct.pack('<i', (-1, -2, -1 << 31)[odd() + odd()]) if of is None else struct.pack('<i', len(of)) + of
 
-
 def encoded(of: str | None) -> bytes | None:
     return None if of is None else of.encode()
-
 
 def swapped(of: bytes) -> bytes:
     """A Guid from its 16 bytes in the order of its text.
@@ -41,7 +39,6 @@ def swapped(of: bytes) -> bytes:
     '912b967275fae64a8d28b404dc7daf63'
     """
     return of[3::-1] + of[5:3:-1] + of[7:5:-1] + of[8:]
-
 
 def by_bytes(kind: int, both: Sequence[bytes], text: Callable[[Style], Parts] | None = None, members: Callable[[Style], Any] | None = None,
              more: Any = None, is_null: bool = False) -> Value:
@@ -52,7 +49,6 @@ def by_bytes(kind: int, both: Sequence[bytes], text: Callable[[Style], Parts] | 
     def line(style: Style) -> Parts:
         return text(style) if text and style.plain else digits
     return Value(kind, both[0], both[1], line, lambda style: members(style) if members and style.plain else Text(line(style)), more)
-
 
 class Maker:
     """Makes random values."""
@@ -404,7 +400,6 @@ class Maker:
             info = self.info([self.pick([None, 5]), None, None, None], inner=info)
         return self.data(self.holding(DIAGNOSTIC_INFO, info))
 
-
 # ---- responses, and what `ua read` and `ua dissect --fields` print of them
 
 class Response(NamedTuple):
@@ -417,11 +412,9 @@ class Response(NamedTuple):
     def value(self, place: int) -> bytes:
         return self.octets[self.places[place]:self.places[place + 1]]
 
-
 def field_of(info: Value, style: Style) -> Parts:
     """A DiagnosticInfo of a field."""
     return ['null'] if info.plain == b'\0' else info.text(style)
-
 
 def made(maker: Maker, count: int) -> Response:
     """A response with so many random values."""
@@ -461,7 +454,6 @@ def made(maker: Maker, count: int) -> Response:
         return found + [(behind, ['    diagnostic_infos[%d] ' % place, *field_of(it, style)]) for place, it in enumerate(infos or ())]
     return Response(octets + behind, results, places, lines)
 
-
 def value_lines(place: int, of: Value, style: Style) -> list[Parts]:
     """The fields of a DataValue."""
     _, value, (code, *times) = of.more
@@ -471,13 +463,11 @@ def value_lines(place: int, of: Value, style: Style) -> list[Parts]:
     first: Parts = ['    results[%d].value ' % place, *(value.more[1](style) if value else ['null'])]
     return [first] + [['    results[%d].%s %s' % (place, *it)] for it in zip(names, texts)]
 
-
 def read_line(node: str, of: Value, style: Style, has_times: bool) -> Parts:
     """The line of `ua read`."""
     _, value, (code, source, _, server, _) = of.more
     times = ' source %s server %s' % tuple('none' if it is None else moment(it, style) for it in (source, server))
     return ['%s %s' % (node, status(code or 0, style.names)), *([' ', *value.more[1](style)] if value else []), times * has_times]
-
 
 def json_of(node: str, of: Value, style: Style, has_times: bool) -> dict[str, Any]:
     """The object of `ua read --json`."""
@@ -489,7 +479,6 @@ def json_of(node: str, of: Value, style: Style, has_times: bool) -> dict[str, An
     times = {'source': source, 'server': server} if has_times else {}
     return out | {name: None if it is None else Text([moment(it, style)]) for name, it in times.items()}
 
-
 # ---- runs
 
 BATCH, MOST_TOLD = 200, 20
@@ -497,13 +486,11 @@ BATCH, MOST_TOLD = 200, 20
 ALWAYS = ['', '--plain', '--json', '--json --plain', '--json --names', '--fields', '--fields --plain --names']
 TURNS = ['--times', '--times --plain', '--times --json', '--times --plain --names', '--times --json --plain --names', '--fields --plain', '--fields --names']
 
-
 def names_of_codes() -> dict[int, str]:
     """The table of names that docs/PROGRAM.md names."""
     with open(os.path.join(TOP, 'crates/ua_texts/src/status_codes.rt'), encoding='utf-8') as file:
         found = re.findall(r'^\s*0x([0-9A-F]{4})_([0-9A-F]{4}) (\w+),?$', file.read(), re.MULTILINE)
     return {int(high + low, 16): name for high, low, name in found}
-
 
 class Fuzz:
     """The runs of the program, and what they count."""
@@ -569,7 +556,6 @@ class Fuzz:
         for (octets, parts), printed in zip(wanted, got[got.index(front[0]):]):
             self.compare(options, octets, fits(parts, printed), printed, shown(parts))
 
-
 def main(words: list[str]) -> int:
     if not 1 <= len(words) <= 3:
         raise SystemExit(__doc__)
@@ -579,7 +565,6 @@ def main(words: list[str]) -> int:
         fuzz.batch(number_of, min(BATCH, count - first))
     print('fuzz_values: %d values, seed %d, %d comparisons, %d differences, %.0f seconds' % (count, seed, fuzz.compared, fuzz.told, time.monotonic() - begun))
     return 1 if fuzz.told else 0
-
 
 if __name__ == '__main__':
     sys.exit(main(sys.argv[1:]))

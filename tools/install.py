@@ -63,10 +63,8 @@ Libs: -L${{libdir}} -lua
 Cflags: -I${{includedir}}
 """
 
-
 def say(what: str) -> None:
     print("install: " + what, flush=True)
-
 
 def run(*words: str, **env: str) -> str:
     done = subprocess.run(words, cwd=TOP, stdout=subprocess.PIPE, text=True, env={**os.environ, **env}, check=False)
@@ -74,11 +72,9 @@ def run(*words: str, **env: str) -> str:
         raise SystemExit(f"install: {' '.join(words[:4])} .. ended with status {done.returncode}\n{done.stdout[-2000:]}")
     return done.stdout
 
-
 def tool(name: str) -> str:
     """A tool of the machine, by the environment's name for it."""
     return os.environ.get(name.upper(), name)
-
 
 def version_in(source: str) -> str:
     """The version, as the program's own text has it.
@@ -87,7 +83,6 @@ def version_in(source: str) -> str:
     '0.1.0'
     """
     return re.search(r'"ua (\S+) ', source).group(1)
-
 
 class Tree:
     """What is installed, in a folder of its own until all of it is there."""
@@ -171,7 +166,6 @@ class Tree:
                     os.remove(place)
                 shutil.copy2(os.path.join(at, name), place, follow_symlinks=False)
 
-
 def source() -> str:
     """The commit, and whether files differ from it."""
     try:
@@ -179,7 +173,6 @@ def source() -> str:
         return commit + " changed" * bool(run("git", "status", "--porcelain").strip())
     except (SystemExit, FileNotFoundError):
         return "of no commit"
-
 
 def proved() -> tuple[str, str]:
     """The program and the archive that are proved; what the gate kept is taken first."""
@@ -189,7 +182,6 @@ def proved() -> tuple[str, str]:
         if subprocess.run(words, cwd=os.path.join(crates, crate), stdout=sys.stderr, check=False).returncode:
             raise SystemExit(f"install: {crate} is not proved")
     return os.path.join(crates, "ua_cli/out/ua_cli"), os.path.join(crates, "ua_c/out/libua_c.a")
-
 
 def option(words: list[str], name: str) -> str:
     """The word behind an option, which are taken out.
@@ -204,7 +196,6 @@ def option(words: list[str], name: str) -> str:
     given = words[at + 1:at + 2]
     del words[at:at + 2]
     return given[0] if given else ""
-
 
 # ---- what is installed is tried
 
@@ -272,18 +263,15 @@ fn main() -> ua::Result<()> {
 }
 """
 
-
 def same(what: str, got: object, wanted: object) -> None:
     if got != wanted:
         raise SystemExit(f"install: {what} is {got!r} and not {wanted!r}")
     say(f"{what}: as wanted")
 
-
 def is_there(tool: str, what: str) -> bool:
     if not shutil.which(tool):
         say(f"no {tool}: {what} is passed over")
     return bool(shutil.which(tool))
-
 
 def try_record(root: str) -> str:
     """The sums of the record, and the program against what it says; how it was built comes back."""
@@ -301,7 +289,6 @@ def try_record(root: str) -> str:
         same("whether ua version says unproved", "unproved" in line.split(), given["built"] == "unproved")
     return given["built"]
 
-
 def try_symbols(root: str, header: str) -> None:
     plain = re.sub(r"static inline .*?\n}|/\*.*?\*/", "", header, flags=re.S)
     wanted = sorted(set(re.findall(r"\b(ua_\w+)\(", plain)))
@@ -311,7 +298,6 @@ def try_symbols(root: str, header: str) -> None:
     if is_there("readelf", "the soname"):
         found = re.search(r"SONAME.*\[(.*)\]", run("readelf", "-d", f"{root}/lib/libua.so.0"))
         same("the soname", found and found.group(1), "libua.so.0")
-
 
 def try_compiling(root: str, work: str) -> None:
     """A program in C and one in C++, against the shared library, and the first against the static one too."""
@@ -332,7 +318,6 @@ def try_compiling(root: str, work: str) -> None:
     same("a program with the static library", run(f"{work}/static"), PRINTED)
     same("its version by pkg-config", run("pkg-config", "--modversion", "ua", **where), run(f"{root}/bin/ua", "version").split()[1] + "\n")
 
-
 def try_modules(root: str, work: str) -> None:
     """A program over each module, with the libraries that are there."""
     share = f"{root}/share/ua"
@@ -343,7 +328,6 @@ def try_modules(root: str, work: str) -> None:
             file.write(RUST.replace("SHARE", share))
         run("rustc", "--edition", "2024", "-O", f"{work}/try.rs", "-C", f"link-arg={root}/lib/libua.a", "-o", f"{work}/rust")
         same("a program in Rust", run(f"{work}/rust"), PRINTED)
-
 
 def try_pages(root: str) -> None:
     pages = sorted(os.listdir(f"{root}/share/man/man1")) if os.path.isdir(f"{root}/share/man/man1") else []
@@ -356,7 +340,6 @@ def try_pages(root: str) -> None:
         script = f'. "{words}"; COMP_WORDS=(ua read 4840 --na); COMP_CWORD=3; _ua; echo "${{COMPREPLY[*]}}"'
         same("a word that bash completes", run("bash", "-c", script), "--names\n")
 
-
 def try_all(root: str) -> None:
     """Tries what is installed in a folder."""
     with tempfile.TemporaryDirectory(prefix="ua-try-") as work:
@@ -368,7 +351,6 @@ def try_all(root: str) -> None:
         try_modules(root, work)
         try_pages(root)
         say(f"all of it, built {how}")
-
 
 def put_all(to: str, program: str, library: str, is_unproved: bool) -> None:
     """Installs what is proved, these files, or builds without a proof, into a folder."""
@@ -385,12 +367,10 @@ def put_all(to: str, program: str, library: str, is_unproved: bool) -> None:
         tree.move(to)
         say(f"{len(tree.files()) + 2} files are in {to}; {RECORD} tells what was built")
 
-
 # ---- a version
 
 GATE = os.path.join(TOP, ".ci", "run")
 PASSED = re.compile(r"\d+ passed, 0 failed")
-
 
 def judge(version: str) -> None:
     """Ends where this commit is none of this version."""
@@ -402,7 +382,6 @@ def judge(version: str) -> None:
     if not re.search(rf"^## \[?v?{re.escape(version)}\b", text_of(os.path.join(TOP, "CHANGELOG.md")), re.M):
         raise SystemExit(f"release: CHANGELOG.md has no heading of {version}")
 
-
 def passed(gate: list[str]) -> str:
     """The last line of the gate, which passed; its lines are shown as they come."""
     line = ""
@@ -412,7 +391,6 @@ def passed(gate: list[str]) -> str:
     if running.returncode or not PASSED.fullmatch(line.strip()):
         raise SystemExit(f"release: the gate did not pass: status {running.returncode}, and last {line.strip()!r}")
     return line.strip()
-
 
 def libraries_of_kit(crates: str) -> list[str]:
     """The libraries of the kit that the installed crates use, by crates.txt.
@@ -427,13 +405,11 @@ def libraries_of_kit(crates: str) -> list[str]:
         found |= {it for it in uses.get(name, []) if it not in uses}
     return sorted(found)
 
-
 def called_by(path: str) -> list[str]:
     """The functions of the C library that a file calls: what they do is a statement, and not proved."""
     words = ["nm", "-u"] + (["-D"] if path.endswith("/ua") else [])
     names = re.findall(r"^\s+[Uw] (\w+)", run(*words, path), re.M)
     return sorted({it for it in names if not re.match(r"_ITM_|__cxa_|__gmon|__libc_start|_GLOBAL_OFFSET", it)})
-
 
 def trusted(root: str) -> list[str]:
     """What is trusted: the kit, the statements of its libraries, and those of the C functions that the files call."""
@@ -443,7 +419,6 @@ def trusted(root: str) -> list[str]:
         f"trusted the C functions that bin/ua calls: {' '.join(called_by(f'{root}/bin/ua'))}",
         f"trusted the C functions that lib/libua.a calls: {' '.join(called_by(f'{root}/lib/libua.a'))}",
     ]
-
 
 def archive(root: str, name: str, moment: int) -> bytes:
     """A folder as a tar file: sorted, with one time and no owners."""
@@ -458,7 +433,6 @@ def archive(root: str, name: str, moment: int) -> bytes:
                 tar.addfile(one, file if one.isreg() else None)
     return made.getvalue()
 
-
 def put(folder: str, files: dict[str, bytes]) -> None:
     os.makedirs(folder, exist_ok=True)
     files["SHA256SUMS"] = "".join(f"{hashlib.sha256(text).hexdigest()}  {name}\n" for name, text in sorted(files.items())).encode()
@@ -466,7 +440,6 @@ def put(folder: str, files: dict[str, bytes]) -> None:
         with open(os.path.join(folder, name), "wb") as file:
             file.write(text)
         print(f"release: {os.path.join(folder, name)}")
-
 
 def release(version: str, gate: str, to: str, program: str, library: str) -> None:
     judge(version)
@@ -483,7 +456,6 @@ def release(version: str, gate: str, to: str, program: str, library: str) -> Non
             f"{name}-linux-x86_64.tar.gz": archive(root, name, moment), "RECORD": record.encode(),
             "DEFINITIONS.md": write_definitions.definitions_page().encode(),
         })
-
 
 def main(words: list[str]) -> int:
     program, library, at, version = (option(words, it) for it in ("--program", "--library", "--at", "--release"))
@@ -504,7 +476,6 @@ def main(words: list[str]) -> int:
             put_all(f"{work}/opt/ua", program, library, is_unproved)
             try_all(f"{work}/opt/ua")
     return 0
-
 
 if __name__ == "__main__":
     sys.exit(main(sys.argv[1:]))

@@ -34,19 +34,15 @@ from sockets import ANSWERED, NULL, PORT, PUMP, SENT, TOP, Program, Talk, chunks
 
 PLAIN_C = os.path.join(TOP, 'tools/plain_c')
 
-
 # ---- instructions
 
 MOMENT = 132000000000000000
 
-
 def text(octets: bytes) -> bytes:
     return struct.pack('<I', len(octets)) + octets
 
-
 def name(number: int) -> bytes:
     return b'Plant.Area1.Pump%04d.Flow' % number
-
 
 def request_of(kind: int, handle: int, front: bytes, count: int, rest: Callable[[int], bytes]) -> bytes:
     """A request over so many nodes."""
@@ -54,24 +50,19 @@ def request_of(kind: int, handle: int, front: bytes, count: int, rest: Callable[
     items = b''.join(b'\3\1\0' + text(name(i)) + struct.pack('<I', 13) + NULL + rest(i) for i in range(count))
     return head + front + struct.pack('<I', count) + items
 
-
 def read_request(handle: int, count: int) -> bytes:
     return request_of(631, handle, struct.pack('<dI', 0.0, 2), count, lambda i: bytes(2) + NULL)
 
-
 def write_request(handle: int, count: int) -> bytes:
     return request_of(673, handle, b'', count, lambda i: struct.pack('<BBi', 1, 6, i * 7))
-
 
 def read_response(handle: int, count: int) -> bytes:
     values = b''.join(struct.pack('<BBiqq', 0x0D, 6, i * 1000, MOMENT, MOMENT) for i in range(count))
     return struct.pack('<BBHqIIB', 1, 0, 634, MOMENT, handle, 0, 0) + NULL + bytes(3) + struct.pack('<I', count) + values + NULL
 
-
 def stream(begun: list[bytes], messages: int, message: Callable[[int, int], bytes], nodes: int) -> bytes:
     """What one side sends: what opens a connection and a session, and messages over so many nodes each."""
     return b''.join(begun[:4]) + b''.join(chunks(message(4 + i, nodes), 4 + i, size=1 << 20)[0] for i in range(messages))
-
 
 def files(elements: int = 1000, messages: int = 800) -> dict[str, bytes]:
     """What is worked on, by the names of its files."""
@@ -91,12 +82,10 @@ def files(elements: int = 1000, messages: int = 800) -> dict[str, bytes]:
         'nodes': b''.join(b'ns=1;s=%s\trw\tFlow\tInt32\t%d\n' % (name(i), i * 1000) for i in numbers),
     }
 
-
 def write_files(folder: str, made: dict[str, bytes]) -> None:
     for file, octets in made.items():
         with open(f'{folder}/{file}', 'wb') as out:
             out.write(octets)
-
 
 # The row; the words of bench_messages and those of C, in which a name of a file stands for it; the turns of the
 # two runs, and how many units a turn has, of each.
@@ -132,7 +121,6 @@ ROWS = [
 CALLS = [('ua_connection_step', 'N', (100, 600)), ('ua_node_set', '1 N', (100, 600))]
 COMPILERS = [['gcc', '-O2'], ['clang', '-O3', '-march=x86-64-v2']]
 
-
 def counted(words: list[str], within: str = '') -> int:
     """The instructions of a run, or those of its calls of one function."""
     ran = subprocess.run(
@@ -144,7 +132,6 @@ def counted(words: list[str], within: str = '') -> int:
         sys.exit(f'{" ".join(words)}: {ran.stdout}{ran.stderr}')
     return int(found.group(1))
 
-
 def page_faults(words: list[str]) -> int:
     """The page faults of a run for which nothing was read from a disk."""
     with subprocess.Popen(words, stdout=subprocess.DEVNULL) as run:
@@ -152,7 +139,6 @@ def page_faults(words: list[str]) -> int:
     if run.returncode:
         sys.exit(f'{" ".join(words)}: {run.returncode}')
     return usage.ru_minflt
-
 
 def unit(
     program: str, words: str, turns: tuple[int, int, int | str], folder: str, count: Callable[[list[str]], int] = counted,
@@ -168,7 +154,6 @@ def unit(
     runs = [count([program] + [str(n) if w == 'N' else w for w in named]) for n in (low, high)]
     return (runs[1] - runs[0]) / ((high - low) * units)
 
-
 def count_calls(folder: str, wanted: list[str]) -> None:
     """Prints what a call of the C library costs, where it is built."""
     calls = [it for it in CALLS if not wanted or it[0] in wanted]
@@ -181,13 +166,11 @@ def count_calls(folder: str, wanted: list[str]) -> None:
         low, high = [counted([steps] + [str(n) if it == 'N' else it for it in words.split()], call) for n in turns]
         print(f'{call:22} {(high - low) / (turns[1] - turns[0]):10.2f}', flush=True)
 
-
 def count_faults(program: str, folder: str, wanted: list[str]) -> None:
     """Prints how many page faults a further turn of each row costs."""
     for row, words, _, (low, high, _), _ in ROWS:
         if not wanted or row in wanted:
             print(f'{row:22} {unit(program, words, (low, high, 1), folder, page_faults):10.2f}', flush=True)
-
 
 def count_rows(program: str, folder: str, wanted: list[str]) -> None:
     """Prints for each row the instructions of a unit: the program's, those of C, and the ratios to them."""
@@ -204,14 +187,12 @@ def count_rows(program: str, folder: str, wanted: list[str]) -> None:
         ratios = [f'{a / b:6.2f}' for b in plain]
         print(f'{row:22} {a:10.2f}', *(f'{b:10.2f}' for b in plain), *ratios, flush=True)
 
-
 # ---- requests a second
 
 NODES, ELEMENTS = 1000, 262144
 # What is asked, how often, in groups of how many, of how many nodes each.
 Row = tuple[str, int, int, int]
 TIMED: list[Row] = [('read', 60000, 1, 1), ('read', 96000, 64, 1), ('read', 2000, 1, NODES), ('write', 96000, 64, 1), ('array', 1000, 1, 1)]
-
 
 def table(folder: str) -> str:
     path = os.path.join(folder, 'table.txt')
@@ -220,14 +201,12 @@ def table(folder: str) -> str:
             file.write('ns=1;s=Plant.Area1.Pump%06d.Flow\trw\tPump %d\tInt32\t%d\n' % (k, k, 1000 * k))
     return path
 
-
 def array_of(folder: str) -> str:
     """A node file of one array of a megabyte."""
     path = os.path.join(folder, 'array.txt')
     with open(path, 'w', encoding='ascii') as file:
         file.write('ns=1;s=Plant.Area1.Pump000000.Flow\tr\tRow\tInt32[]\t%s\n' % ','.join(map(str, range(ELEMENTS))))
     return path
-
 
 def told(words: list[str]) -> re.Match[str]:
     """What the client in C tells: the octets up and down of a request, and the requests a second."""
@@ -238,13 +217,11 @@ def told(words: list[str]) -> re.Match[str]:
     assert found, out
     return found
 
-
 def asked(load: str, port: int, server: subprocess.Popen[bytes], row: Row) -> re.Match[str]:
     kind, count, group, nodes = row
     table_of = '1' if kind == 'array' else str(NODES)
     what = 'write' if kind == 'write' else 'read'
     return told([load, str(port), str(count), str(group), str(nodes), what, '0', table_of, str(server.pid)])
-
 
 def of_program(load: str, program: str, nodes: str, row: Row, *options: str) -> re.Match[str]:
     words = [program, 'serve', nodes, str(PORT), '--connections', '1', *options]
@@ -253,10 +230,8 @@ def of_program(load: str, program: str, nodes: str, row: Row, *options: str) -> 
         server.stdout.readline()
         return asked(load, PORT, server, row)
 
-
 def of_echo(load: str, row: Row, found: re.Match[str]) -> int:
     return int(told([load, 'echo', str(row[1]), str(row[2]), found.group(1), found.group(2)]).group(3))
-
 
 def tell_times(program: str, rounds: int) -> None:
     with tempfile.TemporaryDirectory() as folder:
@@ -271,7 +246,6 @@ def tell_times(program: str, rounds: int) -> None:
                 ours, many, echo = int(found.group(3)), int(of_program(load, program, given, row, '--at-once', '16').group(3)), of_echo(load, row, found)
                 print('  ua %d, with --at-once %d, echo %d a second; to the echo %.2f, %.2f' % (ours, many, echo, ours / echo, many / echo), flush=True)
 
-
 def tell_idle(program: str) -> None:
     with node_file(PUMP) as nodes:
         server = Program(program, nodes, 'all', '--at-once', '1024')
@@ -279,7 +253,6 @@ def tell_idle(program: str) -> None:
         talks = [Talk() for _ in range(1000)]
         print('1000 idle connections with a session: %.1f KiB each' % ((most_memory(server.process.pid) - before) / len(talks)))
         server.process.kill()
-
 
 # ---- allocations
 
@@ -307,7 +280,6 @@ def refuse_each(words: list[str], given: bytes) -> None:
             print(f"{len(at)} runs ({', '.join(map(str, at[:6]))}{', ..' * (len(at) > 6)}): status {status}, output {out}, {err!r}")
         print(f'{sum(map(len, ends.values()))} allocations refused in turn; with ample memory status {good.returncode}, {len(good.stdout)} octets of output')
 
-
 def main(words: list[str]) -> None:
     word, rest = (words + [''])[0], words[1:]
     if word == 'count' and rest:
@@ -330,7 +302,6 @@ def main(words: list[str]) -> None:
         refuse_each(rest, given)
     else:
         raise SystemExit(__doc__)
-
 
 if __name__ == '__main__':
     main(sys.argv[1:])

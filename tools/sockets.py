@@ -31,7 +31,6 @@ PUMP = 'ns=1;s=Pump\trw\tPump\tInt32\t5\n'
 MARKS: list[socket.socket] = []
 Send = Callable[[socket.socket, bytes], None]
 
-
 def free_port() -> int:
     """A port that is free, whose number has four digits; no other process takes it by this function as long as this one runs."""
     while True:
@@ -46,15 +45,12 @@ def free_port() -> int:
             MARKS.append(mark)
             return port
 
-
 PORT = free_port()
-
 
 def check(holds: object, what: str) -> None:
     """Ends the trial where this does not hold."""
     if not holds:
         raise SystemExit('%s: %s' % (os.path.basename(sys.argv[0]).removesuffix('.py'), what))
-
 
 @contextlib.contextmanager
 def node_file(text: str) -> Iterator[str]:
@@ -64,12 +60,10 @@ def node_file(text: str) -> Iterator[str]:
         nodes.flush()
         yield nodes.name
 
-
 def run(program: str, words: list[str]) -> tuple[int, str, str]:
     """The program with these words: its status, and what it prints."""
     done = subprocess.run([program] + words, capture_output=True, timeout=20)
     return done.returncode, done.stdout.decode(), done.stderr.decode()
-
 
 def told_of(process: int, name: str) -> str:
     """What the system tells of a process; nothing where it ended."""
@@ -79,12 +73,10 @@ def told_of(process: int, name: str) -> str:
     except OSError:
         return ''
 
-
 def most_memory(process: int) -> int:
     """The most memory that a process held, in KiB; 0 where it ended."""
     found = re.search(r'VmHWM:\s*(\d+) kB', told_of(process, 'status'))
     return int(found.group(1)) if found else 0
-
 
 # ---- streams
 
@@ -99,18 +91,15 @@ def frames(octets: bytes) -> Iterator[bytes]:
         yield octets[:size]
         octets = octets[size:]
 
-
 def written_out(name: str) -> bytes:
     """A stream that is written out, over the port of this process."""
     with open(os.path.join(STREAMS, name), 'rb') as file:
         return file.read().replace(b'4840', b'%d' % PORT)
 
-
 CLIENT, SERVER = written_out('client.bin'), written_out('server.bin')
 SENT, ANSWERED = list(frames(CLIENT)), list(frames(SERVER))
 HELLO, OPEN, CREATE, ACTIVATE, WRITE, READ, CLOSE, LEAVE = SENT
 ACK, OPENED, CREATED, ACTIVATED, WRITTEN, VALUE, CLOSED = ANSWERED
-
 
 def frame_of(frame: bytes, channel: int, session: int, from_server: bool = False) -> bytes:
     """A frame that is written out, for a channel and a session of other numbers."""
@@ -128,7 +117,6 @@ def frame_of(frame: bytes, channel: int, session: int, from_server: bool = False
                 struct.pack_into('<H', made, place + 2, session)
     return bytes(made)
 
-
 def numbered(of: bytes, number: int, handle: int | None = None) -> bytes:
     """A frame with this sequence number and request id, and in a request or response this handle."""
     frame = bytearray(of)
@@ -136,7 +124,6 @@ def numbered(of: bytes, number: int, handle: int | None = None) -> bytes:
     if handle is not None:
         struct.pack_into('<I', frame, handle, number)
     return bytes(frame)
-
 
 def chunks(body: bytes, number: int, channel: int = 1, request: int | None = None, size: int = CHUNK) -> list[bytes]:
     """The chunks of a message, numbered from there on.
@@ -148,13 +135,11 @@ def chunks(body: bytes, number: int, channel: int = 1, request: int | None = Non
     return [struct.pack('<4sIIIII', b'MSGC' if place + 1 < len(cut) else b'MSGF', 24 + len(it), channel, 1, number + place, request or number) + it
             for place, it in enumerate(cut)]
 
-
 def opening(body: bytes) -> bytes:
     """The one chunk of an OPN with this body."""
     policy = b'http://opcfoundation.org/UA/SecurityPolicy#None'
     front = struct.pack('<II', 0, len(policy)) + policy + 2 * NULL + struct.pack('<II', 1, 1)
     return struct.pack('<4sI', b'OPNF', 8 + len(front) + len(body)) + front + body
-
 
 def is_answer(got: bytes, wanted: bytes) -> bool:
     """Whether octets are those that are wanted, at any moments.
@@ -169,7 +154,6 @@ def is_answer(got: bytes, wanted: bytes) -> bool:
         place += len(part) + len(MOMENT)
     return len(got) == len(wanted)
 
-
 # ---- a client
 
 def connect(port: int = PORT) -> socket.socket:
@@ -178,7 +162,6 @@ def connect(port: int = PORT) -> socket.socket:
     line.settimeout(60)
     return line
 
-
 def read_all(line: socket.socket) -> bytes:
     """What comes until the other end has closed."""
     out = b''
@@ -186,27 +169,22 @@ def read_all(line: socket.socket) -> bytes:
         out += piece
     return out
 
-
 def read_frame(line: socket.socket) -> bytes:
     """The next frame; nothing where the connection ends."""
     head = line.recv(8, socket.MSG_WAITALL)
     return head + line.recv(struct.unpack_from('<I', head, 4)[0] - 8, socket.MSG_WAITALL) if len(head) == 8 else b''
-
 
 def drop(line: socket.socket) -> None:
     """Resets a connection."""
     line.setsockopt(socket.SOL_SOCKET, socket.SO_LINGER, struct.pack('ii', 1, 0))
     line.close()
 
-
 def at_once(line: socket.socket, octets: bytes) -> None:
     line.sendall(octets)
-
 
 def one_by_one(line: socket.socket, octets: bytes) -> None:
     for place in range(len(octets)):
         line.sendall(octets[place:place + 1])
-
 
 class Talk:
     """A connection with a session, or without, whose channel and session are learned from what the server answers.
@@ -271,7 +249,6 @@ class Talk:
         self.send(self.line, self.message(LEAVE))
         check(self.line.recv(1) == b'', 'an answer to a CLO')
         self.line.close()
-
 
 # ---- the program as a server
 
@@ -339,7 +316,6 @@ class Program:
         check(self.process.poll() is None, 'an end behind %d connections' % self.connections)
         self.process.terminate()
         self.process.communicate(timeout=20)
-
 
 # ---- a server that is no program
 

@@ -32,7 +32,6 @@ from kit import TOP
 # No part takes so many seconds.
 LIMIT = 1800
 
-
 class Part(NamedTuple):
     """A part: the words that run it, the parts that have to pass before, whether it waits for times, and where it runs."""
     name: str
@@ -41,10 +40,8 @@ class Part(NamedTuple):
     timed: bool = False
     folder: str = TOP
 
-
 def tool(name: str, *words: str) -> list[str]:
     return [sys.executable, "-B", os.path.join(HERE, name + ".py"), *words]
-
 
 def checks() -> list[Part]:
     """The parts that need no build."""
@@ -54,7 +51,6 @@ def checks() -> list[Part]:
         Part("C header", tool("check_c_header")), Part("lines", tool("break_lines", "--check")),
         Part("pages", tool("write_pages", "--check")), Part("doctests", [sys.executable, "-B", "-m", "doctest", *tested], folder=HERE),
     ]
-
 
 def trials(program: str, library: str, unproved: tuple[str, ...], ua: tuple[str, ...], ua_c: tuple[str, ...]) -> list[Part]:
     """The parts that try a program and a library, of which some are not proved; they need these parts."""
@@ -67,7 +63,6 @@ def trials(program: str, library: str, unproved: tuple[str, ...], ua: tuple[str,
         Part("rows", tool("try_rows", *["--unproved"] * ("program" in unproved), program), ua),
     ]
     return parts + [Part("installed", tool("install", "--try", "--program", program, *linked), both)] * bool(library)
-
 
 class Run:
     """Parts that run, and what came of each."""
@@ -155,7 +150,6 @@ class Run:
         print(f"{len(self.passed) + self.counted[0]} passed, {failed} failed", flush=True)
         return 1 if failed else 0
 
-
 def proved_trials(run: Run, folder: str) -> None:
     """Tries what `rt ci` proved."""
     built = os.path.join(TOP, "crates", "ua_cli", "out", "ua_cli")
@@ -175,10 +169,8 @@ def proved_trials(run: Run, folder: str) -> None:
         parts.append(Part("other rows", tool("try_rows", built + ".by-rattle")))
     run.all(parts)
 
-
 def kit_words(path: str, what: str = "library") -> list[str]:
     return tool("kit", "unproved", what, path)
-
 
 def main(words: list[str]) -> int:
     if words not in ([], ["--prove"]):
@@ -197,7 +189,6 @@ def main(words: list[str]) -> int:
         if not run.failed:
             proved_trials(run, folder)
         return run.end()
-
 
 if __name__ == "__main__":
     sys.exit(main(sys.argv[1:]))

@@ -49,7 +49,6 @@ RUST_USE = re.compile(r"^\s*(?:pub(?:\([^)]*\))? )?use ([\w:]+?)(?:::\{([^}]*)\}
 RUST_ITEM = re.compile(r"^(?:pub(?:\([^)]*\))?\s+)?(?P<kind>struct|enum|trait|const|type)\s+(?P<name>\w+)", re.M)
 MEMBER = re.compile(r"\bghost\s+(?P<name>\w+)\s*(?::|=)\s*\{")
 
-
 @dataclass(frozen=True)
 class Unit:
     """A definition: its crate, its name, the file and line where it stands, and whether it is the kit's."""
@@ -60,7 +59,6 @@ class Unit:
     line: int
     of_kit: bool = False
     comment: str = field(default="", compare=False)
-
 
 def tokens(text: str) -> Iterator[tuple[str, str]]:
     """The names in a text, each with the name behind its dot; fields, behind another name's dot, are left out.
@@ -75,14 +73,12 @@ def tokens(text: str) -> Iterator[tuple[str, str]]:
         behind = re.match(r"\.([^\s(){}\[\],;.]+)", text[m.end():m.end() + 80])
         yield m.group(), behind.group(1) if behind else ""
 
-
 def parts_of(name: str) -> list[str]:
     """What stands in a text where a word of this name is used.
     >>> parts_of("◌≡◌"), parts_of("if◌then◌else◌"), parts_of("length"), parts_of("[]")
     (['≡'], ['if', 'then', 'else'], ['length'], ['[]'])
     """
     return [it for it in name.split("◌") if it]
-
 
 def imports_in(text: str) -> list[tuple[int, str, str, str]]:
     """What `use` lines bring: where, the name here, the module, and its name there, or none for a module.
@@ -100,7 +96,6 @@ def imports_in(text: str) -> list[tuple[int, str, str, str]]:
                 found.append((m.start(), (alias or origin).strip(), m.group("path"), origin.strip()))
     return found
 
-
 @lru_cache(None)
 def kit() -> str:
     """The folder of the kit's sources."""
@@ -108,18 +103,15 @@ def kit() -> str:
     near = os.path.join(os.path.dirname(os.path.dirname(os.path.realpath(found))), "rattle") if found else ""
     return next((it for it in (near, "/opt/rattle/rattle") if os.path.isdir(it)), "")
 
-
 @lru_cache(None)
 def text_of(path: str) -> str:
     return docs.read(path) if os.path.isfile(path) else ""
-
 
 @lru_cache(None)
 def code_of(path: str) -> str:
     """A file without its comments, each character in its place."""
     text = text_of(path)
     return docs.bare(text) if path.endswith(".rt") else re.sub(r"--[^\n]*", lambda m: " " * len(m.group()), text)
-
 
 def comment_above(path: str, at: int) -> str:
     """The comment above a place, on one line."""
@@ -131,23 +123,19 @@ def comment_above(path: str, at: int) -> str:
         found.insert(0, re.sub(r"^\s*(?:--|///?) ?", "", lines.pop()))
     return " ".join(it.strip() for it in found).strip()
 
-
 def unit(crate: str, name: str, path: str, at: int) -> Unit:
     of_kit = not path.startswith(TOP + os.sep)
     return Unit(crate, name, path, text_of(path).count("\n", 0, at) + 1, of_kit, "" if of_kit else comment_above(path, at))
 
-
 def folder_of(crate: str) -> str:
     own = os.path.join(TOP, "crates", crate)
     return own if os.path.isdir(own) else os.path.join(kit(), crate)
-
 
 @lru_cache(None)
 def sources(crate: str) -> list[str]:
     """The source files of a crate."""
     src = os.path.join(folder_of(crate), "src")
     return [os.path.join(at, it) for at, _, names in sorted(os.walk(src)) for it in sorted(names) if it.endswith(".rt")]
-
 
 def rust_file(crate: str, modules: list[str]) -> str:
     """The file of a module, or the nearest file above it."""
@@ -157,7 +145,6 @@ def rust_file(crate: str, modules: list[str]) -> str:
             if os.path.isfile(path):
                 return path
     return os.path.join(src, "lib.rt")
-
 
 @lru_cache(None)
 def heads(path: str) -> dict[str, tuple[str, int, str]]:
@@ -178,7 +165,6 @@ def heads(path: str) -> dict[str, tuple[str, int, str]]:
                 found.setdefault(m.group(1), found[name])
     return found
 
-
 @lru_cache(None)
 def rust_items(path: str) -> dict[str, tuple[str, int, int]]:
     """The types, traits and constants of a source file: kind, begin and end."""
@@ -188,7 +174,6 @@ def rust_items(path: str) -> dict[str, tuple[str, int, int]]:
         end = stop.end() if stop and stop.group() == ";" else docs.close(text, stop.start()) if stop else len(text)
         found[m.group("name")] = (m.group("kind"), m.start(), end)
     return found
-
 
 @lru_cache(None)
 def rust_item(crate: str, modules: tuple[str, ...], name: str) -> tuple[Unit, ...]:
@@ -206,7 +191,6 @@ def rust_item(crate: str, modules: tuple[str, ...], name: str) -> tuple[Unit, ..
                 rest = within[1:] if within[0] in ("crate", "self") else within
                 return rust_item(crate, tuple(rest), word.split(" as ")[0].strip()) if own else rust_item(within[0], tuple(within[1:]), word.split(" as ")[0].strip())
     return tuple(unit(crate, name, it, rust_items(it)[name][1]) for it in sources(crate) if name in rust_items(it)) if modules else ()
-
 
 @lru_cache(None)
 def word(module: str, name: str) -> tuple[Unit, ...]:
@@ -230,7 +214,6 @@ def word(module: str, name: str) -> tuple[Unit, ...]:
     lemma = re.search(rf"^(?:pub )?{re.escape(name)}(?= |$)", text_of(path), re.M)
     return (unit(crate, name, path, lemma.start()),) if lemma else ()
 
-
 @lru_cache(None)
 def mounted(library: str) -> str:
     """The folder of a library of the kit's logic; none for what is built into antt."""
@@ -238,7 +221,6 @@ def mounted(library: str) -> str:
     found = re.search(rf'"{library}": "([^"]+)"', text_of(os.path.join(logic, "antt-project.json")))
     near = os.path.normpath(os.path.join(logic, found.group(1))) if found else ""
     return os.path.join(near, "src") if near and os.path.isdir(os.path.join(near, "src")) else near
-
 
 def elsewhere(crate: str, folder: str, way: list[str], name: str) -> tuple[Unit, ...]:
     """A word of a module that has no file: a definition, whose constructors it holds, or a module that the library re-exports."""
@@ -248,7 +230,6 @@ def elsewhere(crate: str, folder: str, way: list[str], name: str) -> tuple[Unit,
     lib = os.path.join(folder_of(crate), "specs", "Lib.antt")
     given = [module for _, here, module, origin in imports_in(code_of(lib)) if here == way[0] and not origin]
     return word(".".join([given[0], *way[1:]]), name) if given else ()
-
 
 def declared(crate: str, modules: tuple[str, ...], name: str) -> tuple[Unit, ...]:
     """A type by its module; or the impl for a type and a trait that this name, of both, stands for."""
@@ -260,7 +241,6 @@ def declared(crate: str, modules: tuple[str, ...], name: str) -> tuple[Unit, ...
             found += (unit(crate, f"{head.group(1)} for {head.group(2)}", path, m.start()),)
     derived = [it for it in rust_items(path) if name.startswith(it)]
     return found or rust_item(crate, modules, max(derived, key=len)) if found or derived else ()
-
 
 class Scope:
     """What names mean at a place of a file."""
@@ -290,7 +270,6 @@ class Scope:
         given = [(head, at) for it, (head, at, _) in heads(self.path).items() if name == it or "◌" in it and name in parts_of(it)]
         return [unit(self.crate, head, self.path, at) for head, at in given]
 
-
 @lru_cache(None)
 def imports_of(path: str) -> list[tuple[tuple[int, int], str, str, str]]:
     """What the `use` lines of a file bring, each with the block of the file in which it holds."""
@@ -298,16 +277,13 @@ def imports_of(path: str) -> list[tuple[tuple[int, int], str, str, str]]:
     whole = (0, len(text) + 1)
     return [(whole if path.endswith(".antt") else docs.block_around(text, start), *rest) for start, *rest in imports_in(text)]
 
-
 def modules_of(path: str) -> tuple[str, ...]:
     below = path.split(os.sep + "src" + os.sep)[-1][:-3].split(os.sep)
     return tuple(it for it in below if it not in ("lib", "main", "mod"))
 
-
 def place_of(it: Unit) -> int:
     """Where the line of a definition begins."""
     return sum(len(line) + 1 for line in text_of(it.path).split("\n")[:it.line - 1])
-
 
 @lru_cache(None)
 def rests_on(it: Unit) -> tuple[Unit, ...]:
@@ -330,7 +306,6 @@ def rests_on(it: Unit) -> tuple[Unit, ...]:
         return tuple(Scope(it.crate, it.path, model.end()).units(members(it.path, model.start(), ("Value", "view"))))
     return tuple(scope.units(text[at:end], types=True))
 
-
 def members(path: str, at: int, names: tuple[str, ...] = ()) -> str:
     """The ghost members of these names, or all, of the block that begins at a place."""
     text = code_of(path)
@@ -342,7 +317,6 @@ def members(path: str, at: int, names: tuple[str, ...] = ()) -> str:
             found.append(text[m.end():docs.close(text, close + given.end() - 1) if given else close])
     return "\n".join(found)
 
-
 def trait_rests_on(it: Unit, at: int, end: int) -> list[Unit]:
     text = code_of(it.path)
     inside = Scope(it.crate, it.path, text.index("{", at) + 1)
@@ -353,20 +327,17 @@ def trait_rests_on(it: Unit, at: int, end: int) -> list[Unit]:
             found += inside.units(signature(text, m), types=True) + inside.units("\n".join(clauses))
     return found
 
-
 def signature(text: str, m: re.Match[str]) -> str:
     """From a function's name up to its clauses or its body."""
     end = docs.CLAUSE.search(text, m.end())
     stop = re.compile(r"[{;]").search(text, docs.close(text, text.index("(", m.end())))
     return text[m.end():min(it.start() for it in (end, stop) if it)]
 
-
 def block_of(path: str, at: int) -> tuple[str, int]:
     """The head of the impl or trait around a place, and where its body begins."""
     text = code_of(path)
     around = [m for m in docs.ITEM.finditer(text) if m.end() <= at < docs.close(text, m.end() - 1) and m.group("kind") in ("impl", "trait")]
     return (text[around[0].start():around[0].end() - 1], around[0].end()) if around else ("", at)
-
 
 def call_rests_on(it: Unit, at: int) -> list[Unit]:
     text = code_of(it.path)
@@ -380,7 +351,6 @@ def call_rests_on(it: Unit, at: int) -> list[Unit]:
         found += Scope(it.crate, it.path, inside).units(members(it.path, text.rindex(block, 0, m.start())))
     return found
 
-
 def calls(name: str) -> list[Unit]:
     """The functions that a path names."""
     crate, *way = name.split("::")
@@ -392,7 +362,6 @@ def calls(name: str) -> list[Unit]:
             if m.group("name") == way[-1] and all(it in types + list(modules_of(path)) for it in way[:-1]) and (way[:-1] or not block):
                 found.append(unit(crate, name, path, m.start()))
     return found
-
 
 def in_order(roots: list[Unit], given: frozenset[str] = frozenset()) -> list[Unit]:
     """The roots and all that they rest on, but for what `given` ones are made of; each before that, unless two rest on each other."""
@@ -410,16 +379,13 @@ def in_order(roots: list[Unit], given: frozenset[str] = frozenset()) -> list[Uni
             stack.append((below, made_of(below)))
     return order[::-1]
 
-
 # ---- what a contract rests on
 
 sys.dont_write_bytecode = True
 LONG = 100
 
-
 def place(it: Unit) -> str:
     return f"{os.path.relpath(it.path, kit() if it.of_kit else TOP)}:{it.line}" if it.path else "built in" if it.crate else "in the kit"
-
 
 def first_words(comment: str) -> str:
     """The first sentence of a comment, or as much of it as fits.
@@ -430,16 +396,13 @@ def first_words(comment: str) -> str:
     sentence = comment.split(". ")[0].rstrip(".")
     return sentence if len(sentence) <= LONG else sentence[:LONG].rsplit(" ", 1)[0] + " .."
 
-
 def show(it: Unit) -> str:
     return f"{place(it)}: {it.name}" + (f"  -- {first_words(it.comment)}" if it.comment else "")
-
 
 def contract_of(it: Unit) -> list[str]:
     """The clauses of a call."""
     m = docs.FUNCTION.search(code_of(it.path), place_of(it))
     return [re.sub(r"\s+", " ", clause) for clause in docs.clauses_of(code_of(it.path), m.end())[0]]
-
 
 def counts(found: list[Unit], aside: list[str]) -> list[str]:
     own = [it for it in found if not it.of_kit]
@@ -449,7 +412,6 @@ def counts(found: list[Unit], aside: list[str]) -> list[str]:
     lines = [f"{len(own) - len(apart)} definitions of this repository, {types} of them types and traits" + (f", and {len(apart)} of {', '.join(aside)}" if aside else "")
              + f"; {len(found) - len(own)} words of the kit"]
     return lines + [f"  {crate}: {n}" for crate, n in sorted(each.items())]
-
 
 def main(words: list[str]) -> int:
     options = {it: words[words.index(it) + 1] for it in ("--aside", "--given") if it in words}
@@ -467,7 +429,6 @@ def main(words: list[str]) -> int:
         print("of the kit:\n" + "\n".join("  " + show(it) for it in found if it.of_kit))
     print("\n".join(counts(found, options.get("--aside", "").split(",") if "--aside" in options else [])))
     return 0
-
 
 if __name__ == "__main__":
     signal.signal(signal.SIGPIPE, signal.SIG_DFL)

@@ -31,7 +31,6 @@ from sockets import is_answer, most_memory, node_file, one_by_one, read_all, rea
 sys.dont_write_bytecode = True
 PLACES, LATE = 50, 12
 
-
 class Bench:
     """Clients of many kinds, and what they saw."""
 
@@ -108,7 +107,6 @@ class Bench:
             lost = [v for b, e, v in self.writes if b > ended[value] and e < start]
             check(not lost, 'a value that was written over: %d by %r' % (value, lost[:1]))
 
-
 def judge_lines(lines: list[str], bench: Bench) -> None:
     """Each connection has its line."""
     told = {}
@@ -121,7 +119,6 @@ def judge_lines(lines: list[str], bench: Bench) -> None:
     check(all(told[number] == 'Closed' for number in bench.closed), 'a connection that was closed ended otherwise')
     outcomes = list(told.values())
     check(outcomes.count('Closed') == len(bench.closed) and outcomes.count('Refused 807E0000') == 2, 'other outcomes')
-
 
 def try_many(program: str, nodes: str) -> None:
     server, bench = Program(program, nodes, PLACES + LATE, '--at-once', str(PLACES)), Bench()
@@ -144,7 +141,6 @@ def try_many(program: str, nodes: str) -> None:
     judge_lines(out.decode().splitlines(), bench)
     print('%d writes, %d reads of many connections' % (len(bench.writes), len(bench.reads)))
 
-
 def try_places(program: str, nodes: str) -> None:
     """A peer beyond the places waits, and is served once one is free. Lines stand in the order of the ends."""
     server = Program(program, nodes, 3, '--at-once', '2')
@@ -166,7 +162,6 @@ def try_places(program: str, nodes: str) -> None:
     server.expect('connection 1 Closed')
     server.end()
 
-
 def try_standard(program: str, nodes: str) -> None:
     """CurrentTime is that of each answer, on whichever connection, where it is the server's own."""
     server = Program(program, nodes, 3, '--at-once', '2', '--standard')
@@ -184,7 +179,6 @@ def try_standard(program: str, nodes: str) -> None:
     check(times == sorted(set(times)), 'CurrentTime stands still: %r' % times)
     server.end()
 
-
 def try_descriptors(program: str, nodes: str) -> None:
     """A system that gives no connection: that is told, the others are served, and it is tried again."""
     server = Program(program, nodes, 'all', '--at-once', '4', limit=lambda: resource.setrlimit(resource.RLIMIT_NOFILE, (6, 64)))
@@ -197,7 +191,6 @@ def try_descriptors(program: str, nodes: str) -> None:
         Talk().close()
     talk.close()
     server.stop()
-
 
 # ---- one after another
 
@@ -231,17 +224,14 @@ def try_connections(program: str, nodes: str) -> None:
     server.expect_outcome('NoClose')
     server.end()
 
-
 # A ByteString of so many octets, which is read so often at once, is more than the program may hold.
 LARGE, TIMES = 1000000, 64
 # A Write of so many null Strings has a MiB, and stores 14 MB.
 ROWS, ELEMENTS = 100, 262000
 
-
 def item(name: str, attribute: int, rest: bytes) -> bytes:
     """An item for an attribute of a node in namespace 1."""
     return b'\x03\x01\0' + struct.pack('<I', len(name)) + name.encode() + struct.pack('<Ii', attribute, -1) + rest
-
 
 def write_of(talk: Talk, name: str, value: bytes) -> int:
     """The result of a Write of this value to this node."""
@@ -249,7 +239,6 @@ def write_of(talk: Talk, name: str, value: bytes) -> int:
     _, _, answer, _ = talk.ask(front.replace(b'\x01\x02\x01\0', b'\x01\x02' + struct.pack('<H', talk.session)) + item(name, 13, b'\x01' + value))
     check(answer[24:28] == b'\x01\0\xA4\x02' and answer[52:56] == struct.pack('<I', 1), 'no WriteResponse with one result')
     return int(struct.unpack('<I', answer[56:60])[0])
-
 
 def ask_too_much(limited: bool) -> None:
     """Writes a large value and reads it often at once, over a connection that the program ends, or over one on which it gives up a
@@ -267,7 +256,6 @@ def ask_too_much(limited: bool) -> None:
         first = talk.ask(front + struct.pack('<I', 1) + item('Large', 2, bytes(2) + NULL))[2]
         check(first[24:28] == b'\x01\0\x7A\x02', 'no ReadResponse behind a response that was given up')
     talk.line.close()
-
 
 def try_memory(program: str) -> None:
     """Want of memory ends a connection alone, where all are served; else the program."""
@@ -290,7 +278,6 @@ def try_memory(program: str) -> None:
             server.expect_outcome('NoClose')
             server.stop()
 
-
 def write_rows(server: Program, rows: list[tuple[int, int]]) -> list[int]:
     """The results of Writes over one connection, each of an array of so many null Strings to the row of this number."""
     talk = Talk()
@@ -298,7 +285,6 @@ def write_rows(server: Program, rows: list[tuple[int, int]]) -> list[int]:
     talk.line.close()
     server.expect_outcome('NoClose')
     return results
-
 
 def try_kept(program: str) -> None:
     """Values are stored up to the limit of memory that is said, over all connections; a value that takes less gives its room back."""
@@ -313,7 +299,6 @@ def try_kept(program: str) -> None:
         check(0 < most < 160000, '%d KiB of memory for 64 MiB of values' % most)
         server.stop()
 
-
 def main(words: list[str]) -> None:
     if len(words) != 1:
         raise SystemExit(__doc__)
@@ -327,7 +312,6 @@ def main(words: list[str]) -> None:
         try_standard(program, nodes)
         try_many(program, nodes)
     print('try_at_once: as written out')
-
 
 if __name__ == '__main__':
     main(sys.argv[1:])

@@ -67,16 +67,13 @@ STRICT = ['cc', '-std=c11', '-D_POSIX_C_SOURCE=200809L', *WARNED]
 STRICT_CPP = ['c++', '-std=c++17', '-Wpedantic', '-Wshadow', *WARNED]
 SANITIZED = '-fsanitize=address,undefined'
 
-
 def say(what: str) -> None:
     """Tells of one thing that was tried."""
     print('try_c: ' + what, flush=True)
 
-
 def end(what: str) -> NoReturn:
     """Ends at a difference."""
     raise SystemExit('try_c: ' + what)
-
 
 def run(words: list[str], **how: Any) -> str:
     """What a command prints, that has to end well."""
@@ -85,13 +82,11 @@ def run(words: list[str], **how: Any) -> str:
         end('%r ended with status %d' % (words, done.returncode))
     return done.stdout
 
-
 def same(what: str, got: str, wanted: str) -> None:
     """Tells that this was printed as wanted, or ends."""
     if got != wanted:
         end('%s printed %r and not %r' % (what, got, wanted))
     say('%s: as wanted' % what)
-
 
 class Serving:
     """A server in the background for so many connections, and some more that end as idle, that says when it listens."""
@@ -112,7 +107,6 @@ class Serving:
             end('the server printed %r' % got)
         return [line for line in printed if not line.startswith('connection ')]
 
-
 def stall(port: str) -> socket.socket:
     """A line to a server that is asked on and on, until it takes no more, and whose answers are not read."""
     line = socket.socket()
@@ -128,7 +122,6 @@ def stall(port: str) -> socket.socket:
     except socket.timeout:
         return line
     end('a server took a million requests of a client that reads nothing')
-
 
 class Examples:
     """The examples in a folder of their own, over a library, or compiled alone where there is none."""
@@ -328,13 +321,11 @@ class Examples:
             words = ['valgrind', '--error-exitcode=9', '--leak-check=full', '-q', self.build_c('hammer')]
             print(run([*words, str(pieces // 100), '500', '2', *streams]), end='')
 
-
 def word_behind(flag: str, usual: str) -> str:
     """The word behind a flag; without the flag the usual file, or nothing where there is none."""
     if flag in sys.argv:
         return sys.argv[sys.argv.index(flag) + 1]
     return usual if os.path.exists(usual) else ''
-
 
 def main() -> None:
     library = word_behind('--library', os.path.join(TOP, 'crates/ua_c/out/libua_c.a'))
@@ -362,7 +353,6 @@ def main() -> None:
             say('no crates/ua_cli/out/ua_cli: the program takes no part (rt run in crates/ua_cli makes it)')
         if '--hammer' in sys.argv:
             examples.hammer(int(word_behind('--hammer', '')))
-
 
 if __name__ == '__main__':
     main()

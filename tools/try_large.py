@@ -40,17 +40,14 @@ TEXT, NUMBER = 1, 2
 # What begins a message that opens a channel, and the answer to it.
 OPEN_REQUEST, OPEN_RESPONSE = b'\x01\0\xBE\x01', b'\x01\0\xC1\x01'
 
-
 def header(session: bool) -> bytes:
     """The RequestHeader of the first session, or of none."""
     token = b'\x01\x02\x01\0' if session else b'\0\0'
     return token + bytes(8) + struct.pack('<II', 1, 0) + NULL + bytes(4) + bytes(3)
 
-
 def item(node: int, rest: bytes) -> bytes:
     """An item for the Value of the node, the whole of it."""
     return bytes([0, node]) + struct.pack('<I', 13) + NULL + rest
-
 
 # What begins a message of each kind.
 READ = b'\x01\0\x77\x02' + header(False) + bytes(8) + struct.pack('<I', 2)
@@ -149,7 +146,6 @@ LONG += [
     ('ActivateSessionRequest of a token and a byte', '', TOKEN + b'\x47\x01\1', 2 * NULL, b'a', b'', NULL, b'\0'),
 ]
 
-
 # ---- requests and what is dissected
 
 sys.dont_write_bytecode = True
@@ -165,16 +161,13 @@ MOST = 1048576
 # The most octets of a message that the dissector takes.
 MOST_DISSECTED = 16777216
 
-
 def read(session: bool, count: int) -> bytes:
     items = struct.pack('<I', count) + count * item(TEXT, bytes(2) + NULL)
     return b'\x01\0\x77\x02' + header(session) + bytes(8) + struct.pack('<I', 2) + items
 
-
 def write(session: bool, node: int, value: bytes) -> bytes:
     """A Write of this Variant to the node."""
     return b'\x01\0\xA1\x02' + header(session) + struct.pack('<I', 1) + item(node, b'\x01' + value)
-
 
 def claim() -> bytes:
     """A Write that claims as many items as there are bytes behind its count, none of which can be decoded."""
@@ -182,10 +175,8 @@ def claim() -> bytes:
     count = MOST - len(front) - 4
     return front + struct.pack('<I', count) + count * b'\xFF'
 
-
 def text(octets: int) -> bytes:
     return b'\x0C' + struct.pack('<I', octets) + octets * b'a'
-
 
 def array(session: bool, kind: int, element: bytes) -> bytes:
     """A Write of an array, to a node of another type, of so many of these elements that the body has the most octets."""
@@ -193,18 +184,15 @@ def array(session: bool, kind: int, element: bytes) -> bytes:
     count = (MOST - len(front)) // len(element)
     return write(session, NUMBER, struct.pack('<BI', 0x80 + kind, count) + count * element)
 
-
 def items(front: bytes, rest: bytes, one: bytes, most: int = MOST, first: bytes = b'') -> bytes:
     """A message of as many of these items as the most octets hold, the first of which may be another one."""
     count = (most - len(front) - len(rest) - 4) // len(one)
     return front + struct.pack('<I', count) + (first or one) + (count - 1) * one + rest
 
-
 def within(front: bytes, rest: bytes, one: bytes, before: bytes, behind: bytes, most: int) -> bytes:
     """The same in a body of bytes that has its length ahead."""
     body = items(before, behind, one, most - len(front) - len(rest) - 4)
     return front + struct.pack('<I', len(body)) + body + rest
-
 
 # Arrays whose elements take most memory where they are kept, with their type id and an element.
 ARRAYS = [
@@ -227,11 +215,9 @@ REQUESTS = [
     ('Read of items, no session', MOST, None, items(b'\x01\0\x77\x02' + header(False) + bytes(8) + struct.pack('<I', 2), b'', item(TEXT, bytes(2) + NULL))),
 ]
 
-
 def limit_of(megabytes: int):
     """What limits a run of the program to so many megabytes, if any."""
     return (lambda: resource.setrlimit(resource.RLIMIT_AS, (megabytes << 20, megabytes << 20))) if megabytes else None
-
 
 def attempt(program: str, nodes: str, megabytes: int, request: tuple) -> tuple[str, int]:
     """Sends a request to a run of the program: how its answer ended, and the most memory that the program held."""
@@ -251,11 +237,9 @@ def attempt(program: str, nodes: str, megabytes: int, request: tuple) -> tuple[s
           % (name, len(body), answered, flag or 'none', '%d kB' % memory if memory else 'ended', first, (out + err).decode().strip()), flush=True)
     return flag, memory
 
-
 def framed(body: bytes) -> bytes:
     """The chunks of a message."""
     return opening(body) if body.startswith((OPEN_REQUEST, OPEN_RESPONSE)) else b''.join(chunks(body, 1))
-
 
 def is_waiting(process: int, line: IO[bytes]) -> bool:
     """Whether a process has taken all octets of this line into it, and waits for more."""
@@ -264,12 +248,10 @@ def is_waiting(process: int, line: IO[bytes]) -> bool:
     with open('/proc/%d/stat' % process, encoding='ascii') as file:
         return left[0] == 0 and file.read().rsplit(')', 1)[1].split()[0] == 'S'
 
-
 def send(line: IO[bytes], octets: bytes) -> None:
     """Gives a process these octets, or as many as it takes before it ends."""
     with contextlib.suppress(BrokenPipeError):
         line.write(octets)
-
 
 def dissect(program: str, megabytes: int, message: tuple, most: int, options: list[str]) -> tuple[bytes, int]:
     """Gives a run of `dissect` a message of so many octets: the last line that it printed, or that it read no message, and the
@@ -298,11 +280,9 @@ def dissect(program: str, megabytes: int, message: tuple, most: int, options: li
           % (' '.join(['dissect', *options, name]), len(body), printed, memory, time.monotonic() - start, last.decode()), flush=True)
     return last, memory
 
-
 def dissections() -> list[tuple[tuple, list[str]]]:
     """The messages that are dissected, each without its fields, with them, and with them as people write them."""
     return [(it, options) for options in ([], ['--fields'], ['--fields', '--plain']) for it in [*PRINTED, *LONG]]
-
 
 # ---- long texts
 
@@ -313,23 +293,19 @@ LENGTHS = [100, PIECE - 1, PIECE, PIECE + 1, 2 * PIECE - 1, 2 * PIECE, 2 * PIECE
 # Characters of one to four bytes, among them control characters, a backslash and a carriage return.
 CHARACTERS = ''.join(chr(code) for code in [*range(128), 0x80, 0x85, 0x9F, 0xA0, 0xE9, 0x20AC, 0x2028, 0x1F600])
 
-
 def text_of(size: int) -> str:
     """A text of so many bytes."""
     rounds = CHARACTERS * (size // len(CHARACTERS.encode()) + 1)
     front = rounds.encode()[:size].decode(errors='ignore')
     return front + 'x' * (size - len(front.encode()))
 
-
 def octets_of(size: int) -> bytes:
     """So many bytes."""
     return bytes(place * 7 % 251 for place in range(size))
 
-
 def bytes_of(octets: bytes) -> bytes:
     """A String or a ByteString."""
     return struct.pack('<I', len(octets)) + octets
-
 
 def escaped(text: str) -> str:
     """A text as a field shows it.
@@ -343,7 +319,6 @@ def escaped(text: str) -> str:
         is_control = ord(one) < 0x20 or 0x7F <= ord(one) <= 0x9F
         return ''.join('\\x%02x' % octet for octet in one.encode()) if is_control else one
     return ''.join(shown(one) for one in text)
-
 
 def trials(size: int) -> Iterable[tuple[str, bytes, str, str]]:
     """The side, a body, the path of a field and its text, for a text or bytes of this length."""
@@ -365,7 +340,6 @@ def trials(size: int) -> Iterable[tuple[str, bytes, str, str]]:
     thing = b'\0\x07\1' + bytes_of(octets)
     yield '--server', b'\x01\0\x8D\x01' + RESPONSE[:-3] + thing, 'response_header.additional_header', '0x' + thing.hex()
 
-
 def marked(text: str, marks: str = '') -> str:
     """A text as a value shows it, with these marks by their digits.
 
@@ -377,7 +351,6 @@ def marked(text: str, marks: str = '') -> str:
             return '\\\\'
         return '\\x%02x' % ord(one) if ord(one) < 0x20 or ord(one) == 0x7F or one in marks else one
     return ''.join(shown(one) for one in text)
-
 
 def plain_trials(size: int) -> Iterable[tuple[str, bytes, str, str]]:
     """The same with --plain."""
@@ -416,14 +389,12 @@ def plain_trials(size: int) -> Iterable[tuple[str, bytes, str, str]]:
     ]:
         yield '--server', b'\x01\0\x7A\x02' + RESPONSE + b'\1\0\0\0\1' + value + NULL, 'results[0].value', shown
 
-
 def line_of(program: str, options: list[str], side: str, body: bytes, path: str) -> str | None:
     """The text of a field, as the program prints it, or nothing where it is not printed once."""
     words = [program, 'dissect', '-', '--fields', *options, *([side] if side else [])]
     out = subprocess.run(words, input=framed(body), stdout=subprocess.PIPE, check=False).stdout.decode()
     found = [line.lstrip(' ').removeprefix(path + ' ') for line in out.split('\n') if line.lstrip(' ').startswith(path + ' ')]
     return found[0] if len(found) == 1 and out.split('\n')[-2].startswith('end ') else None
-
 
 def hold_bound(program: str, nodes: str) -> None:
     """Sends the requests of which nothing is to be kept, and dissects messages of each kind."""
@@ -438,7 +409,6 @@ def hold_bound(program: str, nodes: str) -> None:
             raise SystemExit('try_large: %s: not printed whole within %d kB' % (message[0], bound))
     print('try_large: %d requests and %d messages within the bounds' % (len(THINNED), len(dissections())))
 
-
 def try_long(program: str) -> None:
     tried = [(size, options, *it) for size in LENGTHS for options, their in (([], trials), (['--plain'], plain_trials)) for it in their(size)]
     wrong = [(size, path) for size, options, side, body, path, text in tried if line_of(program, options, side, body, path) != text]
@@ -447,7 +417,6 @@ def try_long(program: str) -> None:
     if wrong:
         raise SystemExit(1)
     print('try_large: %d long lines as they should be' % len(tried))
-
 
 def main(words: list[str]) -> None:
     options, given = [it for it in words if it.startswith('--')], [it for it in words if not it.startswith('--')]
@@ -463,7 +432,6 @@ def main(words: list[str]) -> None:
             attempt(given[0], nodes, megabytes, request)
         for message, words_of in dissections():
             dissect(given[0], megabytes, message, MOST_DISSECTED, words_of)
-
 
 if __name__ == '__main__':
     main(sys.argv[1:])

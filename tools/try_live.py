@@ -31,7 +31,6 @@ NAME = 'ns=1;s=Name\trw\tName\tString\t%s\n'
 PAUSE = 0.15
 UNKNOWN = '80340000'
 
-
 class Live:
     """A node file, and the server that follows it."""
 
@@ -84,7 +83,6 @@ class Live:
         told, self.told[:] = list(self.told), []
         check(told == list(lines), '%r was told in place of %r' % (told, lines))
 
-
 def try_values(live: Live) -> None:
     """Values that change, that a client wrote, that come and that go."""
     live.reads(Pump='Int32 5', Level='Double 0x3ff8000000000000')
@@ -102,7 +100,6 @@ def try_values(live: Live) -> None:
     live.change(PUMP % 8 + '# a comment\n\n' + NAME % 'newer')
     live.reads(Pump='Int32 9', Name='String newer')
     live.tells()
-
 
 def try_faults(live: Live) -> None:
     """Files that do not load change nothing, and are told once."""
@@ -131,7 +128,6 @@ def try_faults(live: Live) -> None:
     live.reads(Pump='Int32 12', Name='String last')
     live.tells()
 
-
 def try_open_connection(live: Live) -> None:
     """A connection that stands while the file changes: the next one finds the last change."""
     live.change(PUMP % 20)
@@ -141,7 +137,6 @@ def try_open_connection(live: Live) -> None:
     live.reads(Pump='Int32 21')
     live.tells()
 
-
 def try_alone(program: str, folder: str, *options: str) -> None:
     """A connection after the other, with these options."""
     live = Live(program, folder, PUMP % 5 + LEVEL % 0x3FF8000000000000, *options)
@@ -149,7 +144,6 @@ def try_alone(program: str, folder: str, *options: str) -> None:
     try_faults(live)
     try_open_connection(live)
     live.served.stop()
-
 
 def try_beside(program: str, folder: str) -> None:
     """Two connections that stand while the file changes, and write."""
@@ -168,7 +162,6 @@ def try_beside(program: str, folder: str) -> None:
     live.tells()
     live.served.stop()
 
-
 def try_plain(program: str, folder: str) -> None:
     """A file of decimals."""
     live = Live(program, folder, 'ns=1;s=Level\trw\tLevel\tDouble\t1.5\n', '--plain', '--writes')
@@ -179,11 +172,9 @@ def try_plain(program: str, folder: str) -> None:
     live.served.expect_outcome('Closed')
     live.served.stop()
 
-
 def is_printed(served: Program) -> bool:
     """Whether something waits to be read of what the program printed."""
     return served.process.stdout is not None and bool(select.select([served.process.stdout], [], [], 0)[0])
-
 
 def try_writes(program: str, folder: str, *options: str) -> None:
     """Each value that is stored has its line before its response; one that is refused has none."""
@@ -209,7 +200,6 @@ def try_writes(program: str, folder: str, *options: str) -> None:
         served.expect_outcome('Closed')
     served.stop()
 
-
 def try_closed_output(program: str, folder: str) -> None:
     """Where nobody takes the lines, the server ends at the next one, before its response."""
     path = os.path.join(folder, 'nodes.txt')
@@ -224,7 +214,6 @@ def try_closed_output(program: str, folder: str) -> None:
     talk.line.sendall(talk.message(WRITE, 7))
     check(served.process.wait(timeout=20) == 1, 'another status where the lines are not taken')
 
-
 def try_standard(program: str, folder: str, *options: str) -> None:
     """Beside the standard's nodes, of which CurrentTime is the server's."""
     live = Live(program, folder, PUMP % 1, '--standard', *options)
@@ -236,13 +225,11 @@ def try_standard(program: str, folder: str, *options: str) -> None:
     live.tells()
     live.served.stop()
 
-
 # ---- lines and rounds of `ua ask`
 
 # Where the sequence header of an OPN stands, and from its end the type of a request, the token and its lifetime.
 OPN_NUMBERS, KIND, TOKEN, LIFETIME = 71, -16, -20, -8
 NODES = PUMP % 5 + 'ns=1;s=Row\trw\tRow\tInt32[]\t10,20,30\ni=2001\tr\tLevel\tFloat\t0xC0D00000\n'
-
 
 def opening(frame: bytes, number: int, place: int, value: int) -> bytes:
     """An OPN frame with this number, on the channel 1, and with this value at a place."""
@@ -252,11 +239,9 @@ def opening(frame: bytes, number: int, place: int, value: int) -> bytes:
     struct.pack_into('<I', out, len(out) + place, value)
     return bytes(out)
 
-
 def under(frame: bytes, token: int) -> bytes:
     """A frame under another token."""
     return frame[:12] + struct.pack('<I', token) + frame[16:]
-
 
 class Asking:
     """The program as it answers lines, and what it printed so far."""
@@ -287,7 +272,6 @@ class Asking:
         got, told = self.process.communicate(timeout=20)
         ended = (self.process.returncode, got.decode(), told.decode())
         check(ended == (status, out, err), 'it ended with %r' % (ended,))
-
 
 def try_lines(program: str, nodes: str) -> None:
     """Lines are answered one by one, in one session, up to the end of the input or a bad line."""
@@ -321,7 +305,6 @@ def try_lines(program: str, nodes: str) -> None:
         served.expect_outcome('Closed')
     served.end()
 
-
 def try_rounds(program: str, nodes: str) -> None:
     """Nodes are read again and again, and each time is printed as it comes."""
     served = Program(program, nodes, 2)
@@ -338,7 +321,6 @@ def try_rounds(program: str, nodes: str) -> None:
     asking.process.communicate()
     served.expect_outcome('NoClose', 'Read')
     served.end()
-
 
 def try_lifetimes(program: str) -> None:
     """A token of a short lifetime is renewed before the next request, one of an hour is not."""
@@ -364,7 +346,6 @@ def try_lifetimes(program: str) -> None:
         server.join(20)
         check(is_answer(server.got, b''.join(asked)), 'other requests where a token has %d ms' % lifetime)
 
-
 def main(words: list[str]) -> None:
     if len(words) != 1:
         raise SystemExit(__doc__)
@@ -384,7 +365,6 @@ def main(words: list[str]) -> None:
         try_rounds(program, nodes)
     try_lifetimes(program)
     print('try_live: all as docs/PROGRAM.md says')
-
 
 if __name__ == '__main__':
     main(sys.argv[1:])

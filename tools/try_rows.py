@@ -28,10 +28,8 @@ from sockets import HOME, PUMP, TOP, free_port
 SECONDS = 10
 MARKS = (("\\s", " "), ("\\t", "\t"), ("\\r", "\r"), ("\\n", "\n"))
 
-
 class NoRow(Exception):
     """The line is no row."""
-
 
 def unmarked(word: str) -> str:
     """The text that a word stands for.
@@ -43,7 +41,6 @@ def unmarked(word: str) -> str:
         word = word.replace(mark, sign)
     return word
 
-
 def marked(octets: bytes) -> str:
     """Bytes of a text, as a row has them.
 
@@ -52,7 +49,6 @@ def marked(octets: bytes) -> str:
     """
     return octets.decode("utf-8", "backslashreplace").replace("\\", "\\\\").replace("\n", "\\n")
 
-
 def digits(octets: bytes) -> str:
     """Bytes as a row has them.
 
@@ -60,7 +56,6 @@ def digits(octets: bytes) -> str:
     ('6162FF', 'nothing')
     """
     return octets.hex().upper() or "nothing"
-
 
 def first_word(words: str) -> tuple[str, str]:
     """The next word, and what is after it.
@@ -71,13 +66,11 @@ def first_word(words: str) -> tuple[str, str]:
     word, _, rest = words.partition(" ")
     return word, rest
 
-
 def number_of(word: str) -> int:
     """The number that a word is."""
     if not word.isdigit():
         raise NoRow
     return int(word)
-
 
 def fault_of(err: bytes) -> tuple[bytes, str]:
     """What stands before the last fault that is told, and this fault without its reason.
@@ -87,7 +80,6 @@ def fault_of(err: bytes) -> tuple[bytes, str]:
     """
     at = max(0, err.rfind(b"\nua: ") + 1)
     return err[:at], err[at:].split(b"\n")[0].removeprefix(b"ua: ").decode()
-
 
 @dataclasses.dataclass
 class Ran:
@@ -99,7 +91,6 @@ class Ran:
 
     def text(self) -> str:
         return f'{self.status} out "{marked(self.out)}" err "{marked(self.err)}"'
-
 
 class Peer(threading.Thread):
     """Whoever is connected to: it sends these bytes and no more, and keeps what comes until the other end closes."""
@@ -130,7 +121,6 @@ class Peer(threading.Thread):
         self.listener.close()
         return self.got
 
-
 def received(line: socket.socket) -> bytes:
     """What comes until the other end closes, or resets the connection."""
     got = b""
@@ -142,14 +132,12 @@ def received(line: socket.socket) -> bytes:
         pass
     return got
 
-
 def client(listener: socket.socket, octets: bytes) -> socket.socket:
     """A connection that has sent bytes, and sends no more."""
     line = socket.create_connection(listener.getsockname(), SECONDS)
     line.sendall(octets)
     line.shutdown(socket.SHUT_WR)
     return line
-
 
 class Place:
     """A folder in which rows make files, and a program that is run there with the calls of `preload`."""
@@ -243,24 +231,20 @@ class Place:
             line.close()
         return ran, got
 
-
 # ---- how each kind of row is answered; rows/README.md says what each asks
 
 # The name of a file of the node that is served, which no row has.
 SERVED = "served nodes"
 PORT = "4840"
 
-
 def presence(octets: bytes) -> str:
     return "a text" if octets else "nothing"
-
 
 def end_of(ran: Ran) -> str:
     """How a run ended that asked: with --strict `bad` where a code is."""
     if ran.status in (0, 3) and not ran.err:
         return "bad" if ran.status else "done"
     return f'fault "{fault_of(ran.err)[1]}"' if ran.status == 1 else f"status {ran.status}"
-
 
 class Kinds:
     """The answers to rows, in one place."""
@@ -419,12 +403,10 @@ class Kinds:
                 serving.kill()
         return f'fault "{fault_of(err)[1]}"' if serving.returncode else marked(out)
 
-
 # ---- the table
 
 sys.dont_write_bytecode = True
 TABLE = os.path.join(TOP, "rows", "program.rows")
-
 
 def preloaded(folder: str) -> str:
     """The path of the library of preload.c, which is made in this folder."""
@@ -432,7 +414,6 @@ def preloaded(folder: str) -> str:
     source = os.path.join(TOP, "tools", "preload.c")
     subprocess.run(["gcc", "-O2", "-Wall", "-fno-builtin", "-shared", "-fPIC", "-o", made, source, "-ldl"], check=True)
     return made
-
 
 def rows_of(text: str) -> list[tuple[str, str]]:
     """The questions of a table, with their answers; a line without one has no answer.
@@ -443,7 +424,6 @@ def rows_of(text: str) -> list[tuple[str, str]]:
     lines = [line for line in text.split("\n") if line and not line.startswith("#")]
     return [(question, answer) for question, _, answer in (line.partition(" = ") for line in lines)]
 
-
 def differing(kinds: Kinds, rows: list[tuple[str, str]]) -> int:
     """How many rows are answered in another way, each of which is printed."""
     count = 0
@@ -453,7 +433,6 @@ def differing(kinds: Kinds, rows: list[tuple[str, str]]) -> int:
             print(f"{question}\n  wanted {wanted}\n  got    {got}")
             count += 1
     return count
-
 
 def main(words: list[str]) -> int:
     unproved = "--unproved" in words
@@ -470,7 +449,6 @@ def main(words: list[str]) -> int:
         count = differing(Kinds(Place(words[0], folder, preloaded(top), unproved)), rows)
     print(f"{len(rows)} rows, {count} differ")
     return 1 if count else 0
-
 
 if __name__ == "__main__":
     sys.exit(main(sys.argv[1:]))

@@ -32,7 +32,6 @@ HEAD = """# Definitions
 Each definition that the contract of a public call of a library names, with its file and line, in the words of the comment above it; docs/ARCHITECTURE.md explains the words of names. The crates stand from the lowest up. Within a crate a definition stands before what it is made of. `tools/trust.py CALL` prints all definitions on which the contract of one call rests, also those that no contract names. docs/ENCODINGS.md has the types, structures, messages and status codes as tables. Places are of the repository, from docs/. `tools/write_definitions.py --definitions FILE` writes this page.
 """
 
-
 def public_calls(crate: str, listing: list[str]) -> list[Unit]:
     """The calls of a library that its users see and that have clauses."""
     exported, found = docs.exported_of(crate, listing), []
@@ -44,11 +43,9 @@ def public_calls(crate: str, listing: list[str]) -> list[Unit]:
                 found.append(unit(crate, m.group("name"), path, m.start()))
     return found
 
-
 def is_word(it: Unit) -> bool:
     """Whether this is a definition of specs/ of this repository."""
     return not it.of_kit and it.path.endswith(".antt") and f"{os.sep}specs{os.sep}" in it.path
-
 
 def link(it: Unit) -> str:
     """A link from a page of docs/ to the line of a definition.
@@ -59,7 +56,6 @@ def link(it: Unit) -> str:
     path = os.path.relpath(it.path, TOP).replace(os.sep, "/")
     return f"[`{os.path.basename(path)}:{it.line}`](../{path}#L{it.line})"
 
-
 def cell(text: str) -> str:
     """A comment as the cell of a table.
 
@@ -67,7 +63,6 @@ def cell(text: str) -> str:
     'a \\\\| b, as \\\\<x>'
     """
     return text.replace("|", "\\|").replace("<", "\\<")
-
 
 def said_above(text: str) -> str:
     """What the last comment of a part of a file says: of the block in which what follows stands, or of what stands before it.
@@ -83,7 +78,6 @@ def said_above(text: str) -> str:
     said = " ".join(line.removeprefix("-- ").removeprefix("---- ") for line in last[-1].group().splitlines())
     return said if re.match(r"(?:\w+ )?mutual\n", text[last[-1].end():]) else f"(under the comment: {said})"
 
-
 def said_of(it: Unit) -> str:
     """The comment above a definition; where it says 'the same', also that of the definition above it in its file."""
     if not it.comment:
@@ -94,10 +88,8 @@ def said_of(it: Unit) -> str:
     at, name = max(above)
     return f"{it.comment} (as `{name}`, which stands above it: {said_of(unit(it.crate, name, it.path, at))})"
 
-
 def row(it: Unit) -> str:
     return f"| `{it.name}` | {link(it)} | {cell(said_of(it))} |\n"
-
 
 def named_by_contracts() -> list[Unit]:
     """The definitions that contracts of public calls name, each before what it is made of."""
@@ -105,7 +97,6 @@ def named_by_contracts() -> list[Unit]:
     roots = [it for crate in docs.libraries() for it in public_calls(crate, listing)]
     named = {below for it in roots for below in rests_on(it) if is_word(below)}
     return [it for it in in_order(roots) if it in named]
-
 
 def definitions_page() -> str:
     words, text = named_by_contracts(), HEAD
@@ -115,7 +106,6 @@ def definitions_page() -> str:
             text += f"\n## `{crate}`\n\n| word | where | what it says |\n|---|---|---|\n" + "".join(rows)
     return text
 
-
 def contract_of(name: str) -> str:
     """A call with its clauses, as its source has them."""
     it = calls(name)[0]
@@ -124,7 +114,6 @@ def contract_of(name: str) -> str:
     lines = text_of(it.path)[place_of(it):end].rstrip()
     text = textwrap.dedent("\n".join(line.rstrip() for line in lines.split("\n")))
     return f"`{name}`, {link(it)}:\n\n```rust\n{text}\n```\n"
-
 
 def rests_of(names: list[str]) -> str:
     """The definitions that the clauses of calls name, in reading order, and how many they rest on."""
@@ -138,7 +127,6 @@ def rests_of(names: list[str]) -> str:
     return (f"Their clauses name, in reading order:\n{listed}.\n\nThey rest on {len(own)} definitions, types and traits in all: {spread}. "
             f"This prints them:\n\n```\ntools/trust.py {' '.join(names)}\n```\n")
 
-
 def filled(text: str) -> str:
     """A page with its marked parts as the sources give them."""
     def part(m: re.Match[str]) -> str:
@@ -149,7 +137,6 @@ def filled(text: str) -> str:
         body = contract_of(names[0]) if m.group("kind") == "contract" else rests_of(names)
         return f"<!-- {m.group('kind')} {m.group('calls')} -->\n{body}<!-- end -->\n"
     return MARK.sub(part, text)
-
 
 def main(words: list[str]) -> int:
     if "--definitions" in words:
@@ -164,7 +151,6 @@ def main(words: list[str]) -> int:
         print(f"{THEOREMS} is not what the sources give: run tools/write_definitions.py")
         return 1
     return 0
-
 
 if __name__ == "__main__":
     sys.exit(main(sys.argv[1:]))

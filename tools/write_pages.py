@@ -27,7 +27,6 @@ TERM = re.compile(r'(\w+): (?:"((?:[^"\\]|\\.)*)"|Kind::(\w+)(?:\(((?:"[^"]*"(?:
 # The texts that a kind has: how the help names the value, and what it is where nothing is said.
 TEXTS = {"Text": ("value",), "TextOr": ("value", "usual"), "NumberOr": ("usual",)}
 
-
 @dataclass(frozen=True)
 class Word:
     """A word of a command: an argument by its place where it is in capitals, else an option."""
@@ -56,13 +55,11 @@ class Word:
         value = {"Flag": "", "NumberOrNone": " [N]"}.get(self.kind, " " + (self.value or "N"))
         return f"--{self.name}{value}"
 
-
 @dataclass(frozen=True)
 class Command:
     name: str
     help: str
     words: tuple[Word, ...]
-
 
 def entry(text: str) -> dict[str, str]:
     """The fields of a struct of the table, and the kind with the texts in its brackets.
@@ -76,11 +73,9 @@ def entry(text: str) -> dict[str, str]:
         found |= dict(zip(TEXTS.get(kind, ()), re.findall(r'"([^"]*)"', texts)))
     return found
 
-
 def word(text: str) -> Word:
     given = entry(text)
     return Word(given["name"], given["kind"], given["help"], given.get("usual", ""), given.get("value", ""))
-
 
 def table(text: str) -> tuple[str, list[Command]]:
     """What the program says of itself, and its commands in the order of the help."""
@@ -103,7 +98,6 @@ def table(text: str) -> tuple[str, list[Command]]:
         raise SystemExit(f"write_pages: {TABLE} has commands that are not listed")
     return re.search(r'\.about\("([^"]*)"\)', text).group(1), commands
 
-
 def roff(text: str) -> str:
     """A text as roff has it.
 
@@ -113,20 +107,16 @@ def roff(text: str) -> str:
     text = text.replace("\\", "\\e").replace("-", "\\-")
     return "\\&" + text if text[:1] in (".", "'") else text
 
-
 def sentence(text: str) -> str:
     return text[:1].upper() + text[1:] + "."
-
 
 def listed(head: str, rows: list[tuple[str, str]]) -> str:
     if not rows:
         return ""
     return f".SH {head}\n" + "".join(f".TP\n.B {roff(name)}\n{roff(text)}\n" for name, text in rows)
 
-
 def explained(it: Word) -> str:
     return sentence(it.help) + (f" Where nothing is said it is {it.usual}." if it.usual else "")
-
 
 def strict_status(what: str) -> tuple[str, str]:
     """The row of the status that `--strict` has.
@@ -135,7 +125,6 @@ def strict_status(what: str) -> tuple[str, str]:
     ('3', 'With --strict: done, but a frame is refused.')
     """
     return "3", f"With --strict: done, but {what}."
-
 
 def page(command: Command) -> str:
     """The man page of a command."""
@@ -151,7 +140,6 @@ def page(command: Command) -> str:
         + listed("EXIT STATUS", status) + ".SH SEE ALSO\n.BR ua (1)\n"
     )
 
-
 def first_page(about: str, commands: list[Command]) -> str:
     """The man page of the program."""
     rows = [(f"ua {it.name}", sentence(it.help)) for it in commands]
@@ -161,7 +149,6 @@ def first_page(about: str, commands: list[Command]) -> str:
         ".SH SYNOPSIS\n.B ua\nCOMMAND WORD..\n" + listed("COMMANDS", rows) + listed("EXIT STATUS", STATUS + [strict_status(STRICT)])
         + f".SH SEE ALSO\n{also}\n"
     )
-
 
 def completion(commands: list[Command]) -> str:
     """The completion for bash: commands, options, the values that some options have, and files by their place."""
@@ -208,20 +195,17 @@ _ua() {{
 complete -F _ua ua
 """
 
-
 def files(text: str) -> dict[str, str]:
     """Each file that the table gives, with its text."""
     about, commands = table(text)
     pages = {f"man/ua-{it.name}.1": page(it) for it in commands}
     return {"man/ua.1": first_page(about, commands), **pages, "completion/ua.bash": completion(commands)}
 
-
 def held(path: str) -> str | None:
     if not os.path.isfile(path):
         return None
     with open(path, encoding="utf-8") as file:
         return file.read()
-
 
 def main(words: list[str]) -> int:
     wanted = files(held(os.path.join(TOP, TABLE)) or "")
@@ -242,7 +226,6 @@ def main(words: list[str]) -> int:
             os.remove(path)
         print(f"write_pages: {it}")
     return 0
-
 
 if __name__ == "__main__":
     sys.exit(main(sys.argv[1:]))
