@@ -15,7 +15,8 @@ import sys
 from collections.abc import Callable, Iterator
 
 sys.dont_write_bytecode = True
-TOP = os.path.dirname(os.path.dirname(os.path.abspath(__file__)))
+from kit import TOP, text_of
+
 OPEN, CLOSE = "([{", ")]}"
 # How good it is to break before an operator: 0 is best.
 OPERATORS = {"→": 0, "∙": 0, "×": 1, "⊎": 1, "++": 2, "≡": 2, "≤": 2, "<": 2, "&&": 2, "+": 3, "∷": 3}
@@ -166,13 +167,9 @@ def files(crate: str) -> Iterator[str]:
         for folder, _, found in os.walk(os.path.join(TOP, "crates", crate, part)):
             yield from (os.path.join(folder, name) for name in sorted(found) if name.endswith((".rt", ".antt")))
 
-def read(path: str) -> str:
-    with open(path, encoding="utf-8") as file:
-        return file.read()
-
 def break_crate(crate: str) -> None:
     """Breaks the long lines of a crate."""
-    before = {path: read(path) for path in files(crate)}
+    before = {path: text_of(path) for path in files(crate)}
 
     def lay_out(texts: dict[str, str]) -> dict[str, str]:
         for path, text in texts.items():
@@ -180,7 +177,7 @@ def break_crate(crate: str) -> None:
                 with open(path, "w", encoding="utf-8") as file:
                     file.write(text)
         subprocess.run(["rt", "fmt"], cwd=os.path.join(TOP, "crates", crate), check=True, stdout=subprocess.DEVNULL, stderr=subprocess.DEVNULL)
-        return {path: read(path) for path in texts}
+        return {path: text_of(path) for path in texts}
 
     settled(before, lay_out)
 
@@ -191,7 +188,7 @@ def main(words: list[str]) -> int:
             break_crate(crate)
         return 0
     long = [(path, number + 1) for crate in crates for path in files(crate)
-            for number, line in enumerate(read(path).split("\n")) if lines_of(line, path.endswith(".rt")) != [line]]
+            for number, line in enumerate(text_of(path).split("\n")) if lines_of(line, path.endswith(".rt")) != [line]]
     for path, number in long:
         print(f"{os.path.relpath(path, TOP)}:{number}: too long")
     print(f"break_lines: {len(long)} lines are too long")

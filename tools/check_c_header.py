@@ -18,9 +18,12 @@ import sys
 import textwrap
 from typing import NoReturn
 
+sys.dont_write_bytecode = True
+from kit import TOP, text_of
+
 # What is declared, by name: the type of the result, and the type and name of each parameter.
 Calls = dict[str, tuple[str, list[tuple[str, str]]]]
-CRATE = os.path.join(os.path.dirname(os.path.abspath(__file__)), '..', 'crates', 'ua_c')
+CRATE = os.path.join(TOP, 'crates', 'ua_c')
 # The types in C of a parameter, and what stands behind its name in each of theirs.
 PARAMETERS: dict[str, list[str]] = {
     'Global': [], '&mut UaHandle': ['struct ua_handle *'], '&mut UaNodes': ['struct ua_nodes *'], '&mut UaConnection': ['struct ua_connection *'],
@@ -39,8 +42,7 @@ RESULTS = {'': 'void', 'u32': 'uint32_t', 'usize': 'size_t'}
 
 def text(*names: str) -> str:
     """A file of the crate."""
-    with open(os.path.join(CRATE, *names), encoding='utf-8') as file:
-        return file.read()
+    return text_of(os.path.join(CRATE, *names))
 
 def end(difference: str) -> NoReturn:
     """Tells the first difference, and ends."""
@@ -188,8 +190,7 @@ def in_rust(kind: str) -> str:
 
 def check_rust(found: Calls, header: str) -> None:
     """The module in Rust declares each call but the older ones, and has the statuses and the fields of readings."""
-    with open(os.path.join(CRATE, '..', '..', 'rust', 'ua.rs'), encoding='utf-8') as file:
-        rust = file.read()
+    rust = text('..', '..', 'rust', 'ua.rs')
     wanted = []
     for name, (result, parameters) in found.items():
         given = ', '.join('%s: %s' % (re.sub(r'^type', 'kind', it), in_rust(kind)) for kind, it in parameters)

@@ -79,11 +79,7 @@ def never() -> bool:
 # ---- texts
 
 def escaped(text: str, style: Style, more: str = '') -> str:
-    """A text with its escapes, and those of more characters; a comma and brackets within an array or brackets.
-
-    >>> escaped('a,\\\\\\n\\x85|', Style()), escaped('a,|', Style(True, None, True), '|')
-    ('a,\\\\\\\\\\\\x0a\\x85|', 'a\\\\x2c\\\\x7c')
-    """
+    """A text with its escapes, and those of more characters; a comma and brackets within an array or brackets."""
     marks = more + ',(){}' * style.within
     return ''.join('\\\\' if it == '\\' else '\\x%02x' % ord(it) if it < ' ' or it == '\x7f' or it in marks else it for it in text)
 
@@ -91,11 +87,7 @@ def pattern_text(kind: int, pattern: int) -> str:
     return '0x%0*x' % (8 if kind == FLOAT else 16, pattern)
 
 def number(kind: int, pattern: int) -> str | Bits:
-    """A Float or Double with `--plain`.
-
-    >>> number(FLOAT, 0xFFC00000), number(FLOAT, 0x7FC00000), number(FLOAT, 0xFF800000)
-    ('NaN', '0x7fc00000', '-Infinity')
-    """
+    """A Float or Double with `--plain`."""
     bits, fraction = (32, 23) if kind == FLOAT else (64, 52)
     greatest = (1 << bits - 1) - (1 << fraction)
     size = pattern & (1 << bits - 1) - 1
@@ -106,11 +98,7 @@ def number(kind: int, pattern: int) -> str | Bits:
     return 'NaN' if pattern == (1 << bits) - (1 << fraction - 1) else pattern_text(kind, pattern)
 
 def bits_of(text: str, kind: int) -> int:
-    """The bit pattern of the number nearest to a decimal.
-
-    >>> hex(bits_of('0.1', FLOAT)), hex(bits_of('-0.0', DOUBLE)), hex(bits_of('1e-45', FLOAT))
-    ('0x3dcccccd', '0x8000000000000000', '0x1')
-    """
+    """The bit pattern of the number nearest to a decimal."""
     near = float(text)
     if kind == DOUBLE:
         return int(struct.unpack('<Q', struct.pack('<d', near))[0])
@@ -124,19 +112,11 @@ def bits_of(text: str, kind: int) -> int:
         return 0x7F800000
 
 def days_before(year: int) -> int:
-    """The days from the year 0 to a later one.
-
-    >>> days_before(0), days_before(1), days_before(101), days_before(400)
-    (0, 366, 36890, 146097)
-    """
+    """The days from the year 0 to a later one."""
     return 365 * year + (year + 3) // 4 - (year + 99) // 100 + (year + 399) // 400
 
 def date(ticks: int) -> str:
-    """A DateTime with `--plain`.
-
-    >>> date(116444736000000000), date(YEAR_0), date(10**7 - 10), date(LAST_TIME), date(LAST_TIME + 1), date(0)
-    ('1970-01-01T00:00:00Z', '0000-01-01T00:00:00Z', '1601-01-01T00:00:00.999999Z', '9999-12-30T22:00:00.9999999Z', '2650466808010000000', '0')
-    """
+    """A DateTime with `--plain`."""
     if ticks == 0 or ticks < YEAR_0 or ticks > LAST_TIME:
         return str(ticks)
     day, rest = divmod(ticks - YEAR_0, DAY)
@@ -167,11 +147,7 @@ def code_text(of: int, style: Style) -> str:
     return '0x%08x%s' % (of, ' ' + name if name else '')
 
 def status(of: int, names: dict[int, str] | None) -> str:
-    """A CODE, and its name.
-
-    >>> status(0x80340000, {0x80340000: 'BadNodeIdUnknown'}), status(0xA, None)
-    ('80340000 BadNodeIdUnknown', '0000000A')
-    """
+    """A CODE, and its name."""
     return '%08X%s' % (of, ' ' + names[of] if names and of in names else '')
 
 def code_json(of: int, style: Style) -> dict[str, Any]:
@@ -182,19 +158,11 @@ def text_json(of: str | None) -> Text | None:
     return None if of is None else Text([of])
 
 def told(of: str | None) -> str:
-    """A String or NodeId of a field: a control character by its bytes in UTF-8.
-
-    >>> told('\\x85\\t\\\\'), told(None)
-    ('\\\\xc2\\\\x85\\\\x09\\\\\\\\', 'null')
-    """
+    """A String or NodeId of a field: a control character by its bytes in UTF-8."""
     return 'null' if of is None else re.sub('[\x80-\x9f]', lambda it: ''.join('\\x%02x' % octet for octet in it[0].encode()), escaped(of, Style()))
 
 def fits(parts: Sequence, text: str) -> bool:
-    """Whether a text is one of these parts.
-
-    >>> fits(['a ', Bits(DOUBLE, 0x3FF8 << 48), (',', ';'), 'b'], 'a 1.50;b'), fits([('x', '')], 'y'), fits(['a'], 'ab')
-    (True, False, False)
-    """
+    """Whether a text is one of these parts."""
     place = 0
     for it in parts:
         if isinstance(it, Bits):
@@ -226,11 +194,7 @@ STRINGS = re.compile(r'"(?:[^"\\]|\\.)*"')
 DECODER = json.JSONDecoder(parse_int=Number, parse_float=Number, parse_constant=no_constant, object_pairs_hook=tuple)
 
 def is_json(wanted: Any, got: Any) -> bool:
-    """Whether what came is what is wanted; the members of an object in order.
-
-    >>> is_json([1, Text(['a'])], [Number('1'), 'a']), is_json(1, '1'), is_json(Bits(FLOAT, 0), Number('0.0'))
-    (True, False, True)
-    """
+    """Whether what came is what is wanted; the members of an object in order."""
     if isinstance(wanted, Text):
         return isinstance(got, str) and not isinstance(got, Number) and fits(wanted.parts, got)
     if isinstance(wanted, Bits):
@@ -244,11 +208,7 @@ def is_json(wanted: Any, got: Any) -> bool:
     return isinstance(got, list) and len(wanted) == len(got) and all(is_json(one, other) for one, other in zip(wanted, got))
 
 def is_json_line(wanted: dict[str, Any], got: str) -> bool:
-    """Whether a line is an object of JSON without spaces that has these members in this order.
-
-    >>> is_json_line({'a': 1}, '{"a":1}'), is_json_line({'a': 1}, '{"a": 1}'), is_json_line({}, '{')
-    (True, False, False)
-    """
+    """Whether a line is an object of JSON without spaces that has these members in this order."""
     try:
         return ' ' not in STRINGS.sub('', got) and is_json(wanted, DECODER.decode(got))
     except ValueError:

@@ -33,11 +33,7 @@ def encoded(of: str | None) -> bytes | None:
     return None if of is None else of.encode()
 
 def swapped(of: bytes) -> bytes:
-    """A Guid from its 16 bytes in the order of its text.
-
-    >>> swapped(bytes.fromhex('72962b91fa754ae68d28b404dc7daf63')).hex()
-    '912b967275fae64a8d28b404dc7daf63'
-    """
+    """A Guid from its 16 bytes in the order of its text."""
     return of[3::-1] + of[5:3:-1] + of[7:5:-1] + of[8:]
 
 def by_bytes(kind: int, both: Sequence[bytes], text: Callable[[Style], Parts] | None = None, members: Callable[[Style], Any] | None = None,

@@ -24,7 +24,7 @@ import time
 from typing import Any, Callable, NoReturn
 
 sys.dont_write_bytecode = True
-from kit import kit_folder
+from kit import kit_folder, text_of
 from sockets import HOME, READ, SENT, STREAMS, TOP, chunks, free_port
 
 INCLUDE = os.path.join(TOP, 'crates/ua_c/include')
@@ -164,8 +164,7 @@ class Examples:
 
     def build_snippets(self, page: str, ending: str, around: str, words: list[str]) -> None:
         """Compiles each snippet of a page, with what it is given around it."""
-        with open(os.path.join(TOP, page), encoding='utf-8') as file:
-            snippets = re.findall(r'^```%s\n(.*?)^```$' % ending, file.read(), re.MULTILINE | re.DOTALL)
+        snippets = re.findall(r'^```%s\n(.*?)^```$' % ending, text_of(os.path.join(TOP, page)), re.MULTILINE | re.DOTALL)
         for snippet in snippets:
             source = self.at('snippet.' + ending)
             with open(source, 'w', encoding='utf-8') as file:
@@ -194,8 +193,7 @@ class Examples:
         """Builds each example whose compiler is at hand; those words ask a server at a port, by name."""
         clients: Clients = {}
         for name in ('examples/python/read.py', 'examples/python/historian.py', 'python/ua.py'):
-            with open(os.path.join(TOP, name), encoding='utf-8') as file:
-                compile(file.read(), name, 'exec')
+            compile(text_of(os.path.join(TOP, name)), name, 'exec')
         if self.is_there('cc', 'gateway.c and read.py'):
             self.build_snippets('docs/C.md', 'c', AROUND, STRICT)
             self.gateways['gateway.c'] = self.build_c('gateway')
@@ -230,8 +228,7 @@ class Examples:
 
     def python(self, shared: str) -> None:
         """The examples in python/ua.py, and the snippet of docs/PYTHON.md."""
-        with open(os.path.join(TOP, 'docs/PYTHON.md'), encoding='utf-8') as file:
-            snippet, = re.findall(r'^```python\n(.*?)^```$', file.read(), re.MULTILINE | re.DOTALL)
+        snippet, = re.findall(r'^```python\n(.*?)^```$', text_of(os.path.join(TOP, 'docs/PYTHON.md')), re.MULTILINE | re.DOTALL)
         words = {**os.environ, 'UA_LIBRARY': shared, 'PYTHONPATH': os.path.join(TOP, 'python'), 'PYTHONDONTWRITEBYTECODE': '1'}
         same('ua.py', run([sys.executable, '-m', 'doctest', os.path.join(TOP, 'python/ua.py')], env=words), '')
         same('docs/PYTHON.md', run([sys.executable, '-c', snippet], env=words), "21.5 b''\n")
@@ -292,8 +289,7 @@ class Examples:
 
     def answer(self, language: str) -> None:
         """Every call in ample memory: answers.txt beside the example has what it answers."""
-        with open(os.path.join(EXAMPLES, language, 'answers.txt'), encoding='utf-8') as file:
-            wanted = file.read()
+        wanted = text_of(os.path.join(EXAMPLES, language, 'answers.txt'))
         sides = [os.path.join(STREAMS, name) for name in ('client.bin', 'server.bin')]
         same('answers.' + language, run([self.answers[language], *sides]), wanted)
 
@@ -306,8 +302,7 @@ class Examples:
 
     def stack(self) -> None:
         """No call takes more of a painted stack than include/ua.h says was measured."""
-        with open(os.path.join(INCLUDE, 'ua.h'), encoding='utf-8') as file:
-            most, = re.findall(r'#define UA_STACK_MEASURED (\d+)', file.read())
+        most, = re.findall(r'#define UA_STACK_MEASURED (\d+)', text_of(os.path.join(INCLUDE, 'ua.h')))
         if '--unproved' in sys.argv:
             return say('stack.c is passed over: what a proved library takes was measured')
         print(run([self.at('stack'), os.path.join(STREAMS, 'client.bin'), most]), end='')

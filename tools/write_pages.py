@@ -13,7 +13,8 @@ import sys
 from dataclasses import dataclass
 
 sys.dont_write_bytecode = True
-TOP = os.path.dirname(os.path.dirname(os.path.abspath(__file__)))
+from kit import TOP, text_of
+
 TABLE = "crates/ua_words/src/commands.rt"
 FILES = ("FILE", "NODES", "SCRIPT", "UP", "DOWN")
 VALUES = {"policy": ["anonymous", "auto"], "connections": ["all"]}
@@ -202,10 +203,7 @@ def files(text: str) -> dict[str, str]:
     return {"man/ua.1": first_page(about, commands), **pages, "completion/ua.bash": completion(commands)}
 
 def held(path: str) -> str | None:
-    if not os.path.isfile(path):
-        return None
-    with open(path, encoding="utf-8") as file:
-        return file.read()
+    return text_of(path) if os.path.isfile(path) else None
 
 def main(words: list[str]) -> int:
     wanted = files(held(os.path.join(TOP, TABLE)) or "")
