@@ -43,7 +43,6 @@ import tarfile
 import tempfile
 
 sys.dont_write_bytecode = True
-sys.path.insert(0, os.path.dirname(os.path.abspath(__file__)))
 import write_definitions
 from kit import TOP, VERSION, keep, kit_folder, text_of, unproved
 

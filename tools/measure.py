@@ -1,12 +1,11 @@
 #!/usr/bin/env python3
 """Measures what docs/PERFORMANCE.md and docs/MEMORY.md tell: measure WORD ..
 
-  count PROGRAM [--faults] [ROW..]   counts what crates/bench_messages/out/bench_messages does beside plain C that does the same on
+  count PROGRAM [ROW..]              counts what crates/bench_messages/out/bench_messages does beside plain C that does the same on
                                      the same octets: builds plain_c twice (gcc -O2, and clang -O3 for x86-64-v2, as the program
                                      is built), runs all under callgrind with two numbers of turns each, and prints for each row
                                      the difference for one unit: the program's instructions, those of both builds of C, and the
-                                     ratios to them; also of two calls of the library for C, where it is built. With --faults the
-                                     page faults of a further turn of each row instead
+                                     ratios to them; also of two calls of the library for C, where it is built
   messages COUNT FOLDER              writes the octets that it works on, of so many elements
   time PROGRAM [ROUNDS]              times `ua serve` over loopback: a client in C (plain_c/load.c) reads and writes nodes of a table of
                                      1,000, and reads an array of a megabyte: of `ua serve`, with --at-once and without, and of an echo
@@ -132,18 +131,8 @@ def counted(words: list[str], within: str = '') -> int:
         sys.exit(f'{" ".join(words)}: {ran.stdout}{ran.stderr}')
     return int(found.group(1))
 
-def page_faults(words: list[str]) -> int:
-    """The page faults of a run for which nothing was read from a disk."""
-    with subprocess.Popen(words, stdout=subprocess.DEVNULL) as run:
-        _, run.returncode, usage = os.wait4(run.pid, 0)
-    if run.returncode:
-        sys.exit(f'{" ".join(words)}: {run.returncode}')
-    return usage.ru_minflt
-
-def unit(
-    program: str, words: str, turns: tuple[int, int, int | str], folder: str, count: Callable[[list[str]], int] = counted,
-) -> float:
-    """The instructions of a unit, or what else is counted of it: the difference of two runs."""
+def unit(program: str, words: str, turns: tuple[int, int, int | str], folder: str) -> float:
+    """The instructions of a unit: the difference of two runs."""
     low, high, units = turns
     if isinstance(units, str):
         units = os.path.getsize(f'{folder}/{units}')
@@ -151,7 +140,7 @@ def unit(
         f'{folder}/{word}' if os.path.exists(f'{folder}/{word}') and place else word
         for place, word in enumerate(words.split())
     ]
-    runs = [count([program] + [str(n) if w == 'N' else w for w in named]) for n in (low, high)]
+    runs = [counted([program] + [str(n) if w == 'N' else w for w in named]) for n in (low, high)]
     return (runs[1] - runs[0]) / ((high - low) * units)
 
 def count_calls(folder: str, wanted: list[str]) -> None:
@@ -165,12 +154,6 @@ def count_calls(folder: str, wanted: list[str]) -> None:
     for call, words, turns in calls:
         low, high = [counted([steps] + [str(n) if it == 'N' else it for it in words.split()], call) for n in turns]
         print(f'{call:22} {(high - low) / (turns[1] - turns[0]):10.2f}', flush=True)
-
-def count_faults(program: str, folder: str, wanted: list[str]) -> None:
-    """Prints how many page faults a further turn of each row costs."""
-    for row, words, _, (low, high, _), _ in ROWS:
-        if not wanted or row in wanted:
-            print(f'{row:22} {unit(program, words, (low, high, 1), folder, page_faults):10.2f}', flush=True)
 
 def count_rows(program: str, folder: str, wanted: list[str]) -> None:
     """Prints for each row the instructions of a unit: the program's, those of C, and the ratios to them."""
@@ -285,10 +268,8 @@ def main(words: list[str]) -> None:
     if word == 'count' and rest:
         with tempfile.TemporaryDirectory() as folder:
             write_files(folder, files())
-            program, wanted = os.path.abspath(rest[0]), [it for it in rest[1:] if it != '--faults']
-            (count_faults if '--faults' in rest else count_rows)(program, folder, wanted)
-            if '--faults' not in rest:
-                count_calls(folder, wanted)
+            count_rows(os.path.abspath(rest[0]), folder, rest[1:])
+            count_calls(folder, rest[1:])
     elif word == 'messages' and len(rest) == 2:
         write_files(rest[1], files(int(rest[0])))
     elif word == 'time' and rest:

@@ -25,7 +25,6 @@ from typing import NamedTuple
 
 sys.dont_write_bytecode = True
 HERE = os.path.dirname(os.path.abspath(__file__))
-sys.path.insert(0, HERE)
 import kit
 from kit import TOP
 

@@ -35,7 +35,6 @@ from shutil import which
 from typing import Iterator
 
 sys.dont_write_bytecode = True
-sys.path.insert(0, os.path.dirname(os.path.abspath(__file__)))
 import check_docs as docs
 from check_docs import TOP
 

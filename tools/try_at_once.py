@@ -1,13 +1,11 @@
 #!/usr/bin/env python3
 """Talks to the program `ua serve` over loopback connections, one after another and many at once: try_at_once PROGRAM.
 
-PROGRAM is the built program. It serves at most 50 connections at a time, 62 in all, over a node file. The driver
-opens 50 at once: some stay idle, some send octet by octet, some ask and never read, some are reset or refused, and
-the others write one node in turn and read it again; and 12 more, which wait until places are free. Each answer is
-compared with what is written out in examples/c/data. Each value that is read is one that a single server which
-handles the messages in the order of completion may answer: that of a Write which began before the Read ended, and
-behind which no other Write came before the Read began. The lines that are printed have each number once, and say how
-the connection of that number may have ended. CurrentTime is read, where it is the server's own.
+PROGRAM is the built program. It serves 62 connections, at most 50 at a time: some stay idle, some send octet by octet, some
+ask and never read, some are reset or refused, and the others write one node in turn and read it again. Each answer is compared
+with what is written out in examples/c/data. Each value that is read is one that a single server which handles the messages in
+the order of completion may answer: that of a Write which began before the Read ended, and behind which no other Write came
+before the Read began. The lines that are printed have each number once, and say how that connection may have ended.
 
 One after another there are whole connections between ones that are cut, reset or refused. Then there is too little
 memory for an answer, values are stored up to the limit of --kept, and a system gives no connection. The status is 1
@@ -25,8 +23,8 @@ import time
 from typing import Any, Callable
 
 sys.dont_write_bytecode = True
-from sockets import ANSWERED, CLIENT, NULL, PORT, PUMP, READ, SENT, WHOLE, WRITE, Program, Send, Talk, at_once, check, connect, drop
-from sockets import is_answer, most_memory, node_file, one_by_one, read_all, read_frame, run
+from sockets import ANSWERED, CLIENT, NULL, PUMP, READ, SENT, WHOLE, WRITE, Program, Send, Talk, at_once, check, connect, drop
+from sockets import is_answer, most_memory, node_file, one_by_one, read_all, read_frame
 
 sys.dont_write_bytecode = True
 PLACES, LATE = 50, 12
@@ -162,23 +160,6 @@ def try_places(program: str, nodes: str) -> None:
     server.expect('connection 1 Closed')
     server.end()
 
-def try_standard(program: str, nodes: str) -> None:
-    """CurrentTime is that of each answer, on whichever connection, where it is the server's own."""
-    server = Program(program, nodes, 3, '--at-once', '2', '--standard')
-    times = []
-    for number in (1, 2, 3):
-        begun = time.time()
-        got = run(program, ['read', str(PORT), 'i=2258', '--times'])
-        found = re.fullmatch(r'i=2258 00000000 DateTime (\d+) source (\d+) server \d+\n', got[1])
-        if not found or found.group(1) != found.group(2):
-            raise SystemExit('try_at_once: CurrentTime is %r' % (got,))
-        times.append(int(found.group(1)))
-        moment = times[-1] / 10**7 - 11644473600
-        check(begun - 1 < moment < time.time() + 1, 'CurrentTime is %f at %f' % (moment, begun))
-        server.expect('connection %d Closed' % number)
-    check(times == sorted(set(times)), 'CurrentTime stands still: %r' % times)
-    server.end()
-
 def try_descriptors(program: str, nodes: str) -> None:
     """A system that gives no connection: that is told, the others are served, and it is tried again."""
     server = Program(program, nodes, 'all', '--at-once', '4', limit=lambda: resource.setrlimit(resource.RLIMIT_NOFILE, (6, 64)))
@@ -309,7 +290,6 @@ def main(words: list[str]) -> None:
         try_kept(program)
         try_descriptors(program, nodes)
         try_places(program, nodes)
-        try_standard(program, nodes)
         try_many(program, nodes)
     print('try_at_once: as written out')
 

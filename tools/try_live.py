@@ -215,13 +215,14 @@ def try_closed_output(program: str, folder: str) -> None:
     check(served.process.wait(timeout=20) == 1, 'another status where the lines are not taken')
 
 def try_standard(program: str, folder: str, *options: str) -> None:
-    """Beside the standard's nodes, of which CurrentTime is the server's."""
+    """Beside the standard's nodes, of which CurrentTime is that of each answer."""
     live = Live(program, folder, PUMP % 1, '--standard', *options)
-    before = live.ask('read', 'i=2258')
+    before, begun = live.ask('read', 'i=2258'), time.time()
     live.change(PUMP % 2 + 'i=2259\tr\tState\tInt32\t4\n')
     out = live.ask('read', 'i=2258', 'i=2259', 'ns=1;s=Pump').splitlines()
     check(out[1:] == ['i=2259 00000000 Int32 4', 'ns=1;s=Pump 00000000 Int32 2'], '%r was read' % out)
     check(int(before.split()[-1]) < int(out[0].split()[-1]), 'CurrentTime stands still')
+    check(begun - 1 < int(out[0].split()[-1]) / 10**7 - 11644473600 < time.time() + 1, 'CurrentTime is %s' % out[0])
     live.tells()
     live.served.stop()
 

@@ -20,7 +20,6 @@ import threading
 from typing import Callable
 
 sys.dont_write_bytecode = True
-sys.path.insert(0, os.path.dirname(os.path.abspath(__file__)))
 from sockets import HOME, PUMP, TOP, free_port
 
 # ---- the texts and bytes of rows, and runs of the program in the folder in which they make files

@@ -21,7 +21,6 @@ import textwrap
 from collections import Counter
 
 sys.dont_write_bytecode = True
-sys.path.insert(0, os.path.dirname(os.path.abspath(__file__)))
 from trust import TOP, Unit, block_of, calls, code_of, docs, heads, in_order, place_of, rests_on, sources, text_of, unit
 
 THEOREMS = "docs/THEOREMS.md"
