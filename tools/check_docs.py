@@ -25,7 +25,8 @@ import sys
 from typing import Iterable
 
 sys.dont_write_bytecode = True
-TOP = os.path.dirname(os.path.dirname(os.path.abspath(__file__)))
+from kit import TOP, text_of
+
 CLAUSE = re.compile(r"\b(?:requires|ensures)\b\*?[ \t]*(?:\w+[ \t]*)?\{|\bghost[ \t]+\w+[ \t]*:[ \t]*\{")
 FUNCTION = re.compile(r"(?P<public>pub(?P<within>\([^)]*\))?\s+)?(?:const\s+|final\s+|unsafe\s+)*fn\s+(?P<name>\w+)")
 ITEM = re.compile(r"^(?:pub(?:\([^)]*\))?\s+)?(?P<kind>impl|trait|struct|enum)\b[^;{]*\{", re.M)
@@ -34,24 +35,12 @@ BRACKET = re.compile(r"[{}()]")
 DEFINED = re.compile(r"^\s*(?:pub\s+)?(?:abbrev|unfoldable|data|record)\s+(?:pub\s+)?([\w'-]+)", re.M)
 
 def read(path: str) -> str:
-    with open(os.path.join(TOP, path), encoding="utf-8") as f:
-        return f.read()
+    return text_of(os.path.join(TOP, path))
 
 def files() -> list[str]:
     """The files of the repository, those too that are not committed yet."""
-    try:
-        out = subprocess.run(["git", "ls-files", "-co", "--exclude-standard"], capture_output=True, text=True, check=True, cwd=TOP).stdout
-    except (OSError, subprocess.CalledProcessError):
-        return below(TOP, "")
+    out = subprocess.run(["git", "ls-files", "-co", "--exclude-standard"], capture_output=True, text=True, check=True, cwd=TOP).stdout
     return [f for f in out.split("\n") if f and os.path.isfile(os.path.join(TOP, f))]
-
-def below(folder: str, endings: str | tuple[str, ...]) -> list[str]:
-    """The files below a folder whose names end so, but for what was built, also where no git is at hand."""
-    found = []
-    for at, folders, names in os.walk(folder):
-        folders[:] = sorted(it for it in folders if it not in ("out", ".git", "__pycache__"))
-        found += [os.path.relpath(os.path.join(at, name), TOP) for name in sorted(names) if name.endswith(endings)]
-    return found
 
 def close(text: str, at: int) -> int:
     """The place behind the bracket that closes the one at this place.

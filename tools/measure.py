@@ -177,20 +177,6 @@ NODES, ELEMENTS = 1000, 262144
 Row = tuple[str, int, int, int]
 TIMED: list[Row] = [('read', 60000, 1, 1), ('read', 96000, 64, 1), ('read', 2000, 1, NODES), ('write', 96000, 64, 1), ('array', 1000, 1, 1)]
 
-def table(folder: str) -> str:
-    path = os.path.join(folder, 'table.txt')
-    with open(path, 'w', encoding='ascii') as file:
-        for k in range(NODES):
-            file.write('ns=1;s=Plant.Area1.Pump%06d.Flow\trw\tPump %d\tInt32\t%d\n' % (k, k, 1000 * k))
-    return path
-
-def array_of(folder: str) -> str:
-    """A node file of one array of a megabyte."""
-    path = os.path.join(folder, 'array.txt')
-    with open(path, 'w', encoding='ascii') as file:
-        file.write('ns=1;s=Plant.Area1.Pump000000.Flow\tr\tRow\tInt32[]\t%s\n' % ','.join(map(str, range(ELEMENTS))))
-    return path
-
 def told(words: list[str]) -> re.Match[str]:
     """What the client in C tells: the octets up and down of a request, and the requests a second."""
     out = subprocess.run(words, check=True, capture_output=True, text=True).stdout
@@ -220,7 +206,11 @@ def tell_times(program: str, rounds: int) -> None:
     with tempfile.TemporaryDirectory() as folder:
         load = os.path.join(folder, 'load')
         subprocess.run(['gcc', '-O2', '-o', load, f'{PLAIN_C}/load.c'], check=True, stderr=subprocess.DEVNULL)
-        nodes = {'read': table(folder), 'array': array_of(folder)}
+        nodes = {'read': os.path.join(folder, 'table.txt'), 'array': os.path.join(folder, 'array.txt')}
+        with open(nodes['read'], 'w', encoding='ascii') as file:
+            file.writelines('ns=1;s=Plant.Area1.Pump%06d.Flow\trw\tPump %d\tInt32\t%d\n' % (k, k, 1000 * k) for k in range(NODES))
+        with open(nodes['array'], 'w', encoding='ascii') as file:
+            file.write('ns=1;s=Plant.Area1.Pump000000.Flow\tr\tRow\tInt32[]\t%s\n' % ','.join(map(str, range(ELEMENTS))))
         for row in TIMED:
             print('%s of %d nodes, in groups of %d' % (row[0], row[3], row[2]))
             for _ in range(rounds):
