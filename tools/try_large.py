@@ -17,7 +17,6 @@ the fields of messages, and each line of `dissect --fields` is compared with the
 """
 from __future__ import annotations
 
-import base64
 import contextlib
 import fcntl
 import os
@@ -33,6 +32,7 @@ from array import array as array_of
 from typing import IO, Iterable
 
 sys.dont_write_bytecode = True
+from fuzz_texts import Style, base64_text, escaped, told
 from sockets import NULL, Program, Talk, chunks, most_memory, node_file, opening
 
 # Nodes that 2 octets name.
@@ -148,7 +148,6 @@ LONG += [
 
 # ---- requests and what is dissected
 
-sys.dont_write_bytecode = True
 # The most memory, in KiB, that a request of which nothing is to be kept may take: it takes 3,700 to 4,200, and 18,000
 # to 117,000 where each value is read whole and dropped.
 BOUND = 8192
@@ -307,29 +306,16 @@ def bytes_of(octets: bytes) -> bytes:
     """A String or a ByteString."""
     return struct.pack('<I', len(octets)) + octets
 
-def escaped(text: str) -> str:
-    """A text as a field shows it.
-
-    >>> escaped('a\\\\\\n\\x85')
-    'a\\\\\\\\\\\\x0a\\\\xc2\\\\x85'
-    """
-    def shown(one: str) -> str:
-        if one == '\\':
-            return '\\\\'
-        is_control = ord(one) < 0x20 or 0x7F <= ord(one) <= 0x9F
-        return ''.join('\\x%02x' % octet for octet in one.encode()) if is_control else one
-    return ''.join(shown(one) for one in text)
-
 def trials(size: int) -> Iterable[tuple[str, bytes, str, str]]:
     """The side, a body, the path of a field and its text, for a text or bytes of this length."""
     text, octets = text_of(size), octets_of(size)
     item = struct.pack('<I', 13) + NULL + bytes(2) + NULL
-    yield '', b'\x01\0\xAC\x01' + header(False) + bytes_of(text.encode()) + 2 * NULL, 'endpoint_url', escaped(text)
+    yield '', b'\x01\0\xAC\x01' + header(False) + bytes_of(text.encode()) + 2 * NULL, 'endpoint_url', told(text)
     yield ('', b'\x01\0\xCD\x01' + header(False) + APPLICATION + 3 * NULL + bytes_of(octets) + NULL + bytes(12), 'client_nonce',
-           base64.b64encode(octets).decode())
-    yield '', READ + b'\1\0\0\0\3\7\0' + bytes_of(text.encode()) + item, 'nodes_to_read[0].node_id', 'ns=7;s=' + escaped(text)
-    yield '', READ + b'\1\0\0\0\5\0\0' + bytes_of(octets) + item, 'nodes_to_read[0].node_id', 'b=' + base64.b64encode(octets).decode()
-    yield '--server', OPEN_RESPONSE + RESPONSE + bytes(24) + bytes_of(octets), 'server_nonce', base64.b64encode(octets).decode()
+           base64_text(octets))
+    yield '', READ + b'\1\0\0\0\3\7\0' + bytes_of(text.encode()) + item, 'nodes_to_read[0].node_id', 'ns=7;s=' + told(text)
+    yield '', READ + b'\1\0\0\0\5\0\0' + bytes_of(octets) + item, 'nodes_to_read[0].node_id', 'b=' + base64_text(octets)
+    yield '--server', OPEN_RESPONSE + RESPONSE + bytes(24) + bytes_of(octets), 'server_nonce', base64_text(octets)
     name = b'\7\0' + bytes_of(text.encode())
     yield '', READ + b'\1\0\0\0\0\1' + item[:-6] + name, 'nodes_to_read[0].data_encoding', '0x' + name.hex()
     localized = b'\2' + bytes_of(text.encode())
@@ -340,28 +326,16 @@ def trials(size: int) -> Iterable[tuple[str, bytes, str, str]]:
     thing = b'\0\x07\1' + bytes_of(octets)
     yield '--server', b'\x01\0\x8D\x01' + RESPONSE[:-3] + thing, 'response_header.additional_header', '0x' + thing.hex()
 
-def marked(text: str, marks: str = '') -> str:
-    """A text as a value shows it, with these marks by their digits.
-
-    >>> marked('a|\\\\\\n\\x85', '|')
-    'a\\\\x7c\\\\\\\\\\\\x0a\\x85'
-    """
-    def shown(one: str) -> str:
-        if one == '\\':
-            return '\\\\'
-        return '\\x%02x' % ord(one) if ord(one) < 0x20 or ord(one) == 0x7F or one in marks else one
-    return ''.join(shown(one) for one in text)
-
 def plain_trials(size: int) -> Iterable[tuple[str, bytes, str, str]]:
     """The same with --plain."""
     text, octets = text_of(size), octets_of(size)
     item = struct.pack('<I', 13) + NULL
-    info = '{ additional_info (%s)' % marked(text, ',(){}')
-    yield '', READ + b'\1\0\0\0\0\1' + item + b'\7\0' + bytes_of(text.encode()), 'nodes_to_read[0].data_encoding', '7:' + marked(text)
+    info = '{ additional_info (%s)' % escaped(text, Style(), ',(){}')
+    yield '', READ + b'\1\0\0\0\0\1' + item + b'\7\0' + bytes_of(text.encode()), 'nodes_to_read[0].data_encoding', '7:' + escaped(text, Style())
     front, behind = b'\x01\0\xCD\x01' + header(False) + 2 * NULL, APPLICATION[9:] + 5 * NULL + bytes(12)
     path = 'client_description.application_name'
-    yield '', front + b'\2' + bytes_of(text.encode()) + behind, path, marked(text, '|')
-    yield '', front + b'\3' + bytes_of(text.encode()) + bytes_of(b'x') + behind, path, marked(text, '|') + '|x'
+    yield '', front + b'\2' + bytes_of(text.encode()) + behind, path, escaped(text, Style(), '|')
+    yield '', front + b'\3' + bytes_of(text.encode()) + bytes_of(b'x') + behind, path, escaped(text, Style(), '|') + '|x'
     answer = b'\x01\0\x7A\x02' + RESPONSE + NULL + b'\1\0\0\0'
     yield '--server', answer + b'\x10' + bytes_of(text.encode()), 'diagnostic_infos[0]', info + ' }'
     yield ('--server', answer + b'\x51' + struct.pack('<i', -5) + bytes_of(text.encode()) + b'\x20' + struct.pack('<I', 0x80340000),
@@ -369,21 +343,21 @@ def plain_trials(size: int) -> Iterable[tuple[str, bytes, str, str]]:
     thing = b'\0\x07\1' + bytes_of(octets)
     yield '--server', b'\x01\0\x8D\x01' + RESPONSE[:-3] + thing, 'response_header.additional_header', '0x' + thing.hex()
     for number, body, name, shown in [
-        (324, NULL + bytes_of(text.encode()) + 2 * NULL, 'user_name', escaped(text)),
-        (324, 2 * NULL + bytes_of(octets) + NULL, 'password', base64.b64encode(octets).decode()),
-        (327, NULL + bytes_of(octets), 'certificate_data', base64.b64encode(octets).decode()),
-        (940, 2 * NULL + bytes_of(text.encode()), 'encryption_algorithm', escaped(text)),
+        (324, NULL + bytes_of(text.encode()) + 2 * NULL, 'user_name', told(text)),
+        (324, 2 * NULL + bytes_of(octets) + NULL, 'password', base64_text(octets)),
+        (327, NULL + bytes_of(octets), 'certificate_data', base64_text(octets)),
+        (940, 2 * NULL + bytes_of(text.encode()), 'encryption_algorithm', told(text)),
     ]:
         token = b'\1\0' + struct.pack('<H', number) + b'\1' + bytes_of(body)
         yield ('', b'\x01\0\xD3\x01' + header(False) + 4 * NULL + token + 2 * NULL, 'user_identity_token.' + name, shown)
     broken = b'\1\0\x47\1\1' + bytes_of(NULL + bytes_of(octets) + b'\0')
     yield '', b'\x01\0\xD3\x01' + header(False) + 4 * NULL + broken + 2 * NULL, 'user_identity_token', '0x' + broken.hex()
     for value, shown in [
-        (b'\x11\5\0\0' + bytes_of(octets), 'NodeId b=' + base64.b64encode(octets).decode()),
-        (b'\x11\3\7\0' + bytes_of(text.encode()), 'NodeId ns=7;s=' + marked(text)),
-        (b'\x12\x83\0\0' + bytes_of(text.encode()) + bytes_of(b'u;v'), 'ExpandedNodeId nsu=u\\x3bv;s=' + marked(text)),
-        (b'\x91\1\0\0\0\5\0\0' + bytes_of(octets), 'NodeId[] b=' + base64.b64encode(octets).decode()),
-        (b'\x91\1\0\0\0\3\0\0' + bytes_of(text.encode()), 'NodeId[] s=' + marked(text, ',(){}')),
+        (b'\x11\5\0\0' + bytes_of(octets), 'NodeId b=' + base64_text(octets)),
+        (b'\x11\3\7\0' + bytes_of(text.encode()), 'NodeId ns=7;s=' + escaped(text, Style())),
+        (b'\x12\x83\0\0' + bytes_of(text.encode()) + bytes_of(b'u;v'), 'ExpandedNodeId nsu=u\\x3bv;s=' + escaped(text, Style())),
+        (b'\x91\1\0\0\0\5\0\0' + bytes_of(octets), 'NodeId[] b=' + base64_text(octets)),
+        (b'\x91\1\0\0\0\3\0\0' + bytes_of(text.encode()), 'NodeId[] s=' + escaped(text, Style(), ',(){}')),
         (b'\x99\1\0\0\0\x10' + bytes_of(text.encode()), 'DiagnosticInfo[] ' + info + ' }'),
         (b'\xC6' + bytes(4) + struct.pack('<I', size) + bytes(4) + (size - 1) * struct.pack('<i', 2147483647), 'Int32[0]' + (size - 1) * '[2147483647]' + ' '),
     ]:
