@@ -4,7 +4,6 @@
 use crate::fault::Fault;
 use crate::given::{Given, MOMENT, limits, text};
 use std::alloc::Global;
-use std::io;
 use ua_builtin::Wire;
 use ua_channel::{ServerChannel, ServerEvent};
 use ua_frame::{FrameReader, Gate, Kind};
@@ -234,37 +233,25 @@ pub fn answer_among(alloc: Global, given: &Given, times: u32) -> Result<u64, Fau
     Ok(sharing.count)
 }
 
-/// Dissects what a side sent this many times; how many bytes the lines have.
-pub fn dissect_octets(alloc: Global, side: Side, octets: &[u8], times: u32) -> Result<u64, Fault> {
+/// Dissects what a side sent this many times, with the fields of messages or without; how many bytes
+/// the lines have.
+pub fn dissect_octets(
+    alloc: Global,
+    side: Side,
+    fields: bool,
+    octets: &[u8],
+    times: u32,
+) -> Result<u64, Fault> {
+    let mut options = DissectOptions::plain(side);
+    options.fields = fields;
     let mut lines = String::new(alloc);
     let mut sum = 0u64;
     for _ in 0..times {
         lines.clear();
-        let mut dissector = Dissector::new(alloc, DissectOptions::plain(side));
+        let mut dissector = Dissector::new(alloc, options);
         dissector.take(octets, &mut lines)?;
         dissector.finish(&mut lines)?;
         sum = sum.wrapping_add(lines.len() as u64);
-    }
-    Ok(sum)
-}
-
-/// Dissects bytes with the fields of messages this many times, and prints nothing of it; how many
-/// bytes were dissected.
-pub fn print_fields(alloc: Global, side: Side, octets: &[u8], times: u32) -> Result<u64, Fault> {
-    let options = DissectOptions {
-        side,
-        fields: true,
-        names: false,
-        plain: false,
-    };
-    let mut out = io::sink();
-    let mut sum = 0u64;
-    for _ in 0..times {
-        let mut dissector = Dissector::new(alloc, options);
-        match dissector.print(octets, &mut out) {
-            Ok(()) => sum = sum.wrapping_add(octets.len() as u64),
-            Err(_) => return Err(Fault::Memory),
-        }
     }
     Ok(sum)
 }

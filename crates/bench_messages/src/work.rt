@@ -5,9 +5,7 @@ use crate::calls::{call, call_groups};
 use crate::fault::Fault;
 use crate::given::Given;
 use crate::nodes::{load_nodes, read_items, set_items};
-use crate::streams::{
-    answer_among, answer_messages, dissect_octets, print_fields, read_frames, take_messages,
-};
+use crate::streams::{answer_among, answer_messages, dissect_octets, read_frames, take_messages};
 use std::alloc::Global;
 use ua_builtin::{MOST_LEVELS, Octets, Source, Wire};
 use ua_pair::Side;
@@ -129,10 +127,10 @@ impl Work {
             Work::Connection => answer_among(alloc, given, times),
             Work::Call => call(alloc, given, times),
             Work::CallAll => call_groups(alloc, given, times),
-            Work::Dissect => dissect_octets(alloc, Side::Client, octets, times),
-            Work::DissectServer => dissect_octets(alloc, Side::Server, octets, times),
-            Work::Fields => print_fields(alloc, Side::Client, octets, times),
-            Work::FieldsServer => print_fields(alloc, Side::Server, octets, times),
+            Work::Dissect => dissect_octets(alloc, Side::Client, false, octets, times),
+            Work::DissectServer => dissect_octets(alloc, Side::Server, false, octets, times),
+            Work::Fields => dissect_octets(alloc, Side::Client, true, octets, times),
+            Work::FieldsServer => dissect_octets(alloc, Side::Server, true, octets, times),
         }
     }
 }

@@ -3,7 +3,7 @@
 use Rattle.std.proofs.Common.{◌≡◌, ℕ, ◌+◌, Bool, true, false, List, [], ◌++◌, Result, Ok, Err, OnOk, is_ok}
 use Rattle.std.proofs.Common.{if◌then◌else◌, codes, refl, sym, ap, subst, ◌∙◌, append-nil, append_assoc}
 use Rattle.std.specs.Fmt.{decimal}
-use Rattle.ua_texts.specs.PlainLeaf.{Either}
+use Rattle.ua_texts.specs.PlainLeaf.{Adds, Either}
 use Rattle.ua_fields.specs.declared.style.FieldStyle.{FieldStyle}
 use Rattle.ua_fields.specs.Styles.{exact_field_style}
 use Rattle.ua_fields.specs.Messages.{AreMessageLines, message_lines}
@@ -114,3 +114,10 @@ mutual
 -- a message's lines, where they are exact, are those of its tree
 pub exact_message : (names : Bool) (tree : Tree) (told : List ℕ) → AreMessageLines (exact_field_style names) tree told → told ≡ message_lines names tree
 exact_message names tree told h = exact_behind names (codes "  ") [] [] tree told h
+
+-- the lines of a message were added
+pub message_added : {E : Type 0} (r : Result (Unit {0}) E) (style : FieldStyle) (tree : Tree) (old new : List ℕ)
+    → OnOk r (IsBehind style (codes "  ") [] old tree new) → Adds r old new (AreMessageLines style tree)
+message_added (Ok u) style tree old new h =
+    shifted style (codes "  ") [] old [] tree new (subst (λ (x : List ℕ). IsBehind style (codes "  ") [] x tree new) (sym (append-nil old)) h)
+message_added (Err e) style tree old new h = tt

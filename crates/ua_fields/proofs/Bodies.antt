@@ -1,9 +1,9 @@
 -- What the lines of a body are.
 use Rattle.std.specs.Prelude.{◌≡◌, ℕ, Bool, List, ◌++◌, Option, Some, None, Result, Ok, Err, OnOk, ◌↔◌}
 use Rattle.std.proofs.Common.{refl, ap, ◌∙◌}
+use Rattle.ua_opening.specs.Header.{service_fault}
 use Rattle.ua_opening.specs.SecureChannel.{open_request, close_request}
 use Rattle.ua_opening.proofs.SecureChannelLawful.{lawful_open_request, lawful_close_request}
-use Rattle.ua_opening.specs.Header.{service_fault}
 use Rattle.ua_opening.specs.Message.{body_of, message}
 use Rattle.ua_opening.specs.Open.{answer_read}
 use Rattle.ua_opening.proofs.MessageRead.{body_of-found, answer_read-is}
@@ -19,10 +19,10 @@ use Rattle.ua_fields.specs.Tree.{Tree}
 use Rattle.ua_fields.specs.Messages.{AreMessageLines, message_lines, request_tree, response_tree}
 use Rattle.ua_fields.specs.Messages.{open_request_tree, open_answer_tree, close_request_tree, service_fault_tree}
 use Rattle.ua_fields.specs.Bodies.{AreBodyFields, AreFields, IsBodyText, IsFound, IsHeaderText, behind_id, body_fields, fields_found, header_fields}
-use Rattle.ua_fields.specs.declared.side.Side.{Side}
-use Rattle.ua_fields.specs.declared.side.Side.TheVariants.{Client, Server}
 use Rattle.ua_fields.specs.declared.body.BodyKind.{BodyKind}
 use Rattle.ua_fields.specs.declared.body.BodyKind.TheVariants.{Request, Response, OpenRequest, OpenResponse, CloseRequest}
+use Rattle.ua_fields.specs.declared.side.Side.{Side}
+use Rattle.ua_fields.specs.declared.side.Side.TheVariants.{Client, Server}
 
 -- ---- what reading gives is what the octets encode
 

@@ -1,38 +1,6 @@
--- What is printed of a message that was found, or of none.
-use Rattle.std.proofs.Common.{◌≡◌, ℕ, List, IfOk, Option, Some, None, Result, Ok, Err, ◌⊎◌, inl, inr, refl, sym, ap, subst, ◌∙◌}
+-- What was read, or that none was.
+use Rattle.std.proofs.Common.{◌≡◌, Option, Some, None, Result, Ok, Err, ◌⊎◌, inl, inr, refl, sym, ap, ◌∙◌}
 use Rattle.ua_opening.specs.Message.{found_or}
-use Rattle.ua_fields.specs.Bodies.{IsFound}
-use Rattle.ua_fields.specs.Messages.{AreMessageLines}
-use Rattle.ua_fields.specs.Printing.{BreaksOffLines, PrintsOrBreaks, PrintsText}
-use Rattle.ua_fields.specs.Tree.{Tree}
-use Rattle.ua_fields.specs.declared.printing.PrintFault.{PrintFault}
-use Rattle.ua_fields.specs.declared.style.FieldStyle.{FieldStyle}
-use Rattle.ua_fields.proofs.PrintedBodies.{found_has, nothing_printed}
-use Rattle.ua_fields.proofs.Printings.{message_has, nothing_breaks}
-
--- its lines were
-pub found_printed : {A : Type 0} (style : FieldStyle) (a b : Option (List ℕ)) (ka kb : List ℕ) (Is : A → List ℕ → Type 0) (value : A) (there : Option A)
-    (r : Result (Unit {0}) PrintFault) → Some value ≡ there → PrintsOrBreaks style a ka b kb (Is value) r
-    → PrintsOrBreaks style a ka b kb (IsFound Is there) r
-found_printed {A = A} style a b ka kb Is value there r e h = subst (λ (o : Option A). PrintsOrBreaks style a ka b kb (IsFound Is o) r) e h
-
--- none are there
-pub none_printed : {A : Type 0} (known : Option (List ℕ)) (kept : List ℕ) (Is : A → List ℕ → Type 0) (there : Option A) → None ≡ there
-    → PrintsText known kept known kept (IsFound Is there)
-none_printed {A = A} known kept Is there e = subst (λ (o : Option A). PrintsText known kept known kept (IsFound Is o)) e (nothing_printed known kept)
-
--- none of its lines were
-pub found_unprinted : {A : Type 0} (style : FieldStyle) (known : Option (List ℕ)) (kept : List ℕ) (tree : A → Tree) (there : Option A)
-    → BreaksOffLines style known kept known (IsFound (λ m. AreMessageLines style (tree m)) there)
-found_unprinted style known kept tree there =
-    nothing_breaks style known known kept (IsFound (λ m. AreMessageLines style (tree m)) there) refl
-    (λ t. found_has (λ m. AreMessageLines style (tree m)) there (λ m. message_has style t (tree m)))
-
--- what was found is what is there
-pub is_found : {E A : Type 0} (found : Result (Option A) E) (one there : Option A) → found ≡ Ok one → IfOk found (λ o. o ≡ there) → one ≡ there
-is_found {E = E} {A = A} found one there e h = subst (λ (r : Result (Option A) E). IfOk r (λ o. o ≡ there)) e h
-
--- ---- what was read
 
 found_is : {A E : Type 0} (o : Option A) (other : E) (m : A) → ◌≡◌ {A = Result A E} (Ok m) (found_or o other) → Some m ≡ o
 found_is None other m e = absurd cc

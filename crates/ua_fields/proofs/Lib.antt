@@ -5,5 +5,3 @@ mod Tokens
 mod Found
 pub mod Bodies
 pub mod Openings
-pub mod Printings
-pub mod PrintedBodies

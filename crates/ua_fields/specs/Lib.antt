@@ -3,7 +3,6 @@
 pub mod Styles
 pub mod Tree
 pub mod Paths
-pub mod Printing
 pub mod Leaves
 pub mod Header
 pub mod DataValue

@@ -8,14 +8,11 @@ ghost use Rattle.ua_services.specs.Request.{request};
 ghost use Rattle.ua_services.specs.Response.{response};
 ghost use Rattle.ua_fields.specs.Bodies.{AreBodyFields, IsBodyText, IsFound, IsHeaderText, behind_id, body_fields};
 ghost use Rattle.ua_fields.specs.Messages.{AreMessageLines};
-ghost use Rattle.ua_fields.specs.Printing.{PrintsOrBreaks};
 ghost use Rattle.ua_texts.specs.PlainLeaf.{Adds};
 
 use crate::lines::Lines;
-use crate::message::print_message;
-use crate::printing::PrintFault;
+use crate::message::push_message;
 use crate::side::Side;
-use crate::sink::{Kept, Sink};
 use crate::style::FieldStyle;
 use std::alloc::{AllocError, Global};
 use ua_builtin::{MOST_LEVELS, NodeId, ReadFault, Source, Wire};
@@ -128,91 +125,26 @@ fn found_open_answer<S: Source>(
     }
 }
 
-/// Prints the lines of what was found, or none.
-fn print_found<T: Lines + Drop, O: Sink>(
+/// Appends the lines of what was found, or none.
+fn push_found<T: Lines + Drop>(
     alloc: Global,
     style: FieldStyle,
-    found: Result<Option<T>, AllocError>,
-    text: &mut String,
-    out: &mut O,
-) -> Result<(), PrintFault>
-    ensures { (there : Option T) → IfOk found (λ o. o ≡ there)
-        → PrintsOrBreaks style (O.contents out.old) (string_bytes text.old) (O.contents out.new)
-        (string_bytes text.new) (IsFound (λ value. AreMessageLines style (T.tree value)) there) result }
+    found: Option<T>,
+    out: &mut String,
+) -> Result<(), AllocError>
+    ensures { Adds result (string_bytes out.old) (string_bytes out.new)
+        (IsFound (λ value. AreMessageLines style (T.tree value)) found) }
 {
     match found {
-        Ok(Some(value)) => print_message(alloc, style, &value, text, out),
-        Ok(None) => Ok(()),
-        Err(_) => Err(PrintFault::OutOfMemory),
+        Some(value) => push_message(alloc, style, &value, out),
+        None => Ok(()),
     }
 }
 
-/// Prints the lines of a body in this style: those of the message in it, or none if the body cannot
-/// be decoded or is of an unknown service. Discard the source afterwards.
-pub fn print_body<S: Source, O: Sink>(
-    alloc: Global,
-    kind: BodyKind,
-    style: FieldStyle,
-    src: &mut S,
-    text: &mut String,
-    out: &mut O,
-) -> Result<(), PrintFault>
-    ensures { PrintsOrBreaks style (O.contents out.old) (string_bytes text.old) (O.contents out.new)
-        (string_bytes text.new) (IsBodyText style kind (S.octets src.old)) result }
-{
-    match kind {
-        BodyKind::Request => print_found(alloc, style, found_request(alloc, src), text, out),
-        BodyKind::Response => print_found(alloc, style, found_response(alloc, src), text, out),
-        BodyKind::OpenRequest => {
-            print_found(alloc, style, found_open_request(alloc, src), text, out)
-        }
-        BodyKind::OpenResponse => {
-            print_found(alloc, style, found_open_answer(alloc, src), text, out)
-        }
-        BodyKind::CloseRequest => {
-            print_found(alloc, style, found_close_request(alloc, src), text, out)
-        }
-    }
-}
-
-/// Prints the lines of the header of a message that this side sent, if it is decoded completely: a
-/// CloseSecureChannelRequest is a RequestHeader and no more, a ServiceFault a ResponseHeader.
-pub fn print_header<S: Source, O: Sink>(
-    alloc: Global,
-    side: Side,
-    style: FieldStyle,
-    src: &mut S,
-    text: &mut String,
-    out: &mut O,
-) -> Result<(), PrintFault>
-    ensures { PrintsOrBreaks style (O.contents out.old) (string_bytes text.old) (O.contents out.new)
-        (string_bytes text.new) (IsHeaderText style side (S.octets src.old)) result }
-{
-    match side {
-        Side::Client => {
-            print_found(
-                alloc,
-                style,
-                found_behind::<CloseRequest, S>(alloc, src),
-                text,
-                out,
-            )
-        }
-        Side::Server => {
-            print_found(
-                alloc,
-                style,
-                found_behind::<ServiceFault, S>(alloc, src),
-                text,
-                out,
-            )
-        }
-    }
-}
-
-/// Appends the lines of a body in this style, as [`print_body`] prints them. If an allocation
-/// fails, some lines may have been appended.
-fn push_body_text<S: Source>(
+/// Appends the lines of a body in this style: those of the message in it, or none if the body cannot
+/// be decoded or is of an unknown service. Discard the source afterwards. If an allocation fails,
+/// some lines may have been appended.
+pub fn push_body<S: Source>(
     alloc: Global,
     kind: BodyKind,
     style: FieldStyle,
@@ -221,10 +153,12 @@ fn push_body_text<S: Source>(
 ) -> Result<(), AllocError>
     ensures { Adds result (string_bytes out.old) (string_bytes out.new) (IsBodyText style kind (S.octets src.old)) }
 {
-    match print_body(alloc, kind, style, src, out, &mut Kept) {
-        Ok(()) => Ok(()),
-        // There is no writer that could fail.
-        Err(PrintFault::OutOfMemory | PrintFault::Output(_)) => Err(AllocError),
+    match kind {
+        BodyKind::Request => push_found(alloc, style, found_request(alloc, src)?, out),
+        BodyKind::Response => push_found(alloc, style, found_response(alloc, src)?, out),
+        BodyKind::OpenRequest => push_found(alloc, style, found_open_request(alloc, src)?, out),
+        BodyKind::OpenResponse => push_found(alloc, style, found_open_answer(alloc, src)?, out),
+        BodyKind::CloseRequest => push_found(alloc, style, found_close_request(alloc, src)?, out),
     }
 }
 
@@ -243,7 +177,7 @@ pub fn push_body_fields<S: Source>(
         (S.octets src.old)) }
     ensures told { AreBodyFields names kind (S.octets src.old) (body_fields names kind (S.octets src.old)) }
 {
-    push_body_text(alloc, kind, FieldStyle::exact(names), src, out)
+    push_body(alloc, kind, FieldStyle::exact(names), src, out)
 }
 
 /// The value after the NodeId at the start of bytes, whatever follows it.
@@ -259,5 +193,30 @@ fn found_behind<T: Wire, S: Source>(alloc: Global, src: &mut S) -> Result<Option
         Ok(value) => Ok(Some(value)),
         Err(ReadFault::NoValue) => Ok(None),
         Err(ReadFault::OutOfMemory) => Err(AllocError),
+    }
+}
+
+/// Appends the lines of the header of a message that this side sent, if it is decoded completely: a
+/// CloseSecureChannelRequest is a RequestHeader and no more, a ServiceFault a ResponseHeader. If an
+/// allocation fails, some lines may have been appended.
+pub fn push_header<S: Source>(
+    alloc: Global,
+    side: Side,
+    style: FieldStyle,
+    src: &mut S,
+    out: &mut String,
+) -> Result<(), AllocError>
+    ensures { Adds result (string_bytes out.old) (string_bytes out.new)
+        (IsHeaderText style side (S.octets src.old)) }
+{
+    match side {
+        Side::Client => {
+            let found: Option<CloseRequest> = found_behind(alloc, src)?;
+            push_found(alloc, style, found, out)
+        }
+        Side::Server => {
+            let found: Option<ServiceFault> = found_behind(alloc, src)?;
+            push_found(alloc, style, found, out)
+        }
     }
 }

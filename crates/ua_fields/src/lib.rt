@@ -9,8 +9,7 @@
 //! push_body_fields(alloc, BodyKind::Response, true, &mut src, &mut out)?; // one line each
 //! ```
 //!
-//! [`print_body`] and [`print_header`] append them to a text that they hand to a [`Sink`] whenever it
-//! is long: a writer is one.
+//! [`push_body`] appends them in any style, [`push_header`] those of the header alone.
 #![tactic(auto)]
 
 mod array;
@@ -25,20 +24,16 @@ mod message;
 mod null;
 mod opened;
 mod path;
-mod printing;
 mod secure_channel;
 mod security_token;
 mod session;
 mod side;
-mod sink;
 mod style;
 mod text;
 mod value;
 
-pub use body::{BodyKind, print_body, print_header, push_body_fields};
+pub use body::{BodyKind, push_body, push_body_fields, push_header};
 pub use opened::skip_open_response;
-pub use printing::{PrintFault, write_kept};
 pub use side::Side;
-pub use sink::{Kept, Sink};
 pub use style::FieldStyle;
 pub use text::push_node;

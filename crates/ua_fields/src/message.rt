@@ -2,11 +2,9 @@
 
 ghost use Rattle.std.specs.Prelude.{string_bytes};
 ghost use Rattle.ua_fields.specs.Messages.{AreMessageLines};
-ghost use Rattle.ua_fields.specs.Printing.{PrintsOrBreaks};
+ghost use Rattle.ua_texts.specs.PlainLeaf.{Adds};
 
 use crate::lines::{Lines, Place};
-use crate::printing::PrintFault;
-use crate::sink::Sink;
 use crate::style::FieldStyle;
 use std::alloc::{AllocError, Global};
 use ua_services::{OpenAnswer, Request, Response};
@@ -71,24 +69,21 @@ impl Lines for OpenAnswer {
     }
 }
 
-/// Prints the lines of a message: they are appended to those that are kept, which are written where
-/// they are many.
-pub(crate) fn print_message<T: Lines, O: Sink>(
+/// Appends the lines of a message.
+#[tactic(auto, using(crate::proofs::Behind::message_added))]
+pub(crate) fn push_message<T: Lines>(
     alloc: Global,
     style: FieldStyle,
     message: &T,
-    text: &mut String,
-    out: &mut O,
-) -> Result<(), PrintFault>
-    ensures { PrintsOrBreaks style (O.contents out.old) (string_bytes text.old) (O.contents out.new)
-        (string_bytes text.new) (AreMessageLines style (T.tree message.now)) result }
+    out: &mut String,
+) -> Result<(), AllocError>
+    ensures { Adds result (string_bytes out.old) (string_bytes out.new)
+        (AreMessageLines style (T.tree message.now)) }
 {
     let place = Place {
         style,
         margin: "  ",
         path: "",
     };
-    message.push_lines(alloc, text, place)?;
-    out.write_full(text)?;
-    Ok(())
+    message.push_lines(alloc, out, place)
 }

@@ -1,10 +1,9 @@
 -- How a dissector moves on with octets.
-use Rattle.std.proofs.Common.{◌≡◌, ℕ, ◌+◌, ◌<◌, ◌≤◌, ◌⊎◌, inl, inr, List, [], ◌∷◌, ◌++◌, Result, Ok, Err, OnOk, OnErr, IfErr, Option}
+use Rattle.std.proofs.Common.{◌≡◌, ℕ, ◌+◌, ◌<◌, ◌≤◌, ◌⊎◌, inl, inr, List, [], ◌∷◌, ◌++◌, Result, Ok, Err, OnOk, OnErr, Option}
 use Rattle.std.proofs.Common.{is_ok, if◌then◌else◌, Some, None, true, false, length, take, drop, refl, sym, ap, ap₂}
 use Rattle.std.proofs.Common.{subst, ◌∙◌, arith, append-nil, append_assoc, length-append, length-drop, take-append-drop}
 use Rattle.std.proofs.Math.Seq.{take-add, take-length}
 use Rattle.std.proofs.lemmas.List.{take_all}
-use Rattle.std.specs.Io.KnownBytes.{Appends}
 use Rattle.ua_builtin.specs.declared.status_code.StatusCode.{StatusCode}
 use Rattle.ua_builtin.specs.Status.{of_code}
 use Rattle.ua_wire.specs.Format.{Extends}
@@ -30,19 +29,12 @@ use Rattle.ua_chunk.specs.Open.{open_octets}
 use Rattle.ua_pair.specs.Before.{message_chunks}
 use Rattle.ua_pair.specs.Dissected.{rules, every_frame, AddsLines, AreTexts, AreTold}
 use Rattle.ua_pair.specs.Dissecting.{Holds, DissectorGoesOn, HasRefused, IsDissectorClosed, AreHeld, DissectorStandsAt, StandsBehind, TellsMore}
-use Rattle.ua_pair.specs.Dissecting.{IsStarved, PrintsFirst, PrintsMore, PrintsPiece, WritesPiece, PrintsPart}
 use Rattle.ua_pair.specs.Dissecting.{EndsLines, is_dissecting, MovesOn, TakesPiece, Accepts, RefusesFrame, FrameTold, TakesNone, DissectsSome}
 use Rattle.ua_pair.specs.Lines.{refused_line}
 use Rattle.ua_pair.specs.Refused.{frame_reasons}
-use Rattle.ua_fields.specs.Printing.{BreaksOffLines, EachHasText, PrintsText, PrintsLines, PrintsOrBreaks}
-use Rattle.ua_pair.specs.Styles.{style_of}
-use Rattle.ua_fields.specs.declared.style.FieldStyle.{FieldStyle}
-use Rattle.ua_fields.specs.declared.printing.PrintFault.{PrintFault}
-use Rattle.ua_fields.specs.declared.printing.PrintFault.TheVariants as print
 use Rattle.ua_pair.specs.Telling.{ArePendingLines, TellerStands}
 use Rattle.ua_pair.specs.Told.{IsFrameText, place_behind}
 use Rattle.ua_pair.proofs.Befores.{message_chunks-nil}
-use Rattle.ua_fields.proofs.Printings.{lines_then, only_kept}
 use Rattle.ua_pair.proofs.Texts.{texts_push}
 
 -- ---- states
@@ -349,140 +341,24 @@ pub takes_tells : {E : Type 0} (r : Result (Unit {0}) E) (d e : Dissector) (piec
 takes_tells (Ok u) d e piece a b x options o told s = record { lines = x.lines; added = x.added; stands = x.moves options o told s }
 takes_tells (Err u) d e piece a b x options o told s = tt
 
--- ---- a piece that is printed
+-- what is complete was told, and what was pending behind it
+pub so_far_pending : (d m e : Dissector) (piece : List ℕ) (at n : ℕ) (rest a b lines shown mid c : List ℕ) (pending : Option Pending) → SoFar d m piece at a b
+    → rest ≡ drop at piece → ((more : List ℕ) → ArePendingLines e.teller.options pending more → DissectsSome m rest n e (lines ++ more))
+    → shown ≡ lines → mid ≡ b ++ shown → ((more : List ℕ) × (c ≡ mid ++ more) × ArePendingLines e.teller.options pending more)
+    → SoFar d e piece (at + n) a c
+so_far_pending d m e piece at n rest a b lines shown mid c pending x rest_is y shown_is grown p =
+    so_far_more d m e piece at n rest a b c (lines ++ p.0) (shown ++ p.0) x rest_is (y p.0 p.2) (ap (λ (t : List ℕ). t ++ p.0) shown_is)
+    (p.1 ∙ ap (λ (t : List ℕ). t ++ p.0) grown ∙ append_assoc b shown p.0)
 
--- the lines of what is in front of a place of a piece were printed, or are kept
-pub record PrintedSoFar (d e : Dissector) (piece : List ℕ) (at : ℕ) (before after : Option (List ℕ)) (left : List ℕ) : Type 0 where
-  pub lines : List ℕ
-  pub so_far : SoFar d e piece at [] lines
-  pub printed : PrintsLines before [] after left lines
-
-pub printed_first : (d : Dissector) (piece left : List ℕ) (known : Option (List ℕ)) → left ≡ [] → PrintedSoFar d d piece 0 known known left
-printed_first d piece left known empty = record { lines = []; so_far = so_far_first d piece []; printed = only_kept known [] left [] empty }
-
-pub printed_more : (d m e : Dissector) (piece : List ℕ) (at n : ℕ) (rest lines shown : List ℕ) (pending : Option Pending) (a b c w : Option (List ℕ))
-    (kb mid kc left : List ℕ) → PrintedSoFar d m piece at a b kb → rest ≡ drop at piece
-    → ((more : List ℕ) → ArePendingLines e.teller.options pending more → DissectsSome m rest n e (lines ++ more))
-    → shown ≡ lines → mid ≡ kb ++ shown → PrintsText b mid c kc (ArePendingLines e.teller.options pending) → PrintsLines c kc w left []
-    → PrintedSoFar d e piece (at + n) a w left
-printed_more d m e piece at n rest lines shown pending a b c w kb mid kc left x rest_is y shown_is grown p written =
-    let kept : PrintsLines b kb b mid lines = only_kept b kb mid lines (grown ∙ ap (λ (t : List ℕ). kb ++ t) shown_is) in
-    let told : PrintsLines b kb c kc (lines ++ p.lines) = lines_then b b c kb mid kc lines p.lines kept p.printed in
-    let more : PrintsLines b kb w left ((lines ++ p.lines) ++ []) = lines_then b c w kb kc left (lines ++ p.lines) [] told written in
-    record {
-      lines = x.lines ++ (lines ++ p.lines);
-      so_far = so_far_more d m e piece at n rest [] x.lines (x.lines ++ (lines ++ p.lines)) (lines ++ p.lines) (lines ++ p.lines) x.so_far rest_is
-          (y p.lines p.holds) refl refl;
-      printed = lines_then a b w [] kb left x.lines (lines ++ p.lines) x.printed
-          (subst (λ (t : List ℕ). PrintsLines b kb w left t) (append-nil (lines ++ p.lines)) more);
-    }
-
-pub printed_end : (d m e : Dissector) (piece : List ℕ) (at : ℕ) (rest lines : List ℕ) (a b : Option (List ℕ)) (kb : List ℕ)
-    → PrintedSoFar d m piece at a b kb → rest ≡ drop at piece → TakesNone m rest e lines → PrintsPiece d e piece a b kb
-printed_end d m e piece at rest lines a b kb x rest_is none =
-    let t = so_far_end d m e piece at rest [] x.lines lines x.so_far rest_is none in
-    record { lines = t.lines; printed = subst (λ (l : List ℕ). PrintsLines a [] b kb l) t.added x.printed; moves = t.moves }
-
--- all of them were written
-pub piece_written : (d e : Dissector) (piece : List ℕ) (a b c : Option (List ℕ)) (kb left : List ℕ) → PrintsPiece d e piece a b kb
-    → PrintsLines b kb c left [] → left ≡ [] → WritesPiece d e piece a c
-piece_written d e piece a b c kb left x written empty =
-    let all = lines_then a b c [] kb left x.lines [] x.printed written in
-    let whole : all.written ≡ x.lines =
-    sym (append-nil all.written) ∙ ap (λ (l : List ℕ). all.written ++ l) (sym empty) ∙ sym all.are ∙ append-nil x.lines in
-    record { lines = x.lines; added = subst (λ (l : List ℕ). Appends a c l) whole all.added; moves = x.moves }
-
--- none was written, and all were added to a text
-pub piece_kept : {E : Type 0} (r : Result (Unit {0}) E) (d e : Dissector) (piece kb text old new : List ℕ) → PrintsPiece d e piece (Some []) (Some []) kb
-    → text ≡ kb → new ≡ (if is_ok r then old ++ text else old) → OnOk r (TakesPiece d e piece old new)
-piece_kept (Ok u) d e piece kb text old new x text_is grown =
-    let same : x.lines ≡ kb = x.printed.are ∙ ap (λ (l : List ℕ). l ++ kb) (sym x.printed.added) in
-    record { lines = x.lines; added = grown ∙ ap (λ (l : List ℕ). old ++ l) (text_is ∙ sym same); moves = x.moves }
-piece_kept (Err f) d e piece kb text old new x text_is grown = tt
-
--- ---- a piece of which the first lines are printed
-
-stands_options : (d : Dissector) (options : DissectOptions) (fs : List Frame) (rest : List ℕ) (end : End ℕ) → DissectorStandsAt d options fs rest end
-    → d.teller.options ≡ options
-stands_options d options fs rest Going at = at.options_are
-stands_options d options fs rest (Stopped code) at = at.options_are
-stands_options d options fs rest Over at = absurd at
-
--- lines that are told of the octets in front of a place, the first of which were printed
-begins_at : (d e : Dissector) (piece : List ℕ) (at : ℕ) (lines written lost more : List ℕ) (options : DissectOptions) (o told : List ℕ)
-    → StandsBehind d options o told → SoFar d e piece at [] (lines ++ more) → lines ≡ written ++ lost
-    → (front : List ℕ) × (behind : List ℕ) × (rest : List ℕ) × (piece ≡ front ++ behind) × AreTold options (o ++ front) (told ++ (written ++ rest))
-begins_at d e piece at lines written lost more options o told s x parts =
-    let same : x.takes.lines ≡ written ++ (lost ++ more) =
-    sym x.takes.added ∙ ap (λ (l : List ℕ). l ++ more) parts ∙ append_assoc written lost more in (
-      take at piece,
-      drop at piece,
-      lost ++ more,
-      sym (take-append-drop at piece),
-      subst (λ (l : List ℕ). AreTold options (o ++ take at piece) (told ++ l)) same (x.takes.moves options o told s).are,
-    )
-
--- nothing more was printed
-pub printed_some : (d m : Dissector) (piece : List ℕ) (at : ℕ) (a b : Option (List ℕ)) (kb : List ℕ) → PrintedSoFar d m piece at a b kb
-    → PrintsPart d piece a b
-printed_some d m piece at a b kb x = record {
-  lines = x.printed.written;
-  added = x.printed.added;
-  begin = λ options o told s t.
-      begins_at d m piece at x.lines x.printed.written kb [] options o told s
-      (subst (λ (l : List ℕ). SoFar d m piece at [] l) (sym (append-nil x.lines)) x.so_far) x.printed.are;
+-- a piece was told in a text of its own, which was added
+pub piece_added : {E : Type 0} (r : Result (Unit {0}) E) (d e : Dissector) (piece none told text old new : List ℕ) → TakesPiece d e piece none told → none ≡ []
+    → text ≡ told → new ≡ (if is_ok r then old ++ text else old) → OnOk r (TakesPiece d e piece old new)
+piece_added (Ok u) d e piece none told text old new x empty text_is grown = record {
+  lines = x.lines;
+  added = grown ∙ ap (λ (l : List ℕ). old ++ l) (text_is ∙ x.added ∙ ap (λ (l : List ℕ). l ++ x.lines) empty);
+  moves = x.moves;
 }
-
--- the first of the lines that were pending were, too
-pub pending_some : (d m e : Dissector) (piece : List ℕ) (at n : ℕ) (rest lines shown : List ℕ) (pending : Option Pending) (a b c : Option (List ℕ))
-    (kb mid : List ℕ) → PrintedSoFar d m piece at a b kb → rest ≡ drop at piece
-    → ((more : List ℕ) → ArePendingLines e.teller.options pending more → DissectsSome m rest n e (lines ++ more))
-    → e.teller.options ≡ m.teller.options → shown ≡ lines → mid ≡ kb ++ shown
-    → BreaksOffLines (style_of e.teller.options) b mid c (ArePendingLines e.teller.options pending) → PrintsPart d piece a c
-pending_some d m e piece at n rest lines shown pending a b c kb mid x rest_is y options_are shown_is grown p =
-    let kept : PrintsLines b kb b mid lines = only_kept b kb mid lines (grown ∙ ap (λ (t : List ℕ). kb ++ t) shown_is) in
-    let told : PrintsLines b kb c p.lost (lines ++ p.lines) = lines_then b b c kb mid p.lost lines p.lines kept p.printed in
-    let all = lines_then a b c [] kb p.lost x.lines (lines ++ p.lines) x.printed told in
-    record {
-      lines = all.written;
-      added = all.added;
-      begin = λ options o told s t.
-          let at_place = x.so_far.takes.moves options o told s in
-          let same : e.teller.options ≡ options =
-          options_are ∙ stands_options m options at_place.are.frames at_place.are.rest at_place.are.end at_place.at in
-          let f = p.front (subst (λ (k : DissectOptions). EachHasText (style_of k)) (sym same) t) in
-          let more = p.lines ++ f.0 in
-          let so_far = so_far_more d m e piece at n rest [] x.lines (x.lines ++ (lines ++ more)) (lines ++ more) (lines ++ more) x.so_far rest_is
-          (y more f.1) refl refl in
-          let parts : x.lines ++ (lines ++ more) ≡ (x.lines ++ (lines ++ p.lines)) ++ f.0 =
-          ap (λ (l : List ℕ). x.lines ++ l) (sym (append_assoc lines p.lines f.0)) ∙ sym (append_assoc x.lines (lines ++ p.lines) f.0) in
-          begins_at d e piece (at + n) (x.lines ++ (lines ++ p.lines)) all.written p.lost f.0 options o told s
-          (subst (λ (l : List ℕ). SoFar d e piece (at + n) [] l) parts so_far) all.are;
-    }
-
--- an allocation failed where the lines that were pending were printed
-pub broken_off : (style : FieldStyle) (a b : Option (List ℕ)) (ka kb : List ℕ) (Is : List ℕ → Type 0) (fault : PrintFault)
-    → PrintsOrBreaks style a ka b kb Is (Err fault) → IsStarved fault → BreaksOffLines style a ka b Is
-broken_off style a b ka kb Is print.OutOfMemory h starved = h
-broken_off style a b ka kb Is (print.Output error) h starved = absurd starved
-
--- nothing was printed at all
-pub printed_none : (d : Dissector) (piece : List ℕ) (known : Option (List ℕ)) → PrintsPart d piece known known
-printed_none d piece known = printed_some d d piece 0 known known [] (printed_first d piece [] known refl)
-
--- what was printed of the lines of a piece
-pub prints_first : (r : Result (Unit {0}) PrintFault) (d : Dissector) (piece : List ℕ) (a b : Option (List ℕ))
-    → IfErr r (λ fault. IsStarved fault → PrintsPart d piece a b) → (options : DissectOptions) (o told : List ℕ) → StandsBehind d options o told
-    → IfErr r (λ fault. IsStarved fault → PrintsFirst options o told piece a b)
-prints_first (Ok u) d piece a b x options o told s = tt
-prints_first (Err fault) d piece a b x options o told s = λ starved.
-    let h = x starved in record { lines = h.lines; added = h.added; begin = h.begin options o told s }
-
--- what was printed with a piece
-pub prints_more : {E : Type 0} (r : Result (Unit {0}) E) (d e : Dissector) (piece : List ℕ) (a b : Option (List ℕ)) → OnOk r (WritesPiece d e piece a b)
-    → (options : DissectOptions) (o told : List ℕ) → StandsBehind d options o told → OnOk r (PrintsMore e options (o ++ piece) told a b)
-prints_more (Ok u) d e piece a b x options o told s = record { lines = x.lines; added = x.added; stands = x.moves options o told s }
-prints_more (Err u) d e piece a b x options o told s = tt
+piece_added (Err f) d e piece none told text old new x empty text_is grown = tt
 
 -- ---- the last line
 

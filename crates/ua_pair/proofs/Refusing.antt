@@ -1,13 +1,12 @@
 -- A dissector that met a frame that is refused.
-use Rattle.std.proofs.Common.{◌≡◌, ◌++◌, [], ap, append-nil, refl, subst, sym, ℕ, List, Option, true, false}
-use Rattle.std.proofs.KnownBytes.{Appends-nil}
+use Rattle.std.proofs.Common.{◌≡◌, ◌++◌, [], ap, append-nil, refl, subst, sym, ℕ, List, true, false}
 use Rattle.ua_frame.specs.declared.frame.Frame.{Frame}
 use Rattle.ua_frame.specs.Run.{End, Going, Stopped, Over}
 use Rattle.ua_pair.specs.declared.dissector.Dissector.{Dissector}
 use Rattle.ua_pair.specs.declared.dissector.State.{State}
 use Rattle.ua_pair.specs.declared.dissector.State.TheVariants as state
 use Rattle.ua_pair.specs.declared.options.DissectOptions.{DissectOptions}
-use Rattle.ua_pair.specs.Dissecting.{DissectorStandsAt, PrintsMore, StandsBehind, TellsMore, is_dissecting, is_refused, is_stopped}
+use Rattle.ua_pair.specs.Dissecting.{DissectorStandsAt, StandsBehind, TellsMore, is_dissecting, is_refused, is_stopped}
 use Rattle.ua_pair.proofs.Dissections.{stays}
 
 refused_at : (d : Dissector) (options : DissectOptions) (fs : List Frame) (rest : List ℕ) (end : End ℕ) → DissectorStandsAt d options fs rest end
@@ -39,15 +38,3 @@ says_no_more d options octets told piece text refused s = record {
   added = sym (append-nil text);
   stands = subst (λ (t : List ℕ). StandsBehind d options (octets ++ piece) t) (sym (append-nil told)) (refused_stays d options octets told piece refused s);
 }
-
--- and prints no more
-pub prints_no_more : (d : Dissector) (options : DissectOptions) (octets told piece : List ℕ) (known : Option (List ℕ)) → is_refused d.state ≡ true
-    → StandsBehind d options octets told → PrintsMore d options (octets ++ piece) told known known
-prints_no_more d options octets told piece known refused s =
-    let t = says_no_more d options octets told piece [] refused s in
-    record {
-      lines = [];
-      added = Appends-nil known;
-      stands = subst (λ (l : List ℕ). StandsBehind d options (octets ++ piece) (told ++ l))
-          (sym t.added) t.stands;
-    }

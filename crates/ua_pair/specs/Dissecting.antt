@@ -1,6 +1,5 @@
 -- The state of a dissector after bytes, and what one more fragment makes of it.
 use Rattle.std.specs.Prelude.{◌≡◌, ℕ, ◌+◌, ◌<◌, ◌≤◌, ◌⊎◌, Bool, true, false, length, take, List, [], ◌∷◌, ◌++◌, Option, Some, None}
-use Rattle.std.specs.Io.KnownBytes.{Appends}
 use Rattle.ua_frame.specs.declared.frame.Frame.{Frame}
 use Rattle.ua_frame.specs.Reader.{open_reader}
 use Rattle.ua_frame.specs.Run.{Run, End, Going, Stopped, Over, refusal}
@@ -12,10 +11,6 @@ use Rattle.ua_pair.specs.declared.dissector.State.TheVariants as state
 use Rattle.ua_pair.specs.declared.options.DissectOptions.{DissectOptions}
 use Rattle.ua_pair.specs.Before.{message_chunks}
 use Rattle.ua_pair.specs.Dissected.{rules, every_frame, AreTold, AreLines}
-use Rattle.ua_fields.specs.Printing.{EachHasText, PrintsLines}
-use Rattle.ua_pair.specs.Styles.{style_of}
-use Rattle.ua_fields.specs.declared.printing.PrintFault.{PrintFault}
-use Rattle.ua_fields.specs.declared.printing.PrintFault.TheVariants as print
 use Rattle.ua_pair.specs.declared.pending.Pending.{Pending}
 use Rattle.ua_pair.specs.Telling.{ArePendingLines, TellerStands}
 use Rattle.ua_pair.specs.Told.{IsFrameText, place_behind}
@@ -86,35 +81,11 @@ pub record TellsMore (d : Dissector) (options : DissectOptions) (octets told old
   pub added : new ≡ old ++ lines
   pub stands : StandsBehind d options octets (told ++ lines)
 
--- the lines that were printed are those that a fragment adds to the lines of these bytes
-pub record PrintsMore (d : Dissector) (options : DissectOptions) (octets told : List ℕ) (before after : Option (List ℕ)) : Type 0 where
-  pub lines : List ℕ
-  pub added : Appends before after lines
-  pub stands : StandsBehind d options octets (told ++ lines)
-
--- the lines that a front of a fragment adds to the lines of these bytes begin with these, where
--- each value has a text
-abbrev pub BeginWithin : DissectOptions → List ℕ → List ℕ → List ℕ → List ℕ → Type 0
-BeginWithin options octets told piece lines = EachHasText (style_of options) → (front : List ℕ) × (behind : List ℕ) × (rest : List ℕ)
-    × (piece ≡ front ++ behind) × AreTold options (octets ++ front) (told ++ (lines ++ rest))
-
--- the lines that were printed are the first of those that a fragment adds to the lines of these
--- bytes
-pub record PrintsFirst (options : DissectOptions) (octets told piece : List ℕ) (before after : Option (List ℕ)) : Type 0 where
-  pub lines : List ℕ
-  pub added : Appends before after lines
-  pub begin : BeginWithin options octets told piece lines
-
 -- the last line was appended: with the lines before it, these are the lines of the bytes
 pub record EndsLines (options : DissectOptions) (octets told old new : List ℕ) : Type 0 where
   pub line : List ℕ
   pub added : new ≡ old ++ line
   pub are : AreLines options octets (told ++ line)
-
--- an allocation failed, and the writer did not
-abbrev pub IsStarved : PrintFault → Type 0
-IsStarved print.OutOfMemory = Unit {0}
-IsStarved (print.Output error) = ⊥
 
 -- ---- a fragment, as it is taken
 
@@ -151,24 +122,6 @@ pub record TakesPiece (old new : Dissector) (piece before after : List ℕ) : Ty
   pub lines : List ℕ
   pub added : after ≡ before ++ lines
   pub moves : MovesOn old new piece lines
-
--- a fragment was taken, and of its lines the first were printed: the others are kept
-pub record PrintsPiece (old new : Dissector) (piece : List ℕ) (before after : Option (List ℕ)) (left : List ℕ) : Type 0 where
-  pub lines : List ℕ
-  pub printed : PrintsLines before [] after left lines
-  pub moves : MovesOn old new piece lines
-
--- a fragment was taken, and lines were printed
-pub record WritesPiece (old new : Dissector) (piece : List ℕ) (before after : Option (List ℕ)) : Type 0 where
-  pub lines : List ℕ
-  pub added : Appends before after lines
-  pub moves : MovesOn old new piece lines
-
--- a fragment was taken in part, and of the lines that it adds the first were printed
-pub record PrintsPart (old : Dissector) (piece : List ℕ) (before after : Option (List ℕ)) : Type 0 where
-  pub lines : List ℕ
-  pub added : Appends before after lines
-  pub begin : (options : DissectOptions) (octets told : List ℕ) → StandsBehind old options octets told → BeginWithin options octets told piece lines
 
 -- a frame after these was accepted, with these lines
 pub record Accepts (new : Dissector) (options : DissectOptions) (before : List Frame) (f : Frame) (lines : List ℕ) : Type 0 where

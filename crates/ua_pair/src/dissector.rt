@@ -1,27 +1,24 @@
 //! The dissector of the bytes that one side sent.
 
 ghost use Rattle.std.specs.Prelude.{◌≡◌, ◌++◌, ◌≤◌, [], ℕ, List, true, IsErr};
-ghost use Rattle.std.specs.Prelude.{IsOk, OnOk, OnErr, IfErr, IfOk, string_bytes};
+ghost use Rattle.std.specs.Prelude.{IsOk, OnOk, OnErr, IfOk, string_bytes};
 ghost use Rattle.ua_frame.specs.declared.frame.Frame.{Frame};
 ghost use Rattle.ua_frame.specs.Frames.{IsSized, LetsIn};
 ghost use Rattle.ua_pair.specs.Dissected.{every_frame as open_gate};
 ghost use Rattle.ua_pair.specs.Dissecting.{StandsBehind, TellsMore, EndsLines, AreHeld, IsDissectorClosed};
 ghost use Rattle.ua_pair.specs.Dissecting.{most_buffered, Holds, DissectorGoesOn, FrameTold, TakesPiece};
 ghost use Rattle.ua_pair.specs.Dissecting.{TakesNext, is_dissecting, is_refused, is_stopped, HasRefusedOne};
-ghost use Rattle.ua_pair.specs.Dissecting.{IsStarved, PrintsFirst, PrintsMore, PrintsPart, PrintsPiece, WritesPiece};
 ghost use Rattle.ua_pair.specs.Telling.{ArePendingLines};
 ghost use Rattle.ua_pair.specs.Told.{place_behind};
 
 use crate::fault::DissectFault;
 use crate::line::{push_refused_line, push_rest_line};
 use crate::options::DissectOptions;
-use crate::pending::{Pending, print_pending};
+use crate::pending::{Pending, push_pending};
 use crate::reader::EveryReader;
 use crate::teller::{Teller, frame_size};
 use std::alloc::{AllocError, Global};
-use std::io::Write;
 use ua_builtin::StatusCode;
-use ua_fields::{Kept, PrintFault, Sink, write_kept};
 use ua_frame::Frame;
 
 /// The most bytes that a dissector buffers: those of a UA TCP message of the greatest size, and as
@@ -177,49 +174,44 @@ impl Dissector {
         }
     }
 
-    /// Prints the lines of what a fragment completes, unless an allocation or the writer failed
-    /// before: the text, which is empty, keeps those that are not handed over.
-    fn print_piece<O: Sink>(
-        &mut self,
-        piece: &[u8],
-        text: &mut String,
-        out: &mut O,
-    ) -> Result<(), PrintFault>
-        requires { string_bytes text.old ≡ [] }
-        ensures prints { OnOk result (PrintsPiece self.old self.new piece.now (O.contents out.old) (O.contents out.new)
-            (string_bytes text.new)) }
-        ensures begun { IfErr result (λ fault. IsStarved fault
-            → PrintsPart self.old piece.now (O.contents out.old) (O.contents out.new)) }
+    /// Appends the lines of what a fragment completes, unless an allocation failed before. If one
+    /// fails, some of them may have been appended.
+    fn push_piece(&mut self, piece: &[u8], text: &mut String) -> Result<(), AllocError>
+        ensures takes { OnOk result
+            (TakesPiece self.old self.new piece.now (string_bytes text.old) (string_bytes text.new)) }
         ensures closed { IsDissectorClosed self.old → IsErr result }
     {
         if let State::Closed = self.state {
-            return Err(PrintFault::OutOfMemory);
+            return Err(AllocError);
         }
         let mut lines = String::new(self.alloc);
         let mut at = 0;
         while let Some((taken, pending)) = self.take_next(&piece[at..], &mut lines)? {
             text.push_str(&lines)?;
-            print_pending(self.alloc, &self.teller.options, &pending, text, out)?;
-            out.write_full(text)?;
+            push_pending(self.alloc, &self.teller.options, &pending, text)?;
             at += taken;
         }
         Ok(())
     }
 
-    /// Appends the lines of what a fragment completes, unless an allocation failed before. On an
-    /// error the text is unchanged.
+    /// Does what [`push_piece`](Dissector::push_piece) does, but on an error the text is unchanged.
     fn take_all(&mut self, piece: &[u8], out: &mut String) -> Result<(), AllocError>
         ensures takes { OnOk result
             (TakesPiece self.old self.new piece.now (string_bytes out.old) (string_bytes out.new)) }
         ensures err { OnErr result (string_bytes out.new ≡ string_bytes out.old) }
         ensures closed { IsDissectorClosed self.old → IsErr result }
     {
-        let mut lines = String::new(self.alloc);
-        match self.print_piece(piece, &mut lines, &mut Kept) {
-            Ok(()) => out.push_str(&lines),
-            // There is no writer that could fail.
-            Err(PrintFault::OutOfMemory | PrintFault::Output(_)) => Err(AllocError),
+        // Fields may have many lines, which are not copied then.
+        if out.is_empty() {
+            if let Err(fault) = self.push_piece(piece, out) {
+                out.clear();
+                return Err(fault);
+            }
+            return Ok(());
         }
+        let mut text = String::new(self.alloc);
+        self.push_piece(piece, &mut text)?;
+        out.push_str(&text)
     }
 
     /// Takes the next bytes, and appends the lines of the UA TCP messages and messages that are
@@ -248,49 +240,6 @@ impl Dissector {
             self.stop(State::Closed);
         }
         taken
-    }
-
-    /// Prints the lines of what a fragment completes, unless an allocation or the writer failed
-    /// before.
-    fn print_all<O: Write>(&mut self, piece: &[u8], out: &mut O) -> Result<(), PrintFault>
-        ensures prints { OnOk result
-            (WritesPiece self.old self.new piece.now (O.contents out.old) (O.contents out.new)) }
-        ensures begun { IfErr result (λ fault. IsStarved fault
-            → PrintsPart self.old piece.now (O.contents out.old) (O.contents out.new)) }
-        ensures closed { IsDissectorClosed self.old → IsErr result }
-    {
-        let mut text = String::new(self.alloc);
-        self.print_piece(piece, &mut text, out)?;
-        write_kept(&mut text, out)?;
-        Ok(())
-    }
-
-    /// Takes the next bytes, and prints what [`take`](Dissector::take) would append, without holding
-    /// all of it: lines are handed over when they are some 64 KiB. On an error the dissector takes
-    /// nothing more. Where an allocation failed, the first of the lines may have been printed; where
-    /// the writer failed, it is not known what was.
-    pub fn print<O: Write>(&mut self, piece: &[u8], out: &mut O) -> Result<(), PrintFault>
-        // The lines printed so far depend on the bytes alone, however they were fragmented.
-        ensures told { (options : DissectOptions) (octets told : List ℕ) → StandsBehind self.old options octets told
-            → OnOk result (PrintsMore self.new options (octets ++ piece.now) told (O.contents out.old)
-            (O.contents out.new)) }
-        // Where an allocation fails, the writer has the first lines of those that `told` tells.
-        ensures begun { (options : DissectOptions) (octets told : List ℕ) → StandsBehind self.old options octets told
-            → IfErr result (λ fault. IsStarved fault
-            → PrintsFirst options octets told piece.now (O.contents out.old) (O.contents out.new)) }
-        ensures failed { OnErr result (IsDissectorClosed self.new) }
-        ensures closed { IsDissectorClosed self.old → IsErr result }
-        // After a rejected UA TCP message nothing more is printed, whatever comes.
-        ensures rests { HasRefusedOne self.old → IsOk result × (out.new ≡ out.old) × HasRefusedOne self.new }
-    {
-        if self.is_refused() {
-            return Ok(());
-        }
-        let printed = self.print_all(piece, out);
-        if printed.is_err() {
-            self.stop(State::Closed);
-        }
-        printed
     }
 
     /// Makes the last line, when no further bytes come.

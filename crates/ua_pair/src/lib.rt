@@ -38,4 +38,4 @@ pub use encoding::encoding_name;
 pub use options::DissectOptions;
 pub use pending::MOST_FIELD_OCTETS;
 pub use stream::dissect;
-pub use ua_fields::{BodyKind, PrintFault, Side, push_body_fields};
+pub use ua_fields::{BodyKind, Side, push_body_fields};

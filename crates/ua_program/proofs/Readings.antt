@@ -6,10 +6,7 @@ use Rattle.std.specs.Io.KnownBytes.{Appends, Consumes, IsAtEnd}
 use Rattle.std.specs.Borrow.{Bor}
 use Rattle.ua_pair.specs.declared.dissector.Dissector.{Dissector}
 use Rattle.ua_pair.specs.declared.options.DissectOptions.{DissectOptions}
-use Rattle.ua_pair.specs.Dissected.{AreTold}
-use Rattle.ua_pair.specs.Dissecting.{StandsBehind, TellsMore, EndsLines, IsStarved, PrintsFirst, PrintsMore}
-use Rattle.ua_fields.specs.declared.printing.PrintFault.{PrintFault}
-use Rattle.ua_fields.specs.declared.printing.PrintFault.TheVariants as print
+use Rattle.ua_pair.specs.Dissecting.{StandsBehind, TellsMore, EndsLines}
 use Rattle.hex.specs.Hex.{decode_of}
 use Rattle.ua_program.specs.Looped.{HasLoopedUntil}
 use Rattle.ua_program.specs.Talked.{HasTalked}
@@ -24,8 +21,7 @@ use Rattle.ua_report.specs.declared.fault.Fault.TheVariants.{NoMemory, NotHexade
 use Rattle.ua_session.specs.declared.verdict.Verdict.{Verdict}
 use Rattle.ua_report.specs.declared.output.Stop.{Stop}
 use Rattle.ua_report.specs.declared.output.Stop.TheVariants as stop
-use Rattle.ua_program.specs.Dissects.{AreLinesOf, DissectsAll, EndsFile, GivesNone, HasBegunDissecting, HasBegunFields, IsJudged, LeavesNone, PrintsLast}
-use Rattle.ua_program.specs.Dissects.{PrintsBeginning, PrintsContent, PrintsInPart, StopsInFields, StopsPiece, stop_of_print}
+use Rattle.ua_program.specs.Dissects.{AreLinesOf, DissectsAll, EndsFile, GivesNone, HasBegunDissecting, IsJudged, LeavesNone, PrintsLast}
 use Rattle.ua_report.specs.Reasons.{StopsWriting}
 use Rattle.ua_program.specs.Dissects.{PrintsNext, PrintsPiece, ReadsIntoFragment, StopsLast, StopsNext, StopsReading, TellsPiece, ToldSoFar}
 use Rattle.ua_report.proofs.HexParts.{hex_first}
@@ -202,148 +198,6 @@ pub none_plain : {P : Type 0} (hex : Bool) (content : List ℕ) → hex ≡ fals
 none_plain false content is none = absurd (none content refl)
 none_plain true content is none = absurd cc
 
--- ---- lines that are printed as a message is read
-
-pub prints_content : (hex : Bool) (options : DissectOptions) (half half2 : Option ℕ) (e e2 : Dissector) (content octets told : List ℕ)
-    (old new new2 : Option (List ℕ)) → half ≡ half2 → e ≡ e2 → new ≡ new2 → HoldsSoFar hex half2 content octets → PrintsMore e2 options octets told old new2
-    → PrintsContent hex options half e content told old new
-prints_content hex options half half2 e e2 content octets told old new new2 p q r holds t = record {
-  lines = t.lines;
-  added = subst (λ (n : Option (List ℕ)). Appends old n t.lines) (sym r) t.added;
-  so_far = record {
-    octets = octets;
-    holds = subst (λ (h : Option ℕ). HoldsSoFar hex h content octets) (sym p) holds;
-    stands = subst (λ (d : Dissector). StandsBehind d options octets (told ++ t.lines)) (sym q) t.stands;
-  };
-}
-
--- the first lines of octets more
-pub prints_beginning : (hex : Bool) (options : DissectOptions) (half : Option ℕ) (content octets more told : List ℕ) (old new : Option (List ℕ))
-    → HoldsSoFar hex half content (octets ++ more) → PrintsFirst options octets told more old new → PrintsBeginning hex options content told old new
-prints_beginning hex options half content octets more told old new holds p = record {
-  lines = p.lines;
-  added = p.added;
-  half = half;
-  octets = octets ++ more;
-  holds = holds;
-  first = λ t.
-      let b = p.begin t in (
-        octets ++ b.0,
-        b.1,
-        b.2,
-        ap (λ (x : List ℕ). octets ++ x) b.3 ∙ sym (append_assoc octets b.0 b.1),
-        subst (λ (x : List ℕ). AreTold options (octets ++ b.0) x) (sym (append_assoc told p.lines b.2)) b.4,
-      );
-}
-
--- all lines of what is complete
-pub prints_all : (hex : Bool) (options : DissectOptions) (half : Option ℕ) (d : Dissector) (content told : List ℕ) (old new : Option (List ℕ))
-    → PrintsContent hex options half d content told old new → PrintsBeginning hex options content told old new
-prints_all hex options half d content told old new p = record {
-  lines = p.lines;
-  added = p.added;
-  half = half;
-  octets = p.so_far.octets;
-  holds = p.so_far.holds;
-  first = λ t. (
-    p.so_far.octets,
-    [],
-    [],
-    sym (append-nil p.so_far.octets),
-    subst (λ (x : List ℕ). AreTold options p.so_far.octets x) (sym (append-nil (told ++ p.lines))) p.so_far.stands.are,
-  );
-}
-
--- the last line is printed after them, at a frame that is refused
-pub prints_refused_fields : (verdict : Verdict) (hex : Bool) (options : DissectOptions) (half : Option ℕ) (d : Dissector)
-    (content piece told cleared text : List ℕ) (before after old mid new : Option (List ℕ)) → hex ≡ false
-    → ((octets lines more : List ℕ) → StandsBehind d options octets lines → StandsBehind d options (octets ++ more) lines)
-    → Consumes before after piece → cleared ≡ [] → PrintsContent hex options half d (content ++ piece) told old mid
-    → ((c t : List ℕ) → ToldSoFar hex options half d c t → EndsFile hex options c t cleared text × IsJudged verdict hex options c)
-    → Appends mid new text → PrintsLast verdict hex options content told before after old new
-prints_refused_fields verdict hex options half d content piece told cleared text before after old mid new plain stays consumed empty p ends printed =
-    let t : TellsPiece hex options half d (content ++ piece) told [] p.lines = record { lines = p.lines; added = refl; so_far = p.so_far } in
-    let behind : (c u : List ℕ) → ToldSoFar hex options half d c u → EndsFile hex options c u p.lines (p.lines ++ text) × IsJudged verdict hex options c =
-    λ c u s.
-    let e = ends c u s in (
-      record { line = e.0.line; added = ap (λ (x : List ℕ). p.lines ++ x) (e.0.added ∙ ap (λ (x : List ℕ). x ++ e.0.line) empty); lines = e.0.lines },
-      e.1,
-    ) in
-    prints_refused verdict hex options half d content piece told [] p.lines (p.lines ++ text) before after old new plain stays consumed refl t behind
-    (appends_more old mid new p.lines text p.added printed)
-
--- why a fault of printing stops a command
-pub print_stops : {P : Type 0} (fault : PrintFault) (why : Stop) → why ≡ stop_of_print fault → (IsStarved fault → P)
-    → StopsWriting why ⊎ ((why ≡ stop.Fault NoMemory) × P)
-print_stops print.OutOfMemory why is h = inr (is, h tt)
-print_stops (print.Output error) why is h = inl (subst StopsWriting (sym is) tt)
-
--- the lines of octets are not all printed
-pub octets_stop : {P : Type 0} (hex : Bool) (file : Bor (List ℕ)) (content : List ℕ) (why : Stop)
-    → StopsWriting why ⊎ ((why ≡ stop.Fault NoMemory) × P) → StopsPiece hex file content why
-octets_stop hex file content why (inl output) = inl output
-octets_stop hex file content why (inr memory) = inr (inl memory.0)
-
--- and what is printed of them
-pub octets_begun : {K : Type 0} (hex : Bool) (options : DissectOptions) (half : Option ℕ) (content octets more told : List ℕ) (old new : Option (List ℕ))
-    (why : Stop) → HoldsSoFar hex half content (octets ++ more)
-    → StopsWriting why ⊎ ((why ≡ stop.Fault NoMemory) × PrintsFirst options octets told more old new)
-    → StopsWriting why ⊎ (K ⊎ ((why ≡ stop.Fault NoMemory) × PrintsBeginning hex options content told old new))
-octets_begun hex options half content octets more told old new why holds (inl output) = inl output
-octets_begun hex options half content octets more told old new why holds (inr h) =
-    inr (inr (h.0, prints_beginning hex options half content octets more told old new holds h.1))
-
--- digits that cannot be made good stop a fragment
-pub digits_stop : (hex : Bool) (file : Bor (List ℕ)) (content : List ℕ) (fault : Fault) (why : Stop) → hex ≡ true → why ≡ stop.Fault fault
-    → (fault ≡ NoMemory) ⊎ ((fault ≡ NotHexadecimal file) × IsNeverHex content) → StopsPiece hex file content why
-digits_stop true file content fault why digits is (inl memory) = inr (inl (is ∙ ap stop.Fault memory))
-digits_stop true file content fault why digits is (inr refused) = inr (inr (is ∙ ap stop.Fault refused.0, refused.1))
-digits_stop false file content fault why digits is h = absurd cc
-
--- a reason for which no lines of a fragment are printed stops the next read
-pub piece_stops : (hex : Bool) (file : Bor (List ℕ)) (content all : List ℕ) (known : Option (List ℕ)) (why : Stop)
-    → (HoldsNever hex all → LeavesNone hex content known) → StopsPiece hex file all why → StopsNext hex file content known why
-piece_stops hex file content all known why leaves (inl output) = inl output
-piece_stops hex file content all known why leaves (inr (inl memory)) = inr (inl memory)
-piece_stops hex file content all known why leaves (inr (inr refused)) = inr (inr (inr (refused.0, leaves refused.1)))
-
--- where nothing was printed in part, the writer was left alone
-pub kept_begun : {T : Type 0} (K : Type 0) (r : Result T Stop) (Part : Stop → Type 0) → IfErr r (λ why. StopsWriting why ⊎ K)
-    → IfErr r (λ why. StopsWriting why ⊎ (K ⊎ Part why))
-kept_begun K (Ok x) Part h = tt
-kept_begun K (Err why) Part (inl output) = inl output
-kept_begun K (Err why) Part (inr kept) = inr (inl kept)
-
--- what was printed of a fragment where it stops
-pub part_printed : {W K M : Type 0} (hex : Bool) (options : DissectOptions) (content told piece : List ℕ) (before after old new : Option (List ℕ))
-    → options.fields ≡ true → Consumes before after piece → W ⊎ (K ⊎ (M × PrintsBeginning hex options (content ++ piece) told old new))
-    → W ⊎ (K ⊎ (((options.fields ≡ true) × M) × PrintsInPart hex options content told before old new))
-part_printed hex options content told piece before after old new fields consumed (inl w) = inl w
-part_printed hex options content told piece before after old new fields consumed (inr (inl k)) = inr (inl k)
-part_printed hex options content told piece before after old new fields consumed (inr (inr h)) =
-    inr (inr ((fields, h.0), record { after = after; piece = piece; consumed = consumed; beginning = h.1 }))
-
--- what was printed where the last line is not, after a frame that is refused
-pub last_in_part : {K : Type 0} (hex : Bool) (file : Bor (List ℕ)) (options : DissectOptions) (half : Option ℕ) (d : Dissector) (content told piece : List ℕ)
-    (before after old mid new : Option (List ℕ)) (why : Stop) → hex ≡ false → options.fields ≡ true → Consumes before after piece
-    → PrintsContent hex options half d (content ++ piece) told old mid → StopsLast hex file (content ++ piece) why → StopsWriting why ⊎ (new ≡ mid)
-    → StopsWriting why ⊎ (K ⊎ (StopsInFields options why × PrintsInPart hex options content told before old new))
-last_in_part hex file options half d content told piece before after old mid new why plain fields consumed p stops (inl output) = inl output
-last_in_part hex file options half d content told piece before after old mid new why plain fields consumed p (inl output) (inr same) = inl output
-last_in_part hex file options half d content told piece before after old mid new why plain fields consumed p (inr (inl memory)) (inr same) =
-    inr (inr (
-      (fields, memory),
-      record {
-        after = after;
-        piece = piece;
-        consumed = consumed;
-        beginning = subst (λ (n : Option (List ℕ)). PrintsBeginning hex options (content ++ piece) told old n) (sym same)
-            (prints_all hex options half d (content ++ piece) told old mid p);
-      },
-    ))
-last_in_part hex file options half d content told piece before after old mid new why plain fields consumed p (inr (inr refused)) (inr same) =
-    none_plain hex (content ++ piece) plain refused.1
-
 -- ---- all that is read
 
 -- a file was read and its lines were printed so far
@@ -410,21 +264,6 @@ has_begun hex options half d before now old held s = record {
   added = s.added;
 }
 
-pub has_begun_fields : (hex : Bool) (options : DissectOptions) (half : Option ℕ) (d : Dissector) (before now old held new : Option (List ℕ))
-    (s : ReadSoFar hex options half d before now old held) → PrintsInPart hex options s.content s.told now held new
-    → HasBegunFields hex options before old new
-has_begun_fields hex options half d before now old held new s p = record {
-  after = p.after;
-  content = s.content ++ p.piece;
-  consumed = consumes_more before now p.after s.content p.piece s.consumed p.consumed;
-  half = p.beginning.half;
-  octets = p.beginning.octets;
-  holds = p.beginning.holds;
-  text = s.told ++ p.beginning.lines;
-  first = p.beginning.first;
-  added = appends_more old held new s.told p.beginning.lines s.added p.beginning.added;
-}
-
 -- what leaves none behind what was read gives none
 gives_none : (hex : Bool) (before now : Option (List ℕ)) (content : List ℕ) → Consumes before now content → LeavesNone hex content now → GivesNone hex before
 gives_none hex None now content h none all is = absurd cc
@@ -464,11 +303,10 @@ dissected verdict hex options before after old new d = record {
   added = d.added;
 }
 
-pub told_some : {A : Type 0} (hex : Bool) (options : DissectOptions) (why : Stop) (source old new : Option (List ℕ))
-    → A ⊎ (HasBegunDissecting hex options source old new ⊎ (StopsInFields options why × HasBegunFields hex options source old new)) → A ⊎ HasToldSome old new
-told_some hex options why source old new (inl a) = inl a
-told_some hex options why source old new (inr (inl h)) = inr (record { hex = hex; options = options; source = source; lines = inl h })
-told_some hex options why source old new (inr (inr h)) = inr (record { hex = hex; options = options; source = source; lines = inr (h.0.0, h.1) })
+pub told_some : {A : Type 0} (hex : Bool) (options : DissectOptions) (source old new : Option (List ℕ)) → A ⊎ HasBegunDissecting hex options source old new
+    → A ⊎ HasToldSome old new
+told_some hex options source old new (inl a) = inl a
+told_some hex options source old new (inr h) = inr (record { hex = hex; options = options; source = source; lines = h })
 
 -- a script that stopped has begun
 pub loop_stops : {A B : Type 0} (people names : Bool) (why : Stop) (old new : Option (List ℕ)) → A ⊎ (B ⊎ HasLoopedUntil people names why old new)

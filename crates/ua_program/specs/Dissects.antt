@@ -6,10 +6,6 @@ use Rattle.ua_pair.specs.declared.dissector.Dissector.{Dissector}
 use Rattle.ua_pair.specs.declared.options.DissectOptions.{DissectOptions}
 use Rattle.ua_pair.specs.Dissected.{AreLines, AreTold}
 use Rattle.ua_pair.specs.Dissecting.{StandsBehind, is_stopped}
-use Rattle.ua_fields.specs.Printing.{EachHasText}
-use Rattle.ua_fields.specs.declared.printing.PrintFault.{PrintFault}
-use Rattle.ua_fields.specs.declared.printing.PrintFault.TheVariants as print
-use Rattle.ua_pair.specs.Styles.{style_of}
 use Rattle.ua_frame.specs.Run.{End}
 use Rattle.ua_session.specs.declared.verdict.Verdict.{Verdict}
 use Rattle.ua_session.specs.declared.verdict.Verdict.TheVariants.{AllGood, SomeBad}
@@ -57,34 +53,6 @@ pub record HasBegunDissecting (hex : Bool) (options : DissectOptions) (before ol
   pub told : AreTold options octets text
   pub added : Appends old new text
 
--- where each value has a text, as it has if texts are exact, the lines of the frames of some bytes
--- with which these begin are this text and what follows it
-abbrev pub AreFirstLines : DissectOptions → List ℕ → List ℕ → Type 0
-AreFirstLines options octets text = EachHasText (style_of options) → (front : List ℕ) × (behind : List ℕ) × (rest : List ℕ) × (octets ≡ front ++ behind)
-    × AreTold options front (text ++ rest)
-
--- content was read from the start of a source, and a writer that had the old bytes then has after
--- them the first lines of the frames of what it contains so far
-pub record HasBegunFields (hex : Bool) (options : DissectOptions) (before old new : Option (List ℕ)) : Type 0 where
-  pub after : Option (List ℕ)
-  pub content : List ℕ
-  pub consumed : Consumes before after content
-  pub half : Option ℕ
-  pub octets : List ℕ
-  pub holds : HoldsSoFar hex half content octets
-  pub text : List ℕ
-  pub first : AreFirstLines options octets text
-  pub added : Appends old new text
-
--- why a command stops whose lines are not printed
-abbrev pub stop_of_print : PrintFault → Stop
-stop_of_print print.OutOfMemory = stop.Fault NoMemory
-stop_of_print (print.Output error) = stop.Output error
-
--- an allocation failed where fields are wanted, which are printed as a message is read
-abbrev pub StopsInFields : DissectOptions → Stop → Type 0
-StopsInFields options why = (options.fields ≡ true) × (why ≡ stop.Fault NoMemory)
-
 -- a source is read to its end, or to a frame after which nothing has lines; a writer that had the
 -- old bytes then has after them the lines of all that was read, and the verdict tells whether a
 -- frame is rejected
@@ -122,27 +90,6 @@ pub record TellsPiece (hex : Bool) (options : DissectOptions) (half : Option ℕ
   pub added : new ≡ old ++ lines
   pub so_far : ToldSoFar hex options half d content (told ++ lines)
 
--- with more content, the lines of that were printed
-pub record PrintsContent (hex : Bool) (options : DissectOptions) (half : Option ℕ) (d : Dissector) (content told : List ℕ)
-    (old new : Option (List ℕ)) : Type 0 where
-  pub lines : List ℕ
-  pub added : Appends old new lines
-  pub so_far : ToldSoFar hex options half d content (told ++ lines)
-
--- of the lines that follow those told so far, with this content, the first were printed
-pub record PrintsBeginning (hex : Bool) (options : DissectOptions) (content told : List ℕ) (old new : Option (List ℕ)) : Type 0 where
-  pub lines : List ℕ
-  pub added : Appends old new lines
-  pub half : Option ℕ
-  pub octets : List ℕ
-  pub holds : HoldsSoFar hex half content octets
-  pub first : AreFirstLines options octets (told ++ lines)
-
--- why the lines of a fragment are not printed, with this content
-abbrev pub StopsPiece : Bool → Bor (List ℕ) → List ℕ → Stop → Type 0
-StopsPiece hex file content why =
-    StopsWriting why ⊎ (why ≡ stop.Fault NoMemory) ⊎ ((why ≡ stop.Fault (NotHexadecimal file)) × HoldsNever hex content)
-
 -- the last line was appended: with the lines before it, these are the lines of the file
 pub record EndsFile (hex : Bool) (options : DissectOptions) (content told old new : List ℕ) : Type 0 where
   pub line : List ℕ
@@ -176,13 +123,6 @@ pub record PrintsLast (verdict : Verdict) (hex : Bool) (options : DissectOptions
   pub lines : AreLinesOf hex options (content ++ piece) (told ++ line)
   pub whole : IsWholeFile hex options after (content ++ piece) (told ++ line)
   pub judged : IsJudged verdict hex options (content ++ piece)
-
--- one more fragment was read, and of the lines that follow those told so far the first were printed
-pub record PrintsInPart (hex : Bool) (options : DissectOptions) (content told : List ℕ) (before old new : Option (List ℕ)) : Type 0 where
-  pub after : Option (List ℕ)
-  pub piece : List ℕ
-  pub consumed : Consumes before after piece
-  pub beginning : PrintsBeginning hex options (content ++ piece) told old new
 
 -- what one more read prints, as the last one or not
 abbrev pub PrintsNext : Option Verdict → Bool → DissectOptions → Option ℕ → Dissector → List ℕ → List ℕ → Option (List ℕ) → Option (List ℕ) → Option (List ℕ)

@@ -6,7 +6,7 @@ use Rattle.ua_pair.specs.Dissected.{AreLines}
 use Rattle.ua_session.specs.Printed.{AreAnswerLines, AreEndpointLines, HasAdded}
 use Rattle.ua_answers.specs.declared.style.AnswerStyle.{AnswerStyle}
 use Rattle.ua_answers.specs.declared.style.EndpointStyle.{EndpointStyle}
-use Rattle.ua_program.specs.Dissects.{HasBegunDissecting, HasBegunFields}
+use Rattle.ua_program.specs.Dissects.{HasBegunDissecting}
 use Rattle.ua_program.specs.Judges.{HasJudged}
 use Rattle.ua_program.specs.Looped.{HasLoopedSome}
 use Rattle.ua_serving.specs.AtOnce.{ServesAsked, ServesSomeAsked}
@@ -51,12 +51,12 @@ pub record HasBegunServing (old new : Option (List ℕ)) : Type 0 where
   pub lines : ServesAsked asked old new ⊎ ServesSomeAsked asked old new
 
 -- a writer that had the old bytes then has after them the lines of the frames of one side at the
--- start of some source, without a last line; where fields are wanted, these or the first of them
+-- start of some source, without a last line
 pub record HasToldSome (old new : Option (List ℕ)) : Type 0 where
   pub hex : Bool
   pub options : DissectOptions
   pub source : Option (List ℕ)
-  pub lines : HasBegunDissecting hex options source old new ⊎ ((options.fields ≡ true) × HasBegunFields hex options source old new)
+  pub lines : HasBegunDissecting hex options source old new
 
 -- what a run may append that then meets a fault: the lines of frames, the first lines of
 -- `ua serve`, lines of endpoints or of answers, those of a script, or those of a session

@@ -3,22 +3,19 @@
 ghost use Rattle.std.specs.Prelude.{◌≡◌, ◌++◌, ◌⊎◌, ◌<◌, [], ℕ, List, length, true};
 ghost use Rattle.std.specs.Prelude.{false, cond, string_bytes, IfOk, IfErr, OnOk};
 ghost use Rattle.std.specs.Io.KnownBytes.{Appends};
-ghost use Rattle.ua_pair.specs.Dissecting.{PrintsFirst, PrintsMore, StandsBehind};
+ghost use Rattle.ua_pair.specs.Dissecting.{StandsBehind};
 ghost use Rattle.ua_pair.specs.declared.options.DissectOptions.{DissectOptions};
 ghost use Rattle.ua_session.specs.declared.verdict.Verdict.TheVariants.{AllGood, SomeBad};
 ghost use Rattle.ua_report.specs.Digits.{HoldsNone, HoldsNever, HoldsOctets, HoldsSoFar};
 ghost use Rattle.ua_program.specs.Dissects.{DissectsAll, EndsFile, HasBegunDissecting, IsJudged, PrintsNext};
 ghost use Rattle.ua_program.specs.Dissects.{ReadsIntoFragment, StopsLast, StopsNext};
-ghost use Rattle.ua_program.specs.Dissects.{HasBegunFields, PrintsBeginning, PrintsContent, PrintsInPart};
-ghost use Rattle.ua_program.specs.Dissects.{StopsInFields, StopsPiece, stop_of_print};
 ghost use Rattle.ua_program.specs.Dissects.{StopsReading, TellsPiece, ToldSoFar};
 ghost use Rattle.ua_report.specs.declared.fault.Fault.TheVariants.{CannotRead, NoMemory, NotHexadecimal};
 ghost use Rattle.ua_report.specs.Reasons.{StopsWriting};
-ghost use Rattle.ua_report.specs.declared.output.Stop.TheVariants as stop;
 
 use std::alloc::Global;
 use std::io::{ErrorKind, Read, Write};
-use ua_pair::{Dissector, PrintFault};
+use ua_pair::Dissector;
 use ua_report::{Fault, HexPieces, Stop, say, say_lines};
 use ua_session::Verdict;
 use ua_words::Dissect;
@@ -50,66 +47,6 @@ fn push_piece<'a>(
         dissector.take(octets.as_slice(), text)?;
     } else {
         dissector.take(piece, text)?;
-    }
-    Ok(())
-}
-
-/// Why a command stops whose lines are not printed.
-fn stop_of<'a>(fault: PrintFault) -> Stop<'a>
-    ensures { result ≡ stop_of_print fault }
-{
-    match fault {
-        PrintFault::OutOfMemory => Stop::Fault(Fault::NoMemory),
-        PrintFault::Output(error) => Stop::Output(error),
-    }
-}
-
-/// Prints the lines of what a fragment completes, those of fields as a message is read.
-fn print_octets<'a, O: Write>(
-    dissector: &mut Dissector,
-    piece: &[u8],
-    out: &mut O,
-) -> Result<(), Stop<'a>>
-    ensures told { (options : DissectOptions) (octets told : List ℕ) → StandsBehind dissector.old options octets told
-        → OnOk result (PrintsMore dissector.new options (octets ++ piece.now) told (O.contents out.old)
-        (O.contents out.new)) }
-    ensures begun { (options : DissectOptions) (octets told : List ℕ) → StandsBehind dissector.old options octets told
-        → IfErr result (λ why. StopsWriting why ⊎ ((why ≡ stop.Fault NoMemory)
-        × PrintsFirst options octets told piece.now (O.contents out.old) (O.contents out.new))) }
-{
-    match dissector.print(piece, out) {
-        Ok(()) => Ok(()),
-        Err(fault) => Err(stop_of(fault)),
-    }
-}
-
-/// Prints the lines of what is complete with one read of a file's content.
-fn print_piece<'a, O: Write>(
-    alloc: Global,
-    asked: &Dissect<'a>,
-    digits: &mut HexPieces,
-    dissector: &mut Dissector,
-    piece: &[u8],
-    out: &mut O,
-) -> Result<(), Stop<'a>>
-    ensures lines { (content told : List ℕ)
-        → ToldSoFar asked.now.hex asked.now.options digits.old.half dissector.old content told
-        → OnOk result (PrintsContent asked.now.hex asked.now.options digits.new.half dissector.new
-        (content ++ piece.now) told (O.contents out.old) (O.contents out.new)) }
-    ensures stopped { (content told : List ℕ)
-        → ToldSoFar asked.now.hex asked.now.options digits.old.half dissector.old content told
-        → IfErr result (λ stop. StopsPiece asked.now.hex asked.now.file (content ++ piece.now) stop) }
-    ensures begun { (content told : List ℕ)
-        → ToldSoFar asked.now.hex asked.now.options digits.old.half dissector.old content told
-        → IfErr result (λ why. StopsWriting why ⊎ (out.new ≡ out.old) ⊎ ((why ≡ stop.Fault NoMemory)
-        × PrintsBeginning asked.now.hex asked.now.options (content ++ piece.now) told (O.contents out.old)
-        (O.contents out.new))) }
-{
-    if asked.hex {
-        let octets = digits.take(alloc, asked.file, piece)?;
-        print_octets(dissector, octets.as_slice(), out)?;
-    } else {
-        print_octets(dissector, piece, out)?;
     }
     Ok(())
 }
@@ -217,7 +154,7 @@ struct Dissection {
 /// Reads once more, and prints the lines of what is complete by then; at the end, or at a frame
 /// that is refused, prints the last line and returns whether one is refused. Digits are read to
 /// their end.
-fn print_next_lines<'a, I: Read, O: Write>(
+fn print_next<'a, I: Read, O: Write>(
     alloc: Global,
     asked: &Dissect<'a>,
     source: &mut I,
@@ -257,89 +194,11 @@ fn print_next_lines<'a, I: Read, O: Write>(
     Ok(None)
 }
 
-/// Does what [`print_next_lines`] does, and prints the lines of the fields of a message.
-fn print_next_fields<'a, I: Read, O: Write>(
-    alloc: Global,
-    asked: &Dissect<'a>,
-    source: &mut I,
-    dissection: &mut Dissection,
-    piece: &mut [u8],
-    out: &mut O,
-) -> Result<Option<Verdict>, Stop<'a>>
-    requires room { 0 < length piece.old }
-    requires fields { asked.now.options.fields ≡ true }
-    ensures prints { (content told : List ℕ)
-        → ToldSoFar asked.now.hex asked.now.options dissection.old.digits.half dissection.old.dissector content told
-        → IfOk result (λ ended. PrintsNext ended asked.now.hex asked.now.options dissection.new.digits.half
-        dissection.new.dissector content told (I.remaining source.old) (I.remaining source.new) (O.contents out.old)
-        (O.contents out.new)) }
-    ensures begun { (content told : List ℕ)
-        → ToldSoFar asked.now.hex asked.now.options dissection.old.digits.half dissection.old.dissector content told
-        → IfErr result (λ why. StopsWriting why ⊎ (out.new ≡ out.old) ⊎ (StopsInFields asked.now.options why
-        × PrintsInPart asked.now.hex asked.now.options content told (I.remaining source.old) (O.contents out.old)
-        (O.contents out.new))) }
-    ensures stopped { (content told : List ℕ)
-        → ToldSoFar asked.now.hex asked.now.options dissection.old.digits.half dissection.old.dissector content told
-        → IfErr result (λ stop. StopsNext asked.now.hex asked.now.file content (I.remaining source.old) stop) }
-{
-    let Dissection {
-        digits,
-        dissector,
-        text,
-    } = dissection;
-    text.clear();
-    let Some(n) = read_piece(asked.file, source, piece)? else {
-        return Ok(None);
-    };
-    if n == 0 {
-        return Ok(Some(print_last(asked, digits, dissector, text, out)?));
-    }
-    print_piece(alloc, asked, digits, dissector, &piece[..n], out)?;
-    let done = is_told(asked, dissector);
-    if done {
-        return Ok(Some(print_last(asked, digits, dissector, text, out)?));
-    }
-    Ok(None)
-}
-
-/// Reads once more, and prints the lines of what is complete by then, those of fields as a message
-/// is read, where they are wanted.
-fn print_next<'a, I: Read, O: Write>(
-    alloc: Global,
-    asked: &Dissect<'a>,
-    source: &mut I,
-    dissection: &mut Dissection,
-    piece: &mut [u8],
-    out: &mut O,
-) -> Result<Option<Verdict>, Stop<'a>>
-    requires room { 0 < length piece.old }
-    ensures prints { (content told : List ℕ)
-        → ToldSoFar asked.now.hex asked.now.options dissection.old.digits.half dissection.old.dissector content told
-        → IfOk result (λ ended. PrintsNext ended asked.now.hex asked.now.options dissection.new.digits.half
-        dissection.new.dissector content told (I.remaining source.old) (I.remaining source.new) (O.contents out.old)
-        (O.contents out.new)) }
-    ensures begun { (content told : List ℕ)
-        → ToldSoFar asked.now.hex asked.now.options dissection.old.digits.half dissection.old.dissector content told
-        → IfErr result (λ why. StopsWriting why ⊎ (out.new ≡ out.old) ⊎ (StopsInFields asked.now.options why
-        × PrintsInPart asked.now.hex asked.now.options content told (I.remaining source.old) (O.contents out.old)
-        (O.contents out.new))) }
-    ensures stopped { (content told : List ℕ)
-        → ToldSoFar asked.now.hex asked.now.options dissection.old.digits.half dissection.old.dissector content told
-        → IfErr result (λ stop. StopsNext asked.now.hex asked.now.file content (I.remaining source.old) stop) }
-{
-    if asked.options.fields {
-        print_next_fields(alloc, asked, source, dissection, piece, out)
-    } else {
-        print_next_lines(alloc, asked, source, dissection, piece, out)
-    }
-}
-
 /// Prints the lines of all that a source contains, each as soon as what it describes is complete,
 /// and returns whether a frame is refused. After such a frame it reads no further, except for the
 /// digits of a file, which are all checked. A fault that stops it is returned after the lines of
-/// what was read before are printed; where fields are wanted and an allocation fails, the first of
-/// the lines that follow may have been printed, too. A source without an end within
-/// 18446744073709551615 reads cannot be read.
+/// what was read before are printed. A source without an end within 18446744073709551615 reads
+/// cannot be read.
 pub(crate) fn dissect_source<'a, I: Read, O: Write>(
     alloc: Global,
     asked: &Dissect<'a>,
@@ -349,9 +208,7 @@ pub(crate) fn dissect_source<'a, I: Read, O: Write>(
     ensures lines { IfOk result (λ verdict. DissectsAll verdict asked.now.hex asked.now.options (I.remaining source.old)
         (I.remaining source.new) (O.contents out.old) (O.contents out.new)) }
     ensures begun { IfErr result (λ stop. StopsWriting stop ⊎ HasBegunDissecting asked.now.hex asked.now.options
-        (I.remaining source.old) (O.contents out.old) (O.contents out.new) ⊎ (StopsInFields asked.now.options stop
-        × HasBegunFields asked.now.hex asked.now.options (I.remaining source.old) (O.contents out.old)
-        (O.contents out.new))) }
+        (I.remaining source.old) (O.contents out.old) (O.contents out.new)) }
     ensures stopped { IfErr result (λ stop. StopsReading asked.now.hex asked.now.file (I.remaining source.old) stop) }
 {
     let digits = HexPieces::new();

@@ -1,9 +1,9 @@
 use Rattle.std.proofs.Common.{inl, inr, sym, subst, arith}
 use Rattle.std.proofs.lemmas.Result.{err_from_is_err_and}
-use Rattle.ua_program.specs.Dissects.{StopsInFields, StopsNext}
+use Rattle.ua_program.specs.Dissects.{StopsNext}
 use Rattle.ua_report.specs.Reasons.{StopsWriting}
 use Rattle.ua_report.specs.declared.output.Stop.{Stop}
-use Rattle.ua_program.proofs.Readings.{as_last, as_piece, has_begun, has_begun_fields, read_first, reads_all, reads_on, stops_reading}
+use Rattle.ua_program.proofs.Readings.{as_last, as_piece, has_begun, read_first, reads_all, reads_on, stops_reading}
 use Rattle.ua_program.proofs.dissect.dissect_source.Goals as goal
 
 pub loop-reads-init : goal.loop-reads-init
@@ -17,19 +17,12 @@ pub returns-in_err-ended-clause-begun : goal.returns-in_err-ended-clause-begun
 returns-in_err-ended-clause-begun g c =
     let s = c.loop-reads.invariant.so_far in
     let p = err_from_is_err_and c.from_residual.result c.from_residual.ensures.1 in
-    rw p.1 (elim (c.in_err-ended.ensures.begun s.content s.told s.so_far) [
+    rw p.1 (elim c.in_err-ended.ensures.kept [
       | inl output ↦ inl (subst StopsWriting (sym p.2) output)
-      | inr (inl same) ↦
-          inr (inl (rw same (has_begun c.args.asked.now.hex c.args.asked.now.options c.loop-reads.dissection.digits.half c.loop-reads.dissection.dissector
+      | inr same ↦
+          inr (rw same (has_begun c.args.asked.now.hex c.args.asked.now.options c.loop-reads.dissection.digits.half c.loop-reads.dissection.dissector
           (g.I.Read.remaining c.args.source.now) (g.I.Read.remaining c.loop-reads.source) (g.O.Write.contents c.args.out.now)
-          (g.O.Write.contents c.loop-reads.out) s)))
-      | inr (inr part) ↦
-          inr (inr (
-            subst (λ (why : Stop). StopsInFields c.args.asked.now.options why) (sym p.2) part.0,
-            has_begun_fields c.args.asked.now.hex c.args.asked.now.options c.loop-reads.dissection.digits.half c.loop-reads.dissection.dissector
-                (g.I.Read.remaining c.args.source.now) (g.I.Read.remaining c.loop-reads.source) (g.O.Write.contents c.args.out.now)
-                (g.O.Write.contents c.loop-reads.out) _ s part.1,
-          ))
+          (g.O.Write.contents c.loop-reads.out) s))
     ])
 
 pub returns-in_err-ended-clause-stopped : goal.returns-in_err-ended-clause-stopped
@@ -73,6 +66,6 @@ loop-reads-preserved g c =
 
 pub returns-clause-begun : goal.returns-clause-begun
 returns-clause-begun g c =
-    inr (inl (has_begun c.args.asked.now.hex c.args.asked.now.options c.loop-reads.dissection.digits.half c.loop-reads.dissection.dissector
+    inr (has_begun c.args.asked.now.hex c.args.asked.now.options c.loop-reads.dissection.digits.half c.loop-reads.dissection.dissector
     (g.I.Read.remaining c.args.source.now)
-    (g.I.Read.remaining c.loop-reads.source) (g.O.Write.contents c.args.out.now) (g.O.Write.contents c.loop-reads.out) c.loop-reads.invariant.so_far))
+    (g.I.Read.remaining c.loop-reads.source) (g.O.Write.contents c.args.out.now) (g.O.Write.contents c.loop-reads.out) c.loop-reads.invariant.so_far)
