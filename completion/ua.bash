@@ -5,11 +5,11 @@ _ua() {
     case $before in
         --policy) words='anonymous auto' ;;
         --connections) words='all' ;;
-        --answers | --at-once | --attribute | --count | --cut | --every | --kept | --live | --path | --range | --record | --url | --writes) return ;;
+        --answers | --at-once | --attribute | --count | --cut | --every | --kept | --largest | --live | --path | --range | --record | --url | --writes) return ;;
     esac
     for ((at = 2; at < COMP_CWORD; at++)); do
         case ${COMP_WORDS[at]} in
-        --answers | --at-once | --attribute | --connections | --count | --cut | --every | --kept | --live | --path | --policy | --range | --record | --url | --writes) at=$((at + 1)) ;;
+        --answers | --at-once | --attribute | --connections | --count | --cut | --every | --kept | --largest | --live | --path | --policy | --range | --record | --url | --writes) at=$((at + 1)) ;;
         -*) ;;
         *) place=$((place + 1)) ;;
         esac
@@ -18,7 +18,7 @@ _ua() {
         words='dissect judge serve endpoints read write ask loop version help --help'
     elif [ -z "$words" ]; then
         case ${COMP_WORDS[1]} in
-        dissect) words='--help --hex --server --fields --names --plain --strict --why'; files='0' ;;
+        dissect) words='--help --hex --server --fields --largest --names --plain --strict --why'; files='0' ;;
         judge) words='--help --fields --names --plain --strict --why'; files='0 1' ;;
         serve) words='--help --connections --at-once --answers --kept --requests --plain --standard --live --writes --why'; files='0' ;;
         endpoints) words='--help --policies --json --path --url --record --why' ;;

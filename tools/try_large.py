@@ -8,9 +8,9 @@ first octet of the answer, and how the program said that the connection ended. W
 memory than these (`ulimit -v`). After them `dissect` and `dissect --fields` get messages of the most octets that they take.
 
 With --bound only those requests of which no value is to be kept, and whose answers are small, and messages of every kind for
-`dissect`, and for `dissect --fields`, without and with `--plain`, of as many octets: the status is 1 where one of them is
-answered in another way, or where the program held more than 8 MB, or with `--fields` more than 400 MB. For a request it may
-reserve 64 MB, less than it would for as many items as one claims.
+`dissect`, of as many octets, and for `dissect --fields`, without and with `--plain`, of the most octets whose fields are
+printed: the status is 1 where one of them is answered in another way, or where the program held more than 8 MB, or with
+`--fields` more than 64 MB. For a request it may reserve 64 MB, less than it would for as many items as one claims.
 
 With --long texts and bytes of more than 24,576 bytes, which are printed in pieces, and of the lengths about them, are put into
 the fields of messages, and each line of `dissect --fields` is compared with the text by the rules of docs/PROGRAM.md.
@@ -151,8 +151,9 @@ LONG += [
 # The most memory, in KiB, that a request of which nothing is to be kept may take: it takes 3,700 to 4,200, and 18,000
 # to 117,000 where each value is read whole and dropped.
 BOUND = 8192
-# The most memory, in KiB, where a message is decoded to print its fields: it takes 3,600 to 392,000.
-FIELDS_BOUND = 409600
+# The most octets of a body whose fields are printed, and the most memory, in KiB, that one may take.
+MOST_FIELDS = 131072
+FIELDS_BOUND = 65536
 # The most megabytes that a run may reserve for such a request: a count alone would claim more.
 RESERVED = 64
 NODES = 'i=1\trw\tText\tString\tempty\ni=2\trw\tNumber\tInt32\t0\n'
@@ -377,8 +378,8 @@ def hold_bound(program: str, nodes: str) -> None:
         if flag != 'F' or not 0 < memory <= BOUND:
             raise SystemExit('try_large: %s: not answered whole within %d kB, and %d MB reserved' % (request[0], BOUND, RESERVED))
     for message, options in dissections():
-        bound = FIELDS_BOUND if options else BOUND
-        last, memory = dissect(program, 0, message, MOST, options)
+        most, bound = (MOST_FIELDS, FIELDS_BOUND) if options else (MOST, BOUND)
+        last, memory = dissect(program, 0, message, most, options)
         if not last.startswith(b'unreadable' if 'cut off' in message[0] else b'end ') or not 0 < memory <= bound:
             raise SystemExit('try_large: %s: not printed whole within %d kB' % (message[0], bound))
     print('try_large: %d requests and %d messages within the bounds' % (len(THINNED), len(dissections())))

@@ -20,7 +20,7 @@ use ua_channel::{ClientChannel, ServerChannel};
 use ua_client::Client;
 use ua_exchange::Turn;
 use ua_frame::{Ack, ErrorFrame, FrameReader, Hello};
-use ua_pair::DissectOptions;
+use ua_pair::{DissectOptions, MOST_FIELD_OCTETS};
 
 /// The rows about a transport that was begun.
 const LINE_ROWS: [&str; 3] = ["gets", "puts", "written"];
@@ -310,6 +310,7 @@ impl Rows {
             fields: kind.ends_with("fields"),
             names: kind == "dissect-names" || kind.ends_with("named-fields"),
             plain: kind.starts_with("dissect-plain"),
+            largest: MOST_FIELD_OCTETS,
         };
         self.machine = Machine::Dissector(Dissection::new(told.alloc(), options));
         self.step("take", words, told);

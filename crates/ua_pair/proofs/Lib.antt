@@ -3,7 +3,7 @@ mod Befores
 mod CutBacks
 mod Dissections
 mod Readings
-pub mod Texts
+mod Texts
 mod Refusals
 mod RestLines
 mod Standings

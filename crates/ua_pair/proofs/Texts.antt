@@ -22,12 +22,12 @@ use Rattle.ua_fields.specs.declared.style.FieldStyle.{FieldStyle}
 use Rattle.ua_pair.specs.Before.{message_chunks}
 use Rattle.ua_fields.specs.Bodies.{IsBodyText, IsFound, IsHeaderText, body_fields, header_fields, message_kind, opening_kind}
 use Rattle.ua_pair.specs.Dissected.{AreTexts, rules}
-use Rattle.ua_pair.specs.Lines.{chunk_line, message_line, opening_line}
+use Rattle.ua_pair.specs.Lines.{chunk_line, left_out, message_line, opening_line}
 use Rattle.ua_pair.specs.Names.{is_unsupported, message_title, opening_name}
 use Rattle.ua_fields.specs.Styles.{exact_field_style}
 use Rattle.ua_pair.specs.Styles.{style_of}
 use Rattle.ua_pair.specs.Told.{AreFieldsOf, AreParts, AreTextsBehind, IsChunkText, IsFrameText, IsHeaderOf, IsHeaderWithin}
-use Rattle.ua_pair.specs.Told.{IsItemText, IsOpeningText, IsTextBy, IsWithin, is_large, left_out}
+use Rattle.ua_pair.specs.Told.{IsItemText, IsOpeningText, IsTextBy, IsWithin, is_large}
 use Rattle.ua_pair.specs.Told.{chunk_lines, field_lines_of, frame_lines, header_lines_of, item_lines, line_if, lines_by, opening_lines, place_behind}
 use Rattle.ua_fields.proofs.Bodies.{exact_header, exact_text_of}
 
@@ -67,15 +67,17 @@ module _ (options : DissectOptions) (none : options.plain ≡ false) where
   exact_fields : (kind : BodyKind) (octets text : List ℕ) → AreFieldsOf options kind octets text → text ≡ field_lines_of options kind octets
   exact_fields kind octets text h =
       let fields = body_fields options.names kind octets in
-      exact_if options.fields (IsWithin (style_of options) kind octets) (cond (is_large octets) left_out fields) text
-      (λ t g. exact_either (is_large octets) (IsBodyText (style_of options) kind octets) left_out fields t
+      let large = is_large options.largest octets in
+      exact_if options.fields (IsWithin options kind octets) (cond large (left_out options.largest) fields) text
+      (λ t g. exact_either large (IsBodyText (style_of options) kind octets) (left_out options.largest) fields t
       (λ u k. exact_text_of options.names kind octets u (subst (λ (s : FieldStyle). IsBodyText s kind octets u) (exact_style options none) k)) g) h
 
   exact_head : (unsupported : Bool) (octets text : List ℕ) → IsHeaderOf options unsupported octets text → text ≡ header_lines_of options unsupported octets
   exact_head unsupported octets text h =
       let fields = header_fields options.names options.side octets in
-      exact_if (options.fields && unsupported) (IsHeaderWithin (style_of options) options.side octets) (cond (is_large octets) [] fields) text
-      (λ t g. exact_either (is_large octets) (IsHeaderText (style_of options) options.side octets) [] fields t
+      let large = is_large options.largest octets in
+      exact_if (options.fields && unsupported) (IsHeaderWithin options octets) (cond large [] fields) text
+      (λ t g. exact_either large (IsHeaderText (style_of options) options.side octets) [] fields t
       (λ u k. exact_header options.names options.side octets u (subst (λ (s : FieldStyle). IsHeaderText s options.side octets u) (exact_style options none) k))
       g) h
 

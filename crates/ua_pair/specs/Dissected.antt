@@ -7,11 +7,11 @@ use Rattle.ua_pair.specs.declared.options.DissectOptions.{DissectOptions}
 use Rattle.ua_fields.specs.declared.side.Side.{Side}
 use Rattle.ua_pair.specs.Lines.{rest_line, refused_line}
 use Rattle.ua_pair.specs.Refused.{frame_reasons}
-use Rattle.ua_pair.specs.Told.{AreTextsBehind, frame_lines, place_behind}
+use Rattle.ua_pair.specs.Told.{AreTextsBehind, frame_lines, most_field_octets, place_behind}
 
--- the bytes of this side, without fields and without names, exact
+-- the bytes of this side, without fields and without names, exact, with the usual bound
 abbrev pub plain_of_side : Side → DissectOptions
-plain_of_side side = record { side = side; fields = false; names = false; plain = false }
+plain_of_side side = record { side = side; fields = false; names = false; plain = false; largest = most_field_octets }
 
 -- the frame filter that accepts a frame (UA TCP message) of each kind at any place, of at most
 -- 16777216 bytes

@@ -87,6 +87,10 @@ message_line request size name =
 unfoldable pub aborted_line : Bool → ℕ → StatusCode → List ℕ
 aborted_line names request code = codes "message " ++ decimal request ++ codes " aborted " ++ named_code names code.code ++ codes "\n"
 
+-- in place of the fields of a body of more bytes than this
+unfoldable pub left_out : ℕ → List ℕ
+left_out largest = codes "  fields left out: the body has more than " ++ decimal largest ++ codes " bytes\n"
+
 -- ---- the end
 
 -- the frames end at this offset, and this many bytes are left of an unfinished one: end P, or rest

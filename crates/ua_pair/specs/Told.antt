@@ -19,11 +19,9 @@ use Rattle.ua_texts.specs.PlainLeaf.{Either}
 use Rattle.ua_fields.specs.Bodies.{IsBodyText, IsFound, IsHeaderText, body_fields, header_fields, message_kind, opening_kind}
 use Rattle.ua_pair.specs.Styles.{style_of}
 use Rattle.ua_fields.specs.declared.body.BodyKind.{BodyKind}
-use Rattle.ua_fields.specs.declared.side.Side.{Side}
-use Rattle.ua_fields.specs.declared.style.FieldStyle.{FieldStyle}
 use Rattle.ua_pair.specs.declared.options.DissectOptions.{DissectOptions}
 use Rattle.ua_pair.specs.Before.{message_chunks}
-use Rattle.ua_pair.specs.Lines.{hello_line, ack_line, error_line, opening_line, chunk_line, message_line, aborted_line}
+use Rattle.ua_pair.specs.Lines.{hello_line, ack_line, error_line, opening_line, chunk_line, left_out, message_line, aborted_line}
 use Rattle.ua_pair.specs.Names.{is_unsupported, message_title, opening_name}
 
 -- the line of what was decoded, or nothing if nothing was
@@ -31,26 +29,24 @@ abbrev pub line_if : {A : Type 0} → (A → List ℕ) → Option A → List ℕ
 line_if line None = []
 line_if line (Some m) = line m
 
--- the most bytes of a body whose fields are printed: lines may take two hundred times as many
+-- the most bytes of a body whose fields are printed, where no other number is wanted: lines may
+-- take two hundred times as many
 abbrev pub most_field_octets : ℕ
-most_field_octets = 1048576
+most_field_octets = 131072
 
--- whether a body has more
-abbrev pub is_large : List ℕ → Bool
-is_large octets = nat_lt most_field_octets (length octets)
-
--- the line that stands for the fields of such a body
-abbrev pub left_out : List ℕ
-left_out = codes "  fields left out: the body has more than 1048576 bytes\n"
+-- whether a body has more bytes than this
+abbrev pub is_large : ℕ → List ℕ → Bool
+is_large largest octets = nat_lt largest (length octets)
 
 -- the lines of the fields of a body of this kind, if they are wanted, or that they are left out
 abbrev pub field_lines_of : DissectOptions → BodyKind → List ℕ → List ℕ
-field_lines_of options kind octets = cond options.fields (cond (is_large octets) left_out (body_fields options.names kind octets)) []
+field_lines_of options kind octets =
+    cond options.fields (cond (is_large options.largest octets) (left_out options.largest) (body_fields options.names kind octets)) []
 
 -- the lines of the header of a message, if fields are wanted and it is of no known kind
 abbrev pub header_lines_of : DissectOptions → Bool → List ℕ → List ℕ
 header_lines_of options unsupported octets =
-    cond (options.fields && unsupported) (cond (is_large octets) [] (header_fields options.names options.side octets)) []
+    cond (options.fields && unsupported) (cond (is_large options.largest octets) [] (header_fields options.names options.side octets)) []
 
 -- the lines of the fields of a message, or of the header of one of no known kind, which has no
 -- fields
@@ -86,21 +82,23 @@ lines_by Clo options cs place f = line_if (chunk_line (codes "CLO") place (frame
 -- above give
 
 -- a text has the lines of the fields of a body, or the line that they are left out
-abbrev pub IsWithin : FieldStyle → BodyKind → List ℕ → List ℕ → Type 0
-IsWithin style kind octets text = Either (is_large octets) (text ≡ left_out) (IsBodyText style kind octets text)
+abbrev pub IsWithin : DissectOptions → BodyKind → List ℕ → List ℕ → Type 0
+IsWithin options kind octets text =
+    Either (is_large options.largest octets) (text ≡ left_out options.largest) (IsBodyText (style_of options) kind octets text)
 
 -- the same, if they are wanted
 abbrev pub AreFieldsOf : DissectOptions → BodyKind → List ℕ → List ℕ → Type 0
-AreFieldsOf options kind octets text = Either options.fields (IsWithin (style_of options) kind octets text) (text ≡ [])
+AreFieldsOf options kind octets text = Either options.fields (IsWithin options kind octets text) (text ≡ [])
 
 -- those of the header of a message, unless its body is large
-abbrev pub IsHeaderWithin : FieldStyle → Side → List ℕ → List ℕ → Type 0
-IsHeaderWithin style side octets text = Either (is_large octets) (text ≡ []) (IsHeaderText style side octets text)
+abbrev pub IsHeaderWithin : DissectOptions → List ℕ → List ℕ → Type 0
+IsHeaderWithin options octets text =
+    Either (is_large options.largest octets) (text ≡ []) (IsHeaderText (style_of options) options.side octets text)
 
 -- the same of one of no known kind
 abbrev pub IsHeaderOf : DissectOptions → Bool → List ℕ → List ℕ → Type 0
 IsHeaderOf options unsupported octets text =
-    Either (options.fields && unsupported) (IsHeaderWithin (style_of options) options.side octets text) (text ≡ [])
+    Either (options.fields && unsupported) (IsHeaderWithin options octets text) (text ≡ [])
 
 -- those of a message
 abbrev pub IsMessageText : DissectOptions → ℕ → List ℕ → List ℕ → Type 0

@@ -35,7 +35,6 @@ mod teller;
 
 pub use dissector::Dissector;
 pub use encoding::encoding_name;
-pub use options::DissectOptions;
-pub use pending::MOST_FIELD_OCTETS;
+pub use options::{DissectOptions, MOST_FIELD_OCTETS};
 pub use stream::dissect;
 pub use ua_fields::{BodyKind, Side, push_body_fields};

@@ -4,7 +4,7 @@ ghost use Rattle.std.specs.Fmt.{decimal};
 ghost use Rattle.std.specs.Prelude.{◌≡◌, ◌≤◌, ◌+◌, ◌++◌, codes, length, string_bytes, OnOk};
 ghost use Rattle.arrayvec.specs.ArrayString.{array_string_len};
 ghost use Rattle.ua_pair.specs.Lines.{numbers_text, flag_text, opening_line, chunk_line, message_line};
-ghost use Rattle.ua_pair.specs.Lines.{aborted_line, rest_line, refused_line, chunk_head};
+ghost use Rattle.ua_pair.specs.Lines.{aborted_line, left_out, rest_line, refused_line, chunk_head};
 
 use arrayvec::ArrayString;
 use itoa::Buffer;
@@ -317,6 +317,15 @@ pub(crate) fn push_aborted_line(
     lines.push_str(" aborted ")?;
     push_code_as(lines, code, names)?;
     push_newline(lines)
+}
+
+/// Appends the line that stands for the fields of a body of more bytes than this.
+pub(crate) fn push_left_out(lines: &mut String, largest: usize) -> Result<(), AllocError>
+    ensures { OnOk result (string_bytes lines.new ≡ string_bytes lines.old ++ left_out largest) }
+{
+    let start = "  fields left out: the body has more than ";
+    push_number(lines, start, largest as u64)?;
+    lines.push_str(" bytes\n")
 }
 
 /// Appends the last line, if the UA TCP messages end at this offset and this many bytes are left.

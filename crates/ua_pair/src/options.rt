@@ -18,10 +18,17 @@ pub struct DissectOptions {
     pub names: bool,
     /// Whether the fields are as people write them.
     pub plain: bool,
+    /// The most bytes of a body whose fields are printed.
+    pub largest: usize,
 }
 
+/// The most bytes of a body whose fields are printed, where no other number is wanted: a message is
+/// decoded before, and its lines may take two hundred times as many bytes.
+pub const MOST_FIELD_OCTETS: usize = 131_072;
+
 impl DissectOptions {
-    /// The bytes of this side, without fields and names.
+    /// The bytes of this side, without fields and names, and at most [`MOST_FIELD_OCTETS`] of a body
+    /// whose fields are printed.
     pub fn plain(side: Side) -> DissectOptions
         ensures { result ≡ plain_options side }
     {
@@ -30,6 +37,7 @@ impl DissectOptions {
             fields: false,
             names: false,
             plain: false,
+            largest: MOST_FIELD_OCTETS,
         }
     }
 

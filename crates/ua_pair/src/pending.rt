@@ -7,15 +7,12 @@ ghost use Rattle.ua_pair.specs.Telling.{AreMessageFields, ArePendingLines};
 ghost use Rattle.ua_texts.specs.PlainLeaf.{Adds};
 ghost use Rattle.ua_pair.specs.Told.{AreFieldsOf, IsHeaderOf, IsHeaderWithin, IsWithin, is_large as has_more};
 
+use crate::line::push_left_out;
 use crate::options::DissectOptions;
 use std::alloc::{AllocError, Global};
 use ua_builtin::{Octets, Source};
 use ua_chunk::{Message, OpenChunk};
-use ua_fields::{BodyKind, FieldStyle, Side, push_body, push_header};
-
-/// The most bytes of a body whose fields are printed: a message is decoded before, and its lines
-/// may take two hundred times as many bytes.
-pub const MOST_FIELD_OCTETS: usize = 1_048_576;
+use ua_fields::{BodyKind, Side, push_body, push_header};
 
 /// What has its line appended, and its fields to be appended after it.
 #[derive(Debug, Drop)]
@@ -46,27 +43,28 @@ fn opening_kind(side: Side) -> BodyKind
     }
 }
 
-/// Whether more bytes are left than those of a body whose fields are printed.
-fn is_large<S: Source>(src: &S) -> bool
-    ensures { result ≡ has_more (S.octets src.now) }
+/// Whether more bytes are left than this.
+fn is_large<S: Source>(src: &S, largest: usize) -> bool
+    ensures { result ≡ has_more largest (S.octets src.now) }
 {
-    src.left() > MOST_FIELD_OCTETS
+    src.left() > largest
 }
 
 /// Appends the lines of the fields of a body, or the line that they are left out.
 fn push_within<S: Source>(
     alloc: Global,
+    options: &DissectOptions,
     kind: BodyKind,
-    style: FieldStyle,
     src: &mut S,
     out: &mut String,
 ) -> Result<(), AllocError>
-    ensures { Adds result (string_bytes out.old) (string_bytes out.new) (IsWithin style kind (S.octets src.old)) }
+    ensures { Adds result (string_bytes out.old) (string_bytes out.new)
+        (IsWithin options.now kind (S.octets src.old)) }
 {
-    if is_large(src) {
-        return out.push_str("  fields left out: the body has more than 1048576 bytes\n");
+    if is_large(src, options.largest) {
+        return push_left_out(out, options.largest);
     }
-    push_body(alloc, kind, style, src, out)
+    push_body(alloc, kind, options.style(), src, out)
 }
 
 /// Appends the lines of the fields of a message of this side, if they are wanted.
@@ -82,7 +80,7 @@ fn push_fields(
     if options.fields {
         let mut body = message.source();
         let kind = message_kind(options.side);
-        push_within(alloc, kind, options.style(), &mut body, out)
+        push_within(alloc, options, kind, &mut body, out)
     } else {
         Ok(())
     }
@@ -91,18 +89,17 @@ fn push_fields(
 /// Appends the lines of the header of a message of this side, unless its body is large.
 fn push_header_within<S: Source>(
     alloc: Global,
-    side: Side,
-    style: FieldStyle,
+    options: &DissectOptions,
     src: &mut S,
     out: &mut String,
 ) -> Result<(), AllocError>
     ensures { Adds result (string_bytes out.old) (string_bytes out.new)
-        (IsHeaderWithin style side (S.octets src.old)) }
+        (IsHeaderWithin options.now (S.octets src.old)) }
 {
-    if is_large(src) {
+    if is_large(src, options.largest) {
         return Ok(());
     }
-    push_header(alloc, side, style, src, out)
+    push_header(alloc, options.side, options.style(), src, out)
 }
 
 /// Appends the lines of the header of a message of no known kind, if fields are wanted.
@@ -118,7 +115,7 @@ fn push_header_if(
 {
     if options.fields && unsupported {
         let mut body = message.source();
-        push_header_within(alloc, options.side, options.style(), &mut body, out)
+        push_header_within(alloc, options, &mut body, out)
     } else {
         Ok(())
     }
@@ -152,7 +149,7 @@ fn push_opening_fields(
     if options.fields {
         let mut body = Octets::new(&chunk.body);
         let kind = opening_kind(options.side);
-        push_within(alloc, kind, options.style(), &mut body, out)
+        push_within(alloc, options, kind, &mut body, out)
     } else {
         Ok(())
     }

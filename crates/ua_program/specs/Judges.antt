@@ -12,6 +12,7 @@ use Rattle.ua_judge.specs.declared.mark.Mark.{Mark}
 use Rattle.ua_judge.specs.declared.verdict.Verdict.{Verdict}
 use Rattle.ua_judge.specs.declared.verdict.Verdict.TheVariants.{Keeps, Closes, Breaks, Refuses, Stops}
 use Rattle.ua_pair.specs.Dissected.{AreLines, AreTold}
+use Rattle.ua_pair.specs.Told.{most_field_octets}
 use Rattle.ua_pair.specs.declared.options.DissectOptions.{DissectOptions}
 use Rattle.ua_fields.specs.declared.side.Side.{Side}
 use Rattle.ua_fields.specs.declared.side.Side.TheVariants.{Client, Server}
@@ -82,7 +83,8 @@ lines_behind front text = flat_map (λ (line : List ℕ). front ++ (line ++ code
 
 -- what is printed of a side
 abbrev pub printed_options : JudgeRecord → Side → DissectOptions
-printed_options asked side = record { side = side; fields = asked.fields; names = asked.names; plain = asked.plain }
+printed_options asked side =
+    record { side = side; fields = asked.fields; names = asked.names; plain = asked.plain; largest = most_field_octets }
 
 -- the place up to which bytes are printed that were printed up to one, if they are to be printed up to
 -- another: not back, and not beyond their end

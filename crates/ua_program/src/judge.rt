@@ -20,7 +20,7 @@ use std::io::{Read, Write};
 use std::rt::Files;
 use ua_builtin::StatusCode;
 use ua_judge::{Mark, Verdict as Judged, frame_start, judge_down, judge_up};
-use ua_pair::{DissectOptions, Dissector, Side};
+use ua_pair::{DissectOptions, Dissector, MOST_FIELD_OCTETS, Side};
 use ua_report::{Stop, say};
 use ua_session::Verdict;
 use ua_texts::push_code_as;
@@ -47,6 +47,7 @@ impl Printer {
             fields: asked.fields,
             names: asked.names,
             plain: asked.plain,
+            largest: MOST_FIELD_OCTETS,
         };
         Printer {
             dissector: Dissector::new(alloc, options),

@@ -59,6 +59,9 @@ pub enum BadWord<'a> {
     /// The most bytes of memory of the values that Writes store.
     #[error("a size of stored values is not from 1 to 4294967295")]
     Kept(&'a str),
+    /// The most bytes of a body whose fields are printed.
+    #[error("a size of bodies is not from 1 to 4294967295")]
+    Largest(&'a str),
     /// The milliseconds between two reads.
     #[error("a number of milliseconds is not from 1 to 4294967295")]
     Milliseconds(&'a str),
@@ -81,6 +84,7 @@ impl<'a> BadWord<'a> {
             | BadWord::AtOnce(word)
             | BadWord::Answers(word)
             | BadWord::Kept(word)
+            | BadWord::Largest(word)
             | BadWord::Milliseconds(word)
             | BadWord::Script(word)
             | BadWord::Live(word) => word,
@@ -400,21 +404,31 @@ fn endpoints_of<'a>(matches: &ArgMatches<'a>) -> Result<Task<'a>, BadWord<'a>>
     }))
 }
 
-fn dissect_of<'a>(matches: &ArgMatches<'a>) -> Task<'a>
-    ensures { CountsFromOne result }
+/// The most bytes of a body whose fields are printed.
+fn largest_of<'a>(matches: &ArgMatches<'a>) -> Result<usize, BadWord<'a>> {
+    let word = text_of(matches, "largest");
+    match parse_size(word) {
+        Some(most) => Ok(most as usize),
+        None => Err(BadWord::Largest(word)),
+    }
+}
+
+fn dissect_of<'a>(matches: &ArgMatches<'a>) -> Result<Task<'a>, BadWord<'a>>
+    ensures { IfOk result CountsFromOne }
 {
     let options = DissectOptions {
         side: side_of(matches),
         fields: matches.get_flag("fields"),
         names: matches.get_flag("names"),
         plain: matches.get_flag("plain"),
+        largest: largest_of(matches)?,
     };
-    Task::Dissect(Dissect {
+    Ok(Task::Dissect(Dissect {
         file: text_of(matches, "FILE"),
         hex: matches.get_flag("hex"),
         options,
         strict: matches.get_flag("strict"),
-    })
+    }))
 }
 
 fn judge_of<'a>(matches: &ArgMatches<'a>) -> Task<'a>
@@ -558,7 +572,7 @@ fn task_of<'a>(
     ensures { IfOk result CountsFromOne }
 {
     match command {
-        Name::Dissect => Ok(dissect_of(matches)),
+        Name::Dissect => dissect_of(matches),
         Name::Judge => Ok(judge_of(matches)),
         Name::Serve => serve_of(matches),
         Name::Endpoints => endpoints_of(matches),

@@ -144,6 +144,11 @@ const DISSECT: &[Word] = &[
         help: "the fields of each message stand behind its line",
     },
     Word {
+        name: "largest",
+        kind: Kind::TextOr("BYTES", "131072"),
+        help: "the most bytes of a body whose fields are printed",
+    },
+    Word {
         name: "names",
         kind: Kind::Flag,
         help: "each status code has its standard name behind it",

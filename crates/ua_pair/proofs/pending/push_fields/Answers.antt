@@ -4,4 +4,4 @@ use Rattle.ua_pair.proofs.pending.push_fields.Goals as goal
 pub returns-then-options : goal.returns-then-options
 returns-then-options c =
     adds_as c.push_within.result _ _ _ _ (λ text h. rw c.if-options.true h)
-    (rw (c.style.ensures, c.source-body.ensures, c.message_kind-kind.ensures) at c.push_within.ensures)
+    (rw (c.source-body.ensures, c.message_kind-kind.ensures) at c.push_within.ensures)
