@@ -320,11 +320,15 @@ pub(crate) fn push_aborted_line(
 }
 
 /// Appends the line that stands for the fields of a body of more bytes than this.
+#[tactic(auto, unfolding(crate::specs::Lines::left_out))]
 pub(crate) fn push_left_out(lines: &mut String, largest: usize) -> Result<(), AllocError>
     ensures { OnOk result (string_bytes lines.new ≡ string_bytes lines.old ++ left_out largest) }
 {
-    let start = "  fields left out: the body has more than ";
-    push_number(lines, start, largest as u64)?;
+    push_number(
+        lines,
+        "  fields left out: the body has more than ",
+        largest as u64,
+    )?;
     lines.push_str(" bytes\n")
 }
 

@@ -12,6 +12,24 @@ loop-lines-preserved c =
     c.loop-lines.invariant (take_rest c.args.piece.now c.loop-lines.at) (rw c.in-Some.is at c.in_ok-taken.ensures.taken)
     c.deref.ensures c.in_ok-push_str.ensures.bytes c.in_ok-push_pending.ensures
 
+pub loop-lines-preserved-in_ok-push_pending : goal.loop-lines-preserved-in_ok-push_pending
+loop-lines-preserved-in_ok-push_pending c =
+    so_far_pending c.args.self.now c.loop-lines.self c.take_next.new.self c.args.piece.now c.loop-lines.at c.in-Some.taken _ _ _ _ _ _ _ c.in-Some.pending
+    c.loop-lines.invariant (take_rest c.args.piece.now c.loop-lines.at) (rw c.in-Some.is at c.in_ok-taken.ensures.taken)
+    c.deref.ensures c.in_ok-push_str.ensures.bytes c.in_ok-push_pending.ensures
+
+pub loop-lines-preserved-in_ok-push_pending-2 : goal.loop-lines-preserved-in_ok-push_pending-2
+loop-lines-preserved-in_ok-push_pending-2 c =
+    so_far_pending c.args.self.now c.loop-lines.self c.take_next.new.self c.args.piece.now c.loop-lines.at c.in-Some.taken _ _ _ _ _ _ _ c.in-Some.pending
+    c.loop-lines.invariant (take_rest c.args.piece.now c.loop-lines.at) (rw c.in-Some.is at c.in_ok-taken.ensures.taken)
+    c.deref.ensures c.in_ok-push_str.ensures.bytes c.in_ok-push_pending.ensures
+
+pub loop-lines-preserved-in_ok-push_pending-3 : goal.loop-lines-preserved-in_ok-push_pending-3
+loop-lines-preserved-in_ok-push_pending-3 c =
+    so_far_pending c.args.self.now c.loop-lines.self c.take_next.new.self c.args.piece.now c.loop-lines.at c.in-Some.taken _ _ _ _ _ _ _ c.in-Some.pending
+    c.loop-lines.invariant (take_rest c.args.piece.now c.loop-lines.at) (rw c.in-Some.is at c.in_ok-taken.ensures.taken)
+    c.deref.ensures c.in_ok-push_str.ensures.bytes c.in_ok-push_pending.ensures
+
 pub returns-clause-takes : goal.returns-clause-takes
 returns-clause-takes c =
     so_far_end c.args.self.now c.loop-lines.self c.take_next.new.self c.args.piece.now c.loop-lines.at _ _ _ _
