@@ -337,7 +337,7 @@ def number_of(word: str) -> int | None:
 def report_numbers(listing: list[str]) -> int:
     bodies = [f for f in listing if f.endswith(".edit")]
     true = {"of its crates": len(kit_crates()), "crates": len(crates()), "wrong bodies": len(bodies), "mutants": len(bodies)}
-    true |= {f"rows of `{it}`": rows_of(f"crates/{it}/stdout") for it in ("test_values", "test_streams")}
+    true |= {f"rows of `{it}`": rows_of(f"crates/{it}/stdout") for it in ("test_rows",)}
     true |= {"rows of `rows/program.rows`": rows_of("rows/program.rows")}
     rows = []
     for f in listing:

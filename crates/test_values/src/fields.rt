@@ -1,90 +1,92 @@
-//! Fields at the prefix of bytes, sources, and the texts of NodeIds.
+//! `ua_fields`.
 
-use crate::fault::Fault;
-use crate::octets::{number_of, octets_of};
-use crate::shown::digits;
-use crate::values::read;
-use std::alloc::Global;
-use ua_builtin::{NodeId, Octets, Source, UaBytes, UaString};
-use ua_wire::{is_text, split_counted, split_number};
+use crate::cases::{octets, page};
+use std::test::Fail;
+use ua_builtin::Octets;
+use ua_fields::{BodyKind, push_body_fields};
 
-/// The UInt32 before bytes, and those after it.
-pub fn front(alloc: Global, words: &str) -> Result<String, Fault> {
-    let octets = octets_of(alloc, words)?;
-    let (number, rest) = split_number(octets.as_slice()).ok_or(Fault::NoValue)?;
-    Ok(format!(in alloc; "{number} rest {rest:?}")?)
-}
+/// Bodies of each kind, whether StatusCodes have their names, and the lines of their fields.
+const CASES: [(BodyKind, bool, &str, &str); 5] = [
+    (
+        BodyKind::Request,
+        false,
+        "01007702 01020100 00803ED5DEB19D01 05000000 00000000 FFFFFFFF 00000000 000000 \
+        0000000000000000 02000000 01000000 03010004000000 50756D70 0D000000 FFFFFFFF 0000 FFFFFFFF",
+        "    request_header.authentication_token ns=2;i=1\n\
+        \x20   request_header.timestamp 116444736000000000\n\
+        \x20   request_header.request_handle 5\n\
+        \x20   request_header.return_diagnostics 0\n\
+        \x20   request_header.audit_entry_id null\n\
+        \x20   request_header.timeout_hint 0\n\
+        \x20   request_header.additional_header null\n\
+        \x20 max_age 0x0000000000000000\n\
+        \x20 timestamps_to_return 2\n\
+        \x20 nodes_to_read 1\n\
+        \x20   nodes_to_read[0].node_id ns=1;s=Pump\n\
+        \x20   nodes_to_read[0].attribute_id 13\n\
+        \x20   nodes_to_read[0].index_range null\n\
+        \x20   nodes_to_read[0].data_encoding null\n",
+    ),
+    (
+        BodyKind::Response,
+        true,
+        "01007A02 00803ED5DEB19D01 05000000 00000000 00 FFFFFFFF 000000 01000000 02 00003480 \
+        FFFFFFFF",
+        "    response_header.timestamp 116444736000000000\n\
+        \x20   response_header.request_handle 5\n\
+        \x20   response_header.service_result 00000000 Good\n\
+        \x20   response_header.service_diagnostics null\n\
+        \x20   response_header.string_table null\n\
+        \x20   response_header.additional_header null\n\
+        \x20 results 1\n\
+        \x20   results[0].value null\n\
+        \x20   results[0].status 80340000 BadNodeIdUnknown\n\
+        \x20   results[0].source_timestamp null\n\
+        \x20   results[0].source_picoseconds null\n\
+        \x20   results[0].server_timestamp null\n\
+        \x20   results[0].server_picoseconds null\n\
+        \x20 diagnostic_infos null\n",
+    ),
+    (
+        BodyKind::OpenRequest,
+        false,
+        "0100BE01 03020005000000746F6B656E 0177665544332211 A1000000 A2000000 050000006175646974 \
+        A3000000 01002C010102000000ABCD C1000000 01000000 FDFFFFFF 020000000A0B C2000000",
+        "    request_header.authentication_token ns=2;s=token\n\
+        \x20   request_header.timestamp 1234605616436508417\n\
+        \x20   request_header.request_handle 161\n\
+        \x20   request_header.return_diagnostics 162\n\
+        \x20   request_header.audit_entry_id audit\n\
+        \x20   request_header.timeout_hint 163\n\
+        \x20   request_header.additional_header 0x01002c010102000000abcd\n\
+        \x20 client_protocol_version 193\n\
+        \x20 request_type 1\n\
+        \x20 security_mode -3\n\
+        \x20 client_nonce Cgs=\n\
+        \x20 requested_lifetime 194\n",
+    ),
+    (
+        BodyKind::OpenResponse,
+        false,
+        "01008D01 00803ED5DEB19D01 09000000 00000B80 00 FFFFFFFF 000000",
+        "    response_header.timestamp 116444736000000000\n\
+        \x20   response_header.request_handle 9\n\
+        \x20   response_header.service_result 800B0000\n\
+        \x20   response_header.service_diagnostics null\n\
+        \x20   response_header.string_table null\n\
+        \x20   response_header.additional_header null\n",
+    ),
+    (BodyKind::CloseRequest, false, "0100C401", ""),
+];
 
-/// The counted bytes before bytes, those after them, and whether they are a text.
-pub fn counted(alloc: Global, words: &str) -> Result<String, Fault> {
-    let octets = octets_of(alloc, words)?;
-    let (field, rest) = split_counted(octets.as_slice()).ok_or(Fault::NoValue)?;
-    let is_text = is_text(field);
-    Ok(format!(in alloc; "{field:?} rest {rest:?} text {is_text}")?)
-}
-
-/// What a source passes over: each of the numbers of the first word, joined by `,`, in turn.
-pub fn skips(alloc: Global, words: &str) -> Result<String, Fault> {
-    let Some((numbers, words)) = words.split_once(' ') else {
-        return Err(Fault::NoRow);
-    };
-    let octets = octets_of(alloc, words)?;
-    let mut src = Octets::new(octets.as_slice());
-    let mut text = String::new(alloc);
-    for number in numbers.split(',') {
-        let is_passed = src.skip(number_of(number)? as usize);
-        let left = src.left();
-        text.push_str(format!(in alloc; "{is_passed}-{left} ")?.as_str())?;
+#[test]
+fn tells_the_fields_of_each_kind_of_body(rt: HostRuntime) -> Result<(), Fail> {
+    for (kind, names, words, expected) in CASES {
+        let octets = octets(rt.alloc(), words)?;
+        let mut out = page(rt.alloc());
+        let mut src = Octets::new(octets.as_slice());
+        push_body_fields(rt.alloc(), kind, names, &mut src, &mut out)?;
+        assert_eq!(rt; out.as_str(), expected, "{words}");
     }
-    push_rest(alloc, &mut src, &mut text)?;
-    Ok(text)
-}
-
-/// Adds the bytes that are left.
-fn push_rest(alloc: Global, src: &mut Octets<'_>, text: &mut String) -> Result<(), Fault> {
-    let mut rest = vec![in alloc; 0; src.left()]?;
-    let is_taken = src.take_into(rest.as_mut_slice());
-    let rest = digits(alloc, rest.as_slice())?;
-    text.push_str(format!(in alloc; "{is_taken}-{rest}")?.as_str())?;
     Ok(())
-}
-
-/// The NodeId that a text names: its bytes, and its text, also of a clone.
-pub fn node(alloc: Global, text: &str) -> Result<String, Fault> {
-    let node = NodeId::parse_text(alloc, text)?;
-    let clone = node.try_clone()?;
-    let is_equal = clone == node;
-    let text = clone.to_text(alloc)?;
-    drop(clone);
-    Ok(format!(in alloc; "{node:?} cloned {is_equal} text {text}")?)
-}
-
-/// The text of the NodeId that bytes encode.
-pub fn text(alloc: Global, words: &str) -> Result<String, Fault> {
-    let octets = octets_of(alloc, words)?;
-    let (node, _) = read::<NodeId>(alloc, octets.as_slice())?;
-    let text = node.to_text(alloc)?;
-    drop(node);
-    Ok(text)
-}
-
-/// A String that is handed over.
-pub fn handed_text(alloc: Global, words: &str) -> Result<String, Fault> {
-    let octets = octets_of(alloc, words)?;
-    let (value, _) = read::<UaString>(alloc, octets.as_slice())?;
-    let is_some = value.is_some();
-    let again = UaString::new(value.into_string(alloc)?);
-    let text = format!(in alloc; "{:?} {is_some}", again.as_str())?;
-    drop(again);
-    Ok(text)
-}
-
-/// A ByteString that is handed over.
-pub fn handed_octets(alloc: Global, words: &str) -> Result<String, Fault> {
-    let octets = octets_of(alloc, words)?;
-    let (value, _) = read::<UaBytes>(alloc, octets.as_slice())?;
-    let again = UaBytes::new(value.into_octets());
-    let text = format!(in alloc; "{:?}", again.as_octets())?;
-    drop(again);
-    Ok(text)
 }

@@ -1,121 +1,112 @@
-//! Values as texts: names of types, the texts of node files, and what the program prints.
+//! `ua_answers` over whole responses and scripts. Lines and texts of single values are rows of
+//! `test_rows`.
 
-use crate::fault::Fault;
-use crate::octets::value_in;
-use crate::shown::{encoded, page, quoted};
-use crate::words::{cut, text_of, type_of};
+use crate::cases::{page, value, writes};
 use std::alloc::Global;
-use ua_answers::parse_plain_value;
-use ua_nodes::{parse_type, parse_value};
-use ua_texts::{push_plain_variant, push_variant};
-use ua_variant::{Elements, Variant};
+use std::test::Fail;
+use ua_answers::{
+    AnswerFault, EndpointStyle, LineStyle, ScriptFault, Step, exact_lines, has_bad_code,
+    parse_script, push_endpoints, push_read_answers, push_write_answers,
+};
+use ua_builtin::{NodeId, StatusCode};
+use ua_services::Response;
 
-/// The type that a text names: its id, with `[]` after it where it is that of arrays.
-pub fn type_named(alloc: Global, words: &str) -> Result<String, Fault> {
-    let text = text_of(alloc, words)?;
-    let (kind, is_array) = parse_type(text.as_str()).ok_or(Fault::NoValue)?;
-    let brackets = if is_array { "[]" } else { "" };
-    Ok(format!(in alloc; "{kind}{brackets}")?)
+/// `ns=1;s=Pump` and `i=9999`.
+fn nodes(alloc: Global) -> Result<Vec<NodeId>, Fail> {
+    let mut nodes = Vec::new(alloc);
+    nodes.push(NodeId::parse_text(alloc, "ns=1;s=Pump")?)?;
+    nodes.push(NodeId::parse_text(alloc, "i=9999")?)?;
+    Ok(nodes)
 }
 
-/// The bytes of the value of a type that a text denotes, and how the elements of an array are held.
-pub fn value(alloc: Global, words: &str) -> Result<String, Fault> {
-    let (kind, words) = cut(words)?;
-    let (kind, is_array) = type_of(kind)?;
-    let text = text_of(alloc, words)?;
-    value_text(alloc, kind, is_array, text.as_str())
+/// The response of this NodeId with these fields, and no results of diagnostics.
+fn response(alloc: Global, id: &str, code: &str, rest: &str) -> Result<Response, Fail> {
+    let header = "00803ED5DEB19D01 04000000";
+    let words = format!(in alloc; "{id} {header} {code} 00 FFFFFFFF 000000 {rest}")?;
+    value(alloc, words.as_str())
 }
 
-fn value_text(alloc: Global, kind: u8, is_array: bool, text: &str) -> Result<String, Fault> {
-    let value = parse_value(alloc, kind, is_array, text)?;
-    let mut out = encoded(alloc, &value)?;
-    out.push_str(held(&value))?;
-    Ok(out)
-}
-
-/// Whether the elements of an array are held in a vector of their own type.
-fn held(value: &Variant) -> &'static str {
-    match value {
-        Variant::Many {
-            items: Some(items),
-            ..
-        } => match items.elements() {
-            Elements::Packed(_) => " packed",
-            Elements::Mixed(_) => " mixed",
-        },
-        _ => "",
-    }
-}
-
-/// What a Variant prints as, and the bytes of the value that its type and its text denote.
-pub fn print(alloc: Global, words: &str) -> Result<String, Fault> {
-    let value = value_in::<Variant>(alloc, words)?;
-    let text = variant_text(alloc, &value);
-    drop(value);
-    printed(alloc, text?.as_str())
-}
-
-fn variant_text(alloc: Global, value: &Variant) -> Result<String, Fault> {
+#[test]
+fn prints_the_answers_to_a_read(rt: HostRuntime) -> Result<(), Fail> {
+    let alloc = rt.alloc();
+    let times = "00803ED5DEB19D01 00803ED5DEB19D01";
+    let values = format!(in alloc; "02000000 0D 0607000000 {times} 02 00003480 FFFFFFFF")?;
+    let answers = response(alloc, "01007A02", "00000000", values.as_str())?;
+    let style = LineStyle::plain(false);
     let mut out = page(alloc);
-    push_variant(alloc, &mut out, value)?;
-    Ok(out)
-}
-
-fn printed(alloc: Global, out: &str) -> Result<String, Fault> {
-    let text = quoted(alloc, out)?;
-    match back(alloc, out) {
-        Ok(octets) => Ok(format!(in alloc; "{text} back {octets}")?),
-        Err(Fault::Memory) => Err(Fault::Memory),
-        Err(_) => Ok(text),
-    }
-}
-
-/// The bytes of the value of a type that a text denotes where people write decimals and times, and
-/// how the elements of an array are held.
-pub fn plain_value(alloc: Global, words: &str) -> Result<String, Fault> {
-    let (kind, words) = cut(words)?;
-    let (kind, is_array) = type_of(kind)?;
-    let text = text_of(alloc, words)?;
-    plain_octets(alloc, kind, is_array, text.as_str())
-}
-
-fn plain_octets(alloc: Global, kind: u8, is_array: bool, text: &str) -> Result<String, Fault> {
-    let value = parse_plain_value(alloc, kind, is_array, text)?;
-    let mut out = encoded(alloc, &value)?;
-    out.push_str(held(&value))?;
-    Ok(out)
-}
-
-/// What a Variant prints as where people read it, with the names of StatusCodes or without, and the
-/// bytes of the value that its type and its text denote there.
-pub fn plain(alloc: Global, words: &str, names: bool) -> Result<String, Fault> {
-    let value = value_in::<Variant>(alloc, words)?;
-    let text = plain_text(alloc, &value, names);
-    drop(value);
-    let text = text?;
-    let quoted = quoted(alloc, text.as_str())?;
-    match plain_back(alloc, text.as_str()) {
-        Ok(octets) => Ok(format!(in alloc; "{quoted} back {octets}")?),
-        Err(Fault::Memory) => Err(Fault::Memory),
-        Err(_) => Ok(quoted),
-    }
-}
-
-fn plain_text(alloc: Global, value: &Variant, names: bool) -> Result<String, Fault> {
+    push_read_answers(alloc, &mut out, nodes(alloc)?.as_slice(), &answers, style)?;
+    assert_eq!(rt;
+        out.as_str(),
+        "ns=1;s=Pump 00000000 Int32 7\ni=9999 80340000\n"
+    );
+    assert!(rt; has_bad_code(&answers));
+    let few = response(alloc, "01007A02", "00000000", "01000000 00 FFFFFFFF")?;
     let mut out = page(alloc);
-    push_plain_variant(alloc, &mut out, value, names)?;
-    Ok(out)
+    let answer = push_read_answers(alloc, &mut out, nodes(alloc)?.as_slice(), &few, style);
+    assert_eq!(rt; answer, Err(AnswerFault::Unknown));
+    Ok(())
 }
 
-fn plain_back(alloc: Global, text: &str) -> Result<String, Fault> {
-    let (kind, text) = cut(text)?;
-    let (kind, is_array) = parse_type(kind).ok_or(Fault::NoValue)?;
-    plain_octets(alloc, kind, is_array, text)
+#[test]
+fn prints_the_answers_to_a_write(rt: HostRuntime) -> Result<(), Fail> {
+    let alloc = rt.alloc();
+    let codes = "02000000 00000000 00003480 FFFFFFFF";
+    let answers = response(alloc, "0100A402", "00000000", codes)?;
+    let style = LineStyle::plain(false);
+    let mut out = page(alloc);
+    push_write_answers(alloc, &mut out, nodes(alloc)?.as_slice(), &answers, style)?;
+    assert_eq!(rt; out.as_str(), "ns=1;s=Pump 00000000\ni=9999 80340000\n");
+    let fault = response(alloc, "01008D01", "00002780", "")?;
+    let mut out = page(alloc);
+    let answer = push_write_answers(alloc, &mut out, nodes(alloc)?.as_slice(), &fault, style);
+    let code = StatusCode { code: 0x8027_0000 };
+    assert_eq!(rt; answer, Err(AnswerFault::Service(code)));
+    Ok(())
 }
 
-/// The bytes of the value that the name of a type and a text denote.
-fn back(alloc: Global, text: &str) -> Result<String, Fault> {
-    let (kind, text) = cut(text)?;
-    let (kind, is_array) = parse_type(kind).ok_or(Fault::NoValue)?;
-    value_text(alloc, kind, is_array, text)
+#[test]
+fn prints_endpoints(rt: HostRuntime) -> Result<(), Fail> {
+    let alloc = rt.alloc();
+    let endpoint = "01000000 01000000 75 FFFFFFFF FFFFFFFF 00 00000000 FFFFFFFF FFFFFFFF \
+        FFFFFFFF FFFFFFFF 01000000 02000000 705C FFFFFFFF FFFFFFFF 00";
+    let answer = response(alloc, "0100AF01", "00000000", endpoint)?;
+    let mut out = page(alloc);
+    push_endpoints(alloc, &mut out, &answer, EndpointStyle::plain())?;
+    assert_eq!(rt; out.as_str(), "u 1 p\\\\\n");
+    Ok(())
+}
+
+#[test]
+fn parses_scripts(rt: HostRuntime) -> Result<(), Fail> {
+    let alloc = rt.alloc();
+    let text = "\nrenew\r\n#\nread\ti=1\t1:2\nwrite\ti=72\tInt32[]\t6,7\n";
+    let steps = parse_script(alloc, text)?;
+    assert_eq!(rt; steps.len(), 3);
+    for line in &steps {
+        match &line.step {
+            Step::Renew => assert_eq!(rt; line.number, 2),
+            Step::Read { range, .. } => writes(&rt, alloc, range, "03000000 313A32")?,
+            Step::Write { value, .. } => {
+                writes(&rt, alloc, value, "86 02000000 06000000 07000000")?;
+            }
+        }
+    }
+    for (text, line) in [
+        ("read", 1),
+        ("renew\nread\tx\nread", 2),
+        ("write\ti=1\t\t1", 1),
+    ] {
+        match parse_script(alloc, text) {
+            Ok(_) => return Err(Fail::new("steps")),
+            Err(fault) => assert_eq!(rt; fault, ScriptFault::Line(line), "{text}"),
+        }
+    }
+    Ok(())
+}
+
+#[test]
+fn writes_decimals_of_a_node_file_exactly(rt: HostRuntime) -> Result<(), Fail> {
+    let exact = exact_lines(rt.alloc(), "i=1\tr\tLevel\tFloat\t-6.5")?;
+    assert_eq!(rt; exact.as_str(), "i=1\tr\tLevel\tFloat\t0xc0d00000\n");
+    Ok(())
 }
