@@ -37,22 +37,21 @@ pub fn value<T: Wire + Drop>(alloc: Global, words: &str) -> Result<T, Fail> {
 /// Asserts what is written for a value: these bytes, or where they are `unwritable` nothing. A write
 /// that lacked memory has appended nothing, and is tried again.
 pub fn writes<T: Wire>(
-    rt: &impl Abort,
-    alloc: Global,
+    rt: &(impl Abort + AllocGlobal),
     value: &T,
     expected: &str,
 ) -> Result<(), Fail> {
-    let mut out = [1, 2].to_vec(alloc)?;
+    let mut out = [1, 2].to_vec(rt.alloc())?;
     let mut answer = value.write(&mut out);
     if answer == Err(WriteFault::OutOfMemory) {
         assert_eq!(rt; out.as_slice(), [1, 2].as_slice());
         answer = value.write(&mut out);
     }
-    let mut wanted = [1, 2].to_vec(alloc)?;
+    let mut wanted = [1, 2].to_vec(rt.alloc())?;
     if expected == "unwritable" {
         assert_eq!(rt; answer, Err(WriteFault::NotWritable));
     } else {
-        wanted.extend_from_slice(octets(alloc, expected)?.as_slice())?;
+        wanted.extend_from_slice(octets(rt.alloc(), expected)?.as_slice())?;
         assert_eq!(rt; answer, Ok(()), "{expected}");
     }
     assert_eq!(rt; out.as_slice(), wanted.as_slice());
@@ -62,17 +61,16 @@ pub fn writes<T: Wire>(
 /// Asserts that bytes are decoded as a value, for which the `same` or other bytes are written, or
 /// that is `unwritable`; or as `none`.
 pub fn check<T: Wire + Drop>(
-    rt: &impl Abort,
-    alloc: Global,
+    rt: &(impl Abort + AllocGlobal),
     words: &str,
     expected: &str,
 ) -> Result<(), Fail> {
-    let octets = octets(alloc, words)?;
-    match T::read_whole(alloc, octets.as_slice())? {
+    let octets = octets(rt.alloc(), words)?;
+    match T::read_whole(rt.alloc(), octets.as_slice())? {
         None => assert_eq!(rt; expected, "none", "{words}"),
         Some(value) => {
             let expected = if expected == "same" { words } else { expected };
-            let answer = writes(rt, alloc, &value, expected);
+            let answer = writes(rt, &value, expected);
             drop(value);
             answer?;
         }

@@ -18,7 +18,7 @@ fn reads_diagnostics(rt: HostRuntime) -> Result<(), Fail> {
         ("01 000000", "none"),
     ];
     for (words, expected) in cases {
-        check::<DiagnosticInfo>(&rt, rt.alloc(), words, expected)?;
+        check::<DiagnosticInfo>(&rt, words, expected)?;
     }
     Ok(())
 }
@@ -41,9 +41,9 @@ fn measures_diagnostics(rt: HostRuntime) -> Result<(), Fail> {
             info.depth() == depth && info.count() == count && info.writable(),
             "{words}"
         );
-        writes(&rt, alloc, &info.try_clone(alloc)?, words)?;
+        writes(&rt, &info.try_clone(alloc)?, words)?;
         let boxed = BoxedDiagnostic::new(alloc, info)?;
-        writes(&rt, alloc, &boxed.into_inner(), words)?;
+        writes(&rt, &boxed.into_inner(), words)?;
     }
     Ok(())
 }

@@ -6,27 +6,7 @@ use ua_builtin::Octets;
 use ua_fields::{BodyKind, push_body_fields};
 
 /// Bodies of each kind, whether StatusCodes have their names, and the lines of their fields.
-const CASES: [(BodyKind, bool, &str, &str); 5] = [
-    (
-        BodyKind::Request,
-        false,
-        "01007702 01020100 00803ED5DEB19D01 05000000 00000000 FFFFFFFF 00000000 000000 \
-        0000000000000000 02000000 01000000 03010004000000 50756D70 0D000000 FFFFFFFF 0000 FFFFFFFF",
-        "    request_header.authentication_token ns=2;i=1\n\
-        \x20   request_header.timestamp 116444736000000000\n\
-        \x20   request_header.request_handle 5\n\
-        \x20   request_header.return_diagnostics 0\n\
-        \x20   request_header.audit_entry_id null\n\
-        \x20   request_header.timeout_hint 0\n\
-        \x20   request_header.additional_header null\n\
-        \x20 max_age 0x0000000000000000\n\
-        \x20 timestamps_to_return 2\n\
-        \x20 nodes_to_read 1\n\
-        \x20   nodes_to_read[0].node_id ns=1;s=Pump\n\
-        \x20   nodes_to_read[0].attribute_id 13\n\
-        \x20   nodes_to_read[0].index_range null\n\
-        \x20   nodes_to_read[0].data_encoding null\n",
-    ),
+const CASES: [(BodyKind, bool, &str, &str); 3] = [
     (
         BodyKind::Response,
         true,
@@ -64,17 +44,6 @@ const CASES: [(BodyKind, bool, &str, &str); 5] = [
         \x20 security_mode -3\n\
         \x20 client_nonce Cgs=\n\
         \x20 requested_lifetime 194\n",
-    ),
-    (
-        BodyKind::OpenResponse,
-        false,
-        "01008D01 00803ED5DEB19D01 09000000 00000B80 00 FFFFFFFF 000000",
-        "    response_header.timestamp 116444736000000000\n\
-        \x20   response_header.request_handle 9\n\
-        \x20   response_header.service_result 800B0000\n\
-        \x20   response_header.service_diagnostics null\n\
-        \x20   response_header.string_table null\n\
-        \x20   response_header.additional_header null\n",
     ),
     (BodyKind::CloseRequest, false, "0100C401", ""),
 ];

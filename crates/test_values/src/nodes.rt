@@ -9,7 +9,7 @@ use ua_nodes::{
     Access, InsertFault, LineReason, LoadFault, Node, NodeTable, Reading, SetFault, Stamps,
     parse_type, parse_value,
 };
-use ua_services::session_requests::{read_attribute_item, write_item};
+use ua_services::session_requests::read_attribute_item;
 use ua_structures::WriteValue;
 use ua_variant::{Elements, Variant};
 
@@ -21,26 +21,23 @@ const MOMENT: DateTime = DateTime {
     ticks: 116_444_736_000_000_000,
 };
 
-/// Asserts what an item of a Read is answered with.
+/// Asserts what an item of a Read is answered with, without a time of the server.
 fn reads(
-    rt: &impl Abort,
+    rt: &(impl Abort + AllocGlobal),
     table: &NodeTable,
-    alloc: Global,
     item: (&str, u32, &str),
-    stamps: Stamps,
     expected: &str,
 ) -> Result<(), Fail> {
     let (node, attribute, range) = item;
-    let range = UaString::from_str(alloc, range)?;
-    let item = read_attribute_item(NodeId::parse_text(alloc, node)?, attribute, range);
-    let answer = table.read_item(alloc, &item, stamps, MOMENT)?;
-    writes(rt, alloc, &answer, expected)
+    let range = UaString::from_str(rt.alloc(), range)?;
+    let item = read_attribute_item(NodeId::parse_text(rt.alloc(), node)?, attribute, range);
+    let answer = table.read_item(rt.alloc(), &item, Stamps::Source, MOMENT)?;
+    writes(rt, &answer, expected)
 }
 
 #[test]
 fn reads_attributes(rt: HostRuntime) -> Result<(), Fail> {
-    let alloc = rt.alloc();
-    let table = NodeTable::load(alloc, FILE)?;
+    let table = NodeTable::load(rt.alloc(), FILE)?;
     let cases = [
         ("i=2001", 1, "01 11 0100D107"),
         ("i=2001", 2, "01 06 02000000"),
@@ -54,23 +51,20 @@ fn reads_attributes(rt: HostRuntime) -> Result<(), Fail> {
         ("i=9999", 13, "02 00003480"),
     ];
     for (node, attribute, expected) in cases {
-        reads(
-            &rt,
-            &table,
-            alloc,
-            (node, attribute, ""),
-            Stamps::Neither,
-            expected,
-        )?;
+        reads(&rt, &table, (node, attribute, ""), expected)?;
     }
-    let timed = "09 0A 0000D0C0 00803ED5DEB19D01";
-    reads(&rt, &table, alloc, ("i=2001", 13, ""), Stamps::Both, timed)
+    let item = read_attribute_item(
+        NodeId::parse_text(rt.alloc(), "i=2001")?,
+        13,
+        UaString::null(),
+    );
+    let answer = table.read_item(rt.alloc(), &item, Stamps::Both, MOMENT)?;
+    writes(&rt, &answer, "09 0A 0000D0C0 00803ED5DEB19D01")
 }
 
 #[test]
 fn reads_the_part_that_a_range_selects(rt: HostRuntime) -> Result<(), Fail> {
-    let alloc = rt.alloc();
-    let table = NodeTable::load(alloc, FILE)?;
+    let table = NodeTable::load(rt.alloc(), FILE)?;
     let cases = [
         ("0", "01 86 01000000 0A000000"),
         ("1:9", "01 86 02000000 14000000 1E000000"),
@@ -85,118 +79,85 @@ fn reads_the_part_that_a_range_selects(rt: HostRuntime) -> Result<(), Fail> {
         ("4294967296", "02 00003680"),
     ];
     for (range, expected) in cases {
-        reads(
-            &rt,
-            &table,
-            alloc,
-            ("ns=1;s=Row", 13, range),
-            Stamps::Neither,
-            expected,
-        )?;
+        reads(&rt, &table, ("ns=1;s=Row", 13, range), expected)?;
     }
-    reads(
-        &rt,
-        &table,
-        alloc,
-        ("i=2001", 13, "0"),
-        Stamps::Neither,
-        "02 00003680",
-    )
+    reads(&rt, &table, ("i=2001", 13, "0"), "02 00003680")
 }
 
-/// The item that sets a node to the Variant of these bytes.
-fn setting(alloc: Global, node: &str, words: &str) -> Result<WriteValue, Fail> {
-    Ok(write_item(NodeId::parse_text(alloc, node)?, value(alloc, words)?))
+/// The items that set nodes to the DataValues of these bytes.
+fn settings(alloc: Global, items: &[(&str, &str)]) -> Result<Vec<WriteValue>, Fail> {
+    let mut settings = Vec::new(alloc);
+    for (node, words) in items {
+        let node = NodeId::parse_text(alloc, node)?;
+        settings.push(WriteValue::new(node, value(alloc, words)?))?;
+    }
+    Ok(settings)
 }
 
-/// The answer to one item of a Write.
-fn set(alloc: Global, table: &mut NodeTable, node: &str, words: &str) -> Result<u32, Fail> {
-    let mut items = Vec::new(alloc);
-    items.push(setting(alloc, node, words)?)?;
+/// The answers to one Write of items.
+fn write(
+    alloc: Global,
+    table: &mut NodeTable,
+    items: &[(&str, &str)],
+) -> Result<Vec<StatusCode>, Fail> {
+    let items = settings(alloc, items)?;
     let mut statuses = Vec::with_capacity(alloc, items.len())?;
     table.write_items(items, MOMENT, &mut statuses);
-    let status: &StatusCode = statuses.first().ok_or("no answer")?;
-    Ok(status.code)
+    Ok(statuses)
 }
 
 #[test]
 fn writes_values(rt: HostRuntime) -> Result<(), Fail> {
-    let alloc = rt.alloc();
-    let mut table = NodeTable::load(alloc, FILE)?;
+    let mut table = NodeTable::load(rt.alloc(), FILE)?;
     let cases = [
-        ("i=2001", "0A 00000000", 0x803B_0000),
-        ("ns=1;s=Row", "06 07000000", 0x8074_0000),
-        ("ns=1;s=Row", "86 00000000", 0),
+        ("i=2001", "01 0A 00000000", 0x803B_0000),
+        ("ns=1;s=Row", "01 06 07000000", 0x8074_0000),
+        ("ns=1;s=Row", "01 86 00000000", 0),
+        ("ns=1;s=Row", "00", 0x8073_0000),
         ("i=9999", "00", 0x8034_0000),
     ];
     for (node, words, code) in cases {
+        let statuses = write(rt.alloc(), &mut table, &[(node, words)])?;
         assert_eq!(rt;
-            set(alloc, &mut table, node, words)?,
-            code,
+            statuses.as_slice(),
+            [StatusCode { code }].as_slice(),
             "{node} {words}"
         );
     }
-    let mut nothing = setting(alloc, "ns=1;s=Row", "00")?;
-    nothing.value.value = None;
-    let mut items = Vec::new(alloc);
-    items.push(nothing)?;
-    let mut statuses = Vec::with_capacity(alloc, items.len())?;
-    table.write_items(items, MOMENT, &mut statuses);
-    let status: &StatusCode = statuses.first().ok_or("no answer")?;
-    assert_eq!(rt; status.code, 0x8073_0000);
-    reads(
-        &rt,
-        &table,
-        alloc,
-        ("ns=1;s=Row", 13, ""),
-        Stamps::Neither,
-        "01 86 00000000",
-    )
+    reads(&rt, &table, ("i=2001", 13, ""), "01 0A 0000D0C0")
 }
 
 #[test]
 fn writes_items_in_order(rt: HostRuntime) -> Result<(), Fail> {
-    let alloc = rt.alloc();
-    let mut table = NodeTable::load(alloc, "ns=1;s=Pump\trw\tPump\tInt32\t5\n")?;
-    let mut items = Vec::new(alloc);
-    items.push(setting(alloc, "ns=1;s=Pump", "0606000000")?)?;
-    items.push(setting(alloc, "ns=1;s=Pump", "0607000000")?)?;
-    let mut statuses = Vec::with_capacity(alloc, items.len())?;
-    table.write_items(items, MOMENT, &mut statuses);
-    assert_eq!(rt; statuses.len(), 2);
-    for status in &statuses {
-        assert_eq!(rt; status.code, 0);
-    }
-    let seven = "0D 0607000000 00803ED5DEB19D01 00803ED5DEB19D01";
+    let mut table = NodeTable::load(rt.alloc(), "ns=1;s=Pump\trw\tPump\tInt32\t5\n")?;
+    let items = [
+        ("ns=1;s=Pump", "01 0606000000"),
+        ("ns=1;s=Pump", "01 0607000000"),
+    ];
+    let statuses = write(rt.alloc(), &mut table, &items)?;
+    let good = StatusCode::GOOD;
+    assert_eq!(rt; statuses.as_slice(), [good, good].as_slice());
     reads(
         &rt,
         &table,
-        alloc,
         ("ns=1;s=Pump", 13, ""),
-        Stamps::Both,
-        seven,
+        "05 0607000000 00803ED5DEB19D01",
     )?;
-    reads(
-        &rt,
-        &table,
-        alloc,
-        ("i=9999", 13, ""),
-        Stamps::Both,
-        "02 00003480",
-    )
+    reads(&rt, &table, ("i=9999", 13, ""), "02 00003480")
 }
 
 #[test]
 fn writes_within_a_limit_of_memory(rt: HostRuntime) -> Result<(), Fail> {
-    let alloc = rt.alloc();
-    let mut table = NodeTable::load(alloc, "ns=1;s=A\trw\tA\tString[]\t\n")?;
-    for (most, code) in [(89, 0x8003_0000u32), (90, 0)] {
-        let mut items = Vec::new(alloc);
-        items.push(setting(alloc, "ns=1;s=A", "8C 01000000 02000000 4142")?)?;
-        let mut statuses = Vec::with_capacity(alloc, items.len())?;
+    let mut table = NodeTable::load(rt.alloc(), "ns=1;s=A\trw\tA\tString[]\t\n")?;
+    for (most, code) in [(89, 0x8003_0000), (90, 0)] {
+        let items = settings(rt.alloc(), &[("ns=1;s=A", "01 8C 01000000 02000000 4142")])?;
+        let mut statuses = Vec::with_capacity(rt.alloc(), items.len())?;
         table.write_items_within(items, MOMENT, most, &mut statuses);
-        let status: &StatusCode = statuses.first().ok_or("no answer")?;
-        assert_eq!(rt; status.code, code, "{most}");
+        assert_eq!(rt;
+            statuses.as_slice(),
+            [StatusCode { code }].as_slice(),
+            "{most}"
+        );
     }
     assert_eq!(rt; table.memory(), 90);
     Ok(())
@@ -204,48 +165,38 @@ fn writes_within_a_limit_of_memory(rt: HostRuntime) -> Result<(), Fail> {
 
 #[test]
 fn sets_a_value_for_the_application(rt: HostRuntime) -> Result<(), Fail> {
-    let alloc = rt.alloc();
-    let mut table = NodeTable::load(alloc, "ns=1;s=Pump\trw\tPump\tInt32\t5\n")?;
-    let id = NodeId::parse_text(alloc, "ns=1;s=Pump")?;
+    let mut table = NodeTable::load(rt.alloc(), "ns=1;s=Pump\trw\tPump\tInt32\t5\n")?;
+    let id = NodeId::parse_text(rt.alloc(), "ns=1;s=Pump")?;
     assert_eq!(rt; table.index_of(&id), Some(0));
-    assert_eq!(rt;
-        table.set(&id, reading(value(alloc, "0608000000")?)),
-        Ok(())
-    );
-    assert_eq!(rt;
-        table.set_at(0, reading(value(alloc, "050800")?)),
-        Err(SetFault::Mismatch)
-    );
+    assert_eq!(rt; table.set(&id, reading(rt.alloc(), "0608000000")?), Ok(()));
+    let other = reading(rt.alloc(), "050800")?;
+    assert_eq!(rt; table.set_at(0, other), Err(SetFault::Mismatch));
     reads(
         &rt,
         &table,
-        alloc,
         ("ns=1;s=Pump", 13, ""),
-        Stamps::Neither,
-        "01 0608000000",
+        "05 0608000000 00803ED5DEB19D01",
     )
 }
 
-fn reading(value: Variant) -> Reading {
-    Reading {
-        value,
+fn reading(alloc: Global, words: &str) -> Result<Reading, Fail> {
+    Ok(Reading {
+        value: value(alloc, words)?,
         status: None,
         source_time: MOMENT,
         source_picoseconds: None,
-    }
+    })
 }
 
 /// The node of the first line of the file.
 fn level(alloc: Global) -> Result<Node, Fail> {
+    let (readable, writable) = (true, false);
     Ok(Node {
         id: NodeId::parse_text(alloc, "i=2001")?,
         name: UaString::from_str(alloc, "Level")?,
         kind: 10,
         array: false,
-        access: Access {
-            readable: true,
-            writable: false,
-        },
+        access: Access { readable, writable },
         value: value(alloc, "0A 0000D0C0")?,
         status: None,
         source_time: None,
@@ -255,34 +206,33 @@ fn level(alloc: Global) -> Result<Node, Fail> {
 
 #[test]
 fn adds_a_node_once(rt: HostRuntime) -> Result<(), Fail> {
-    let alloc = rt.alloc();
-    let mut table = NodeTable::new(alloc);
-    let node = level(alloc)?;
+    let mut table = NodeTable::new(rt.alloc());
+    let node = level(rt.alloc())?;
     assert!(rt; node.is_sound());
     if table.insert(node) == Err(InsertFault::OutOfMemory) {
         assert!(rt; table.is_empty());
-        assert_eq!(rt; table.insert(level(alloc)?), Ok(()));
+        assert_eq!(rt; table.insert(level(rt.alloc())?), Ok(()));
     }
-    assert_eq!(rt; table.insert(level(alloc)?), Err(InsertFault::Duplicate));
+    let again = level(rt.alloc())?;
+    assert_eq!(rt; table.insert(again), Err(InsertFault::Duplicate));
     assert_eq!(rt; table.len(), 1);
     Ok(())
 }
 
 #[test]
 fn loads_node_files(rt: HostRuntime) -> Result<(), Fail> {
-    let alloc = rt.alloc();
-    let table = NodeTable::load(alloc, FILE)?;
+    let table = NodeTable::load(rt.alloc(), FILE)?;
     let (id, row) = table.get_index(1).ok_or("no node")?;
-    assert_eq!(rt; id.to_text(alloc)?.as_str(), "ns=1;s=Row");
+    assert_eq!(rt; id.to_text(rt.alloc())?.as_str(), "ns=1;s=Row");
     assert!(rt; row.kind == 6 && row.array && row.access.level() == 3 && row.status.is_none());
-    let again = format!(in alloc; "{FILE}i=2001\tr\tLevel\tFloat\t0xC0D00000\n")?;
+    let again = format!(in rt.alloc(); "{FILE}i=2001\tr\tLevel\tFloat\t0xC0D00000\n")?;
     let cases = [
         ("i=2001\tr\tLevel\tFloat", 1, LineReason::Fields),
         (again.as_str(), 3, LineReason::Duplicate),
         ("i=1\tr\ta\tByte\t256", 1, LineReason::Value),
     ];
     for (text, line, reason) in cases {
-        match NodeTable::load(alloc, text) {
+        match NodeTable::load(rt.alloc(), text) {
             Ok(_) => return Err(Fail::new("a table")),
             Err(fault) => assert_eq!(rt; fault, LoadFault::Line { line, reason }, "{text}"),
         }
@@ -293,8 +243,7 @@ fn loads_node_files(rt: HostRuntime) -> Result<(), Fail> {
 #[test]
 fn parses_arrays_into_a_vector_of_their_type(rt: HostRuntime) -> Result<(), Fail> {
     let (kind, is_array) = parse_type("Int32[]").ok_or("no type")?;
-    let value = parse_value(rt.alloc(), kind, is_array, "10,20")?;
-    match &value {
+    match &parse_value(rt.alloc(), kind, is_array, "10,20")? {
         Variant::Many {
             items: Some(items),
             ..

@@ -33,13 +33,13 @@ const MOMENT: DateTime = DateTime {
 };
 
 /// What a body is as a request, decoded and passed over.
-fn as_request(rt: &impl Abort, alloc: Global, words: &str) -> Result<AsRequest, Fail> {
-    let octets = octets(alloc, words)?;
-    let answer = match read_request(alloc, &mut Octets::new(octets.as_slice())) {
+fn as_request(rt: &(impl Abort + AllocGlobal), words: &str) -> Result<AsRequest, Fail> {
+    let octets = octets(rt.alloc(), words)?;
+    let answer = match read_request(rt.alloc(), &mut Octets::new(octets.as_slice())) {
         Ok(request) => Ok(request.kind()),
         Err(fault) => Err(fault),
     };
-    let skipped = skip_request(alloc, &mut Octets::new(octets.as_slice()));
+    let skipped = skip_request(rt.alloc(), &mut Octets::new(octets.as_slice()));
     assert_eq!(rt; answer, skipped, "{words}");
     Ok(answer)
 }
@@ -62,38 +62,33 @@ fn tells_requests_by_their_bodies(rt: HostRuntime) -> Result<(), Fail> {
     ];
     for (id, header, rest, expected) in cases {
         let words = format!(in alloc; "{id} {header} {rest}")?;
-        assert_eq!(rt;
-            as_request(&rt, alloc, words.as_str())?,
-            expected,
-            "{words}"
-        );
+        assert_eq!(rt; as_request(&rt, words.as_str())?, expected, "{words}");
     }
     let words = format!(in alloc; "0100D901 {tail} 05")?;
     let truth = format!(in alloc; "0100D901 {tail} 01")?;
-    check::<Request>(&rt, alloc, words.as_str(), truth.as_str())
+    check::<Request>(&rt, words.as_str(), truth.as_str())
 }
 
 #[test]
 fn keeps_every_field_of_each_request(rt: HostRuntime) -> Result<(), Fail> {
     for words in REQUESTS {
-        check::<Request>(&rt, rt.alloc(), words, "same")?;
-        assert!(rt; as_request(&rt, rt.alloc(), words)?.is_ok());
+        check::<Request>(&rt, words, "same")?;
+        assert!(rt; as_request(&rt, words)?.is_ok());
     }
     Ok(())
 }
 
 /// What a body is as a response, decoded and passed over.
 fn as_response(
-    rt: &impl Abort,
-    alloc: Global,
+    rt: &(impl Abort + AllocGlobal),
     words: &str,
 ) -> Result<Result<ResponseKind, ResponseFault>, Fail> {
-    let octets = octets(alloc, words)?;
-    let answer = match read_response(alloc, &mut Octets::new(octets.as_slice())) {
+    let octets = octets(rt.alloc(), words)?;
+    let answer = match read_response(rt.alloc(), &mut Octets::new(octets.as_slice())) {
         Ok(response) => Ok(response.kind()),
         Err(fault) => Err(fault),
     };
-    let skipped = skip_response(alloc, &mut Octets::new(octets.as_slice()));
+    let skipped = skip_response(rt.alloc(), &mut Octets::new(octets.as_slice()));
     assert_eq!(rt; answer, skipped, "{words}");
     Ok(answer)
 }
@@ -101,8 +96,8 @@ fn as_response(
 #[test]
 fn keeps_every_field_of_each_response(rt: HostRuntime) -> Result<(), Fail> {
     for words in RESPONSES {
-        check::<Response>(&rt, rt.alloc(), words, "same")?;
-        assert!(rt; as_response(&rt, rt.alloc(), words)?.is_ok());
+        check::<Response>(&rt, words, "same")?;
+        assert!(rt; as_response(&rt, words)?.is_ok());
     }
     Ok(())
 }
@@ -126,7 +121,7 @@ fn tells_responses_by_their_bodies(rt: HostRuntime) -> Result<(), Fail> {
         (CLOSE, Err(ResponseFault::Unknown)),
     ];
     for (words, expected) in cases {
-        assert_eq!(rt; as_response(&rt, rt.alloc(), words)?, expected, "{words}");
+        assert_eq!(rt; as_response(&rt, words)?, expected, "{words}");
     }
     let fault = value::<Response>(rt.alloc(), cases[0].0)?;
     assert!(rt; fault.answers(RequestKind::Read) && fault.header().request_handle == 9);
@@ -136,9 +131,9 @@ fn tells_responses_by_their_bodies(rt: HostRuntime) -> Result<(), Fail> {
 }
 
 /// Asserts the body of a request.
-fn asks(rt: &impl Abort, alloc: Global, request: Request, words: &str) -> Result<(), Fail> {
-    let body = request_body(alloc, request)?;
-    assert_eq!(rt; body.as_slice(), octets(alloc, words)?.as_slice());
+fn asks(rt: &(impl Abort + AllocGlobal), request: Request, words: &str) -> Result<(), Fail> {
+    let body = request_body(rt.alloc(), request)?;
+    assert_eq!(rt; body.as_slice(), octets(rt.alloc(), words)?.as_slice());
     Ok(())
 }
 
@@ -149,7 +144,6 @@ fn makes_the_requests_that_begin_and_end_a_session(rt: HostRuntime) -> Result<()
         18000000 6F70632E7463703A2F2F6C6F63616C686F73743A34383430 FFFFFFFF FFFFFFFF";
     asks(
         &rt,
-        alloc,
         get_endpoints_request(local_url(alloc, 4840)?, MOMENT, 2),
         words,
     )?;
@@ -158,19 +152,18 @@ fn makes_the_requests_that_begin_and_end_a_session(rt: HostRuntime) -> Result<()
         FFFFFFFF FFFFFFFF 18000000 6F70632E7463703A2F2F6C6F63616C686F73743A34383430 \
         020000007561 FFFFFFFF FFFFFFFF 00000000004CFD40 00000000";
     let request = create_session_request(alloc, local_url(alloc, 4840)?, MOMENT, 2)?;
-    asks(&rt, alloc, request, words)?;
+    asks(&rt, request, words)?;
     let words = "0100D301 01020100 00803ED5DEB19D01 03000000 00000000 FFFFFFFF 00000000 000000 \
         FFFFFFFF FFFFFFFF FFFFFFFF FFFFFFFF 01004101 01 0D000000 09000000 616E6F6E796D6F7573 \
         FFFFFFFF FFFFFFFF";
     let token = NodeId::parse_text(alloc, "ns=2;i=1")?;
     asks(
         &rt,
-        alloc,
         activate_session_request(alloc, token, MOMENT, 3)?,
         words,
     )?;
     let token = NodeId::parse_text(alloc, "ns=2;i=1")?;
-    asks(&rt, alloc, close_session_request(token, MOMENT, 9), CLOSE)
+    asks(&rt, close_session_request(token, MOMENT, 9), CLOSE)
 }
 
 #[test]
@@ -183,7 +176,7 @@ fn makes_reads_and_writes(rt: HostRuntime) -> Result<(), Fail> {
     let range = UaString::from_str(alloc, "1:9")?;
     items.push(read_item(NodeId::parse_text(alloc, "ns=1;s=Pump")?, range))?;
     let token = NodeId::parse_text(alloc, "ns=2;i=1")?;
-    asks(&rt, alloc, read_of(token, MOMENT, 5, items), words)?;
+    asks(&rt, read_of(token, MOMENT, 5, items), words)?;
     let words = "0100A102 01020100 00803ED5DEB19D01 04000000 00000000 FFFFFFFF 00000000 000000 \
         01000000 03010004000000 50756D70 0D000000 FFFFFFFF 01 0606000000";
     let mut items = Vec::new(alloc);
@@ -192,7 +185,7 @@ fn makes_reads_and_writes(rt: HostRuntime) -> Result<(), Fail> {
         value(alloc, "0606000000")?,
     ))?;
     let token = NodeId::parse_text(alloc, "ns=2;i=1")?;
-    asks(&rt, alloc, write_of(token, MOMENT, 4, items), words)
+    asks(&rt, write_of(token, MOMENT, 4, items), words)
 }
 
 #[test]
@@ -206,7 +199,7 @@ fn reads_a_write_for_the_nodes_of_a_table(rt: HostRuntime) -> Result<(), Fail> {
     assert_eq!(rt; read_request_kind(alloc, &mut src), Ok(RequestKind::Write));
     let mut request = WriteRequest::empty();
     read_write_request_for(alloc, &mut src, &table, &mut request)?;
-    asks(&rt, alloc, Request::Write(request), words)
+    asks(&rt, Request::Write(request), words)
 }
 
 #[test]
@@ -253,7 +246,7 @@ fn keeps_an_anonymous_identity(rt: HostRuntime) -> Result<(), Fail> {
     let object = value::<ExtensionObject>(alloc, words)?;
     let token = read_identity(alloc, &object)?;
     assert_eq!(rt; token.policy_id.as_str().ok_or("null")?, "anonymous");
-    writes(&rt, alloc, &write_identity(alloc, &token)?, words)?;
+    writes(&rt, &write_identity(alloc, &token)?, words)?;
     for words in [
         "01004101 00",
         "01004201 01 04000000 FFFFFFFF",
@@ -285,5 +278,5 @@ fn reads_a_request_in_parts_of_one_octet(rt: HostRuntime) -> Result<(), Fail> {
     assert_eq!(rt; src.left(), 36);
     let request = read_request(alloc, &mut src)?;
     assert_eq!(rt; src.left(), 0);
-    asks(&rt, alloc, request, CLOSE)
+    asks(&rt, request, CLOSE)
 }

@@ -20,7 +20,7 @@ fn tells_a_null_array_from_an_empty_one(rt: HostRuntime) -> Result<(), Fail> {
         ("01000000 000000", "none"),
     ];
     for (words, expected) in cases {
-        check::<UaArray<StatusCode>>(&rt, rt.alloc(), words, expected)?;
+        check::<UaArray<StatusCode>>(&rt, words, expected)?;
     }
     assert!(rt;
         value::<UaArray<u8>>(rt.alloc(), "FFFFFFFF")?
@@ -36,22 +36,21 @@ fn tells_a_null_array_from_an_empty_one(rt: HostRuntime) -> Result<(), Fail> {
 
 #[test]
 fn keeps_three_hundred_values(rt: HostRuntime) -> Result<(), Fail> {
-    let alloc = rt.alloc();
-    check::<UaArray<UaString>>(&rt, alloc, "2C010000 300*0100000041", "same")?;
-    check::<UaArray<UaBytes>>(&rt, alloc, "2C010000 300*02000000ABCD", "same")?;
-    check::<UaArray<DataValue>>(&rt, alloc, "2C010000 300*010507FF", "same")?;
-    check::<UaArray<DiagnosticInfo>>(&rt, alloc, "2C010000 300*0107000000", "same")?;
+    check::<UaArray<UaString>>(&rt, "2C010000 300*0100000041", "same")?;
+    check::<UaArray<UaBytes>>(&rt, "2C010000 300*02000000ABCD", "same")?;
+    check::<UaArray<DataValue>>(&rt, "2C010000 300*010507FF", "same")?;
+    check::<UaArray<DiagnosticInfo>>(&rt, "2C010000 300*0107000000", "same")?;
     let item = "2C010000 300*010507000D000000FFFFFFFF0000FFFFFFFF";
-    check::<UaArray<ReadValueId>>(&rt, alloc, item, "same")?;
+    check::<UaArray<ReadValueId>>(&rt, item, "same")?;
     let item = "2C010000 300*010507000D000000FFFFFFFF01050700";
-    check::<UaArray<WriteValue>>(&rt, alloc, item, "same")?;
+    check::<UaArray<WriteValue>>(&rt, item, "same")?;
     let certificate = "2C010000 300*020000000700FFFFFFFF";
-    check::<UaArray<SignedSoftwareCertificate>>(&rt, alloc, certificate, "same")?;
+    check::<UaArray<SignedSoftwareCertificate>>(&rt, certificate, "same")?;
     let policy = "2C010000 300*FFFFFFFF07000000FFFFFFFFFFFFFFFFFFFFFFFF";
-    check::<UaArray<UserTokenPolicy>>(&rt, alloc, policy, "same")?;
+    check::<UaArray<UserTokenPolicy>>(&rt, policy, "same")?;
     let endpoint = "2C010000 300*FFFFFFFFFFFFFFFFFFFFFFFF0007000000FFFFFFFFFFFFFFFFFFFFFFFF\
         FFFFFFFF01000000FFFFFFFFFFFFFFFFFFFFFFFF07";
-    check::<UaArray<EndpointDescription>>(&rt, alloc, endpoint, "same")
+    check::<UaArray<EndpointDescription>>(&rt, endpoint, "same")
 }
 
 #[test]
@@ -75,12 +74,12 @@ fn reads_into_what_is_there(rt: HostRuntime) -> Result<(), Fail> {
     let body = octets(alloc, words.as_str())?;
     let mut request = ReadRequest::empty();
     request.read_into(alloc, &mut Octets::new(body.as_slice()), 100)?;
-    writes(&rt, alloc, &request, words.as_str())?;
+    writes(&rt, &request, words.as_str())?;
     let words = "00803ED5DEB19D01 09000000 00000000 00 FFFFFFFF 000000 01000000 01050700 FFFFFFFF";
     let body = octets(alloc, words)?;
     let mut response = ReadResponse::empty();
     response.read_into(alloc, &mut Octets::new(body.as_slice()), 100)?;
-    writes(&rt, alloc, &response, words)
+    writes(&rt, &response, words)
 }
 
 #[test]
@@ -94,7 +93,6 @@ fn makes_requests_of_one_item(rt: HostRuntime) -> Result<(), Fail> {
         0000 FFFFFFFF";
     writes(
         &rt,
-        alloc,
         &request,
         format!(in alloc; "{HEADER} {tail}")?.as_str(),
     )?;
@@ -104,7 +102,6 @@ fn makes_requests_of_one_item(rt: HostRuntime) -> Result<(), Fail> {
     let tail = "01000000 03010004000000 50756D70 0D000000 FFFFFFFF 01 0606000000";
     writes(
         &rt,
-        alloc,
         &request,
         format!(in alloc; "{HEADER} {tail}")?.as_str(),
     )

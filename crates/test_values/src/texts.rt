@@ -85,9 +85,9 @@ fn parses_scripts(rt: HostRuntime) -> Result<(), Fail> {
     for line in &steps {
         match &line.step {
             Step::Renew => assert_eq!(rt; line.number, 2),
-            Step::Read { range, .. } => writes(&rt, alloc, range, "03000000 313A32")?,
+            Step::Read { range, .. } => writes(&rt, range, "03000000 313A32")?,
             Step::Write { value, .. } => {
-                writes(&rt, alloc, value, "86 02000000 06000000 07000000")?;
+                writes(&rt, value, "86 02000000 06000000 07000000")?;
             }
         }
     }

@@ -31,7 +31,7 @@ fn reads_variants(rt: HostRuntime) -> Result<(), Fail> {
         ("100*9801000000 00", "none"),
     ];
     for (words, expected) in cases {
-        check::<Variant>(&rt, rt.alloc(), words, expected)?;
+        check::<Variant>(&rt, words, expected)?;
     }
     Ok(())
 }
@@ -50,7 +50,7 @@ fn reads_data_values(rt: HostRuntime) -> Result<(), Fail> {
         ("01 86FFFFFF7F", "none"),
     ];
     for (words, expected) in cases {
-        check::<DataValue>(&rt, rt.alloc(), words, expected)?;
+        check::<DataValue>(&rt, words, expected)?;
     }
     Ok(())
 }
@@ -87,9 +87,9 @@ const ARRAYS: [&str; 25] = [
 #[test]
 fn keeps_three_hundred_elements_of_each_type(rt: HostRuntime) -> Result<(), Fail> {
     for words in ARRAYS {
-        check::<Variant>(&rt, rt.alloc(), words, "same")?;
+        check::<Variant>(&rt, words, "same")?;
     }
-    check::<Variant>(&rt, rt.alloc(), "9F 2C010000 300*01000000AB", "unwritable")
+    check::<Variant>(&rt, "9F 2C010000 300*01000000AB", "unwritable")
 }
 
 #[test]
@@ -112,13 +112,13 @@ fn measures_and_clones_variants(rt: HostRuntime) -> Result<(), Fail> {
         let clone = value.try_clone(alloc)?;
         drop(value);
         let boxed = BoxedVariant::new(alloc, clone)?;
-        writes(&rt, alloc, &boxed.into_inner(), words)?;
+        writes(&rt, &boxed.into_inner(), words)?;
     }
     for words in ARRAYS {
         let value = value::<Variant>(alloc, words)?;
         let clone = value.try_clone(alloc)?;
         drop(value);
-        writes(&rt, alloc, &HeldVariant::new(clone).into_inner(), words)?;
+        writes(&rt, &HeldVariant::new(clone).into_inner(), words)?;
     }
     Ok(())
 }
@@ -134,7 +134,7 @@ fn measures_and_clones_data_values(rt: HostRuntime) -> Result<(), Fail> {
     let clone = value.try_clone(alloc)?;
     drop(value);
     let boxed = BoxedDataValue::new(alloc, clone)?;
-    writes(&rt, alloc, &boxed.into_inner(), words)
+    writes(&rt, &boxed.into_inner(), words)
 }
 
 #[test]
@@ -147,7 +147,7 @@ fn keeps_a_reserved_type(rt: HostRuntime) -> Result<(), Fail> {
     match &clone {
         Variant::One(Scalar::Reserved(kind, octets)) => {
             assert_eq!(rt; *kind, 26);
-            writes(&rt, alloc, octets, "02000000 ABCD")
+            writes(&rt, octets, "02000000 ABCD")
         }
         _ => Err(Fail::new("another value")),
     }
@@ -172,20 +172,20 @@ fn takes_arrays_apart(rt: HostRuntime) -> Result<(), Fail> {
     assert_eq!(rt; kind, 5);
     assert!(rt; items.as_items::<u16>().is_some() && items.as_items::<u32>().is_none());
     let element = items.get(alloc, 2)?.ok_or("no element")?;
-    writes(&rt, alloc, &Variant::One(element), "05 0900")?;
+    writes(&rt, &Variant::One(element), "05 0900")?;
     assert!(rt; items.get(alloc, 3)?.is_none());
     let length = items.len();
     assert_eq!(rt; length, 3);
     let part = items.part(alloc, 1, length)?;
     drop(items);
-    writes(&rt, alloc, &array_of(alloc, part), "85 02000000 0800 0900")
+    writes(&rt, &array_of(alloc, part), "85 02000000 0800 0900")
 }
 
 #[test]
 fn makes_arrays(rt: HostRuntime) -> Result<(), Fail> {
     let alloc = rt.alloc();
     let packed = array_of(alloc, Scalars::from_items([7u16, 8].to_vec(alloc)?));
-    writes(&rt, alloc, &packed, "85 02000000 0700 0800")?;
+    writes(&rt, &packed, "85 02000000 0700 0800")?;
     let mut items = Vec::new(alloc);
     match value::<Variant>(alloc, "05 0700")?.into_scalar() {
         Ok(scalar) => items.push(scalar)?,
@@ -193,10 +193,9 @@ fn makes_arrays(rt: HostRuntime) -> Result<(), Fail> {
     }
     let items = Scalars::new(items);
     assert!(rt; matches!(items.elements(), Elements::Mixed(_)));
-    writes(&rt, alloc, &array_of(alloc, items), "85 01000000 0700")?;
+    writes(&rt, &array_of(alloc, items), "85 01000000 0700")?;
     writes(
         &rt,
-        alloc,
         &Variant::One(Scalar::ByteString(UaBytes::null())),
         "0F FFFFFFFF",
     )

@@ -12,26 +12,25 @@ use ua_wire::{is_text, split_counted, split_number};
 
 #[test]
 fn reads_numbers(rt: HostRuntime) -> Result<(), Fail> {
-    let alloc = rt.alloc();
-    check::<bool>(&rt, alloc, "05", "01")?;
-    check::<u8>(&rt, alloc, "FF", "same")?;
-    check::<i8>(&rt, alloc, "80", "same")?;
-    check::<u16>(&rt, alloc, "0100", "same")?;
-    check::<i16>(&rt, alloc, "0080", "same")?;
-    check::<u32>(&rt, alloc, "01000000", "same")?;
-    check::<i32>(&rt, alloc, "00000080", "same")?;
-    check::<u64>(&rt, alloc, "0100000000000000", "same")?;
-    check::<i64>(&rt, alloc, "0000000000000080", "same")?;
-    check::<FloatBits>(&rt, alloc, "0100807F", "same")?;
-    check::<DoubleBits>(&rt, alloc, "000000000000F87F", "same")?;
-    check::<DateTime>(&rt, alloc, "00803ED5DEB19D01", "same")?;
-    check::<StatusCode>(&rt, alloc, "00003480", "same")?;
-    check::<(u16, bool)>(&rt, alloc, "0200 01", "same")?;
-    writes(&rt, alloc, &1u16, "0100")?;
-    writes(&rt, alloc, &DateTime { ticks: -2 }, "FEFFFFFFFFFFFFFF")?;
+    check::<bool>(&rt, "05", "01")?;
+    check::<u8>(&rt, "FF", "same")?;
+    check::<i8>(&rt, "80", "same")?;
+    check::<u16>(&rt, "0100", "same")?;
+    check::<i16>(&rt, "0080", "same")?;
+    check::<u32>(&rt, "01000000", "same")?;
+    check::<i32>(&rt, "00000080", "same")?;
+    check::<u64>(&rt, "0100000000000000", "same")?;
+    check::<i64>(&rt, "0000000000000080", "same")?;
+    check::<FloatBits>(&rt, "0100807F", "same")?;
+    check::<DoubleBits>(&rt, "000000000000F87F", "same")?;
+    check::<DateTime>(&rt, "00803ED5DEB19D01", "same")?;
+    check::<StatusCode>(&rt, "00003480", "same")?;
+    check::<(u16, bool)>(&rt, "0200 01", "same")?;
+    writes(&rt, &1u16, "0100")?;
+    writes(&rt, &DateTime { ticks: -2 }, "FEFFFFFFFFFFFFFF")?;
     let status = StatusCode { code: 0x8034_0000 };
     assert!(rt; status.is_bad());
-    writes(&rt, alloc, &status, "00003480")
+    writes(&rt, &status, "00003480")
 }
 
 #[test]
@@ -41,8 +40,8 @@ fn writes_a_guid_by_its_fields(rt: HostRuntime) -> Result<(), Fail> {
         return Err(Fail::new("another identifier"));
     };
     let words = "912B9672 75FA E64A 8D28 B404DC7DAF63";
-    writes(&rt, rt.alloc(), &guid, words)?;
-    check::<Guid>(&rt, rt.alloc(), words, "same")
+    writes(&rt, &guid, words)?;
+    check::<Guid>(&rt, words, "same")
 }
 
 #[test]
@@ -58,12 +57,12 @@ fn tells_a_null_text_from_an_empty_one(rt: HostRuntime) -> Result<(), Fail> {
         ("FFFFFF7F 41", "none"),
     ];
     for (words, expected) in cases {
-        check::<UaString>(&rt, alloc, words, expected)?;
-        check::<UaBytes>(&rt, alloc, words, expected)?;
-        check::<XmlElement>(&rt, alloc, words, expected)?;
+        check::<UaString>(&rt, words, expected)?;
+        check::<UaBytes>(&rt, words, expected)?;
+        check::<XmlElement>(&rt, words, expected)?;
     }
-    check::<UaString>(&rt, alloc, "01000000 FF", "none")?;
-    check::<UaBytes>(&rt, alloc, "01000000 FF", "same")?;
+    check::<UaString>(&rt, "01000000 FF", "none")?;
+    check::<UaBytes>(&rt, "01000000 FF", "same")?;
     assert!(rt; value::<UaString>(alloc, "FEFFFFFF")?.as_str().is_none());
     let empty = value::<UaString>(alloc, "00000000")?;
     assert_eq!(rt; empty.as_str().ok_or("null")?, "");
@@ -87,26 +86,25 @@ fn reads_each_form_of_a_node_id(rt: HostRuntime) -> Result<(), Fail> {
         ("06 48", "none"),
     ];
     for (words, expected) in cases {
-        check::<NodeId>(&rt, rt.alloc(), words, expected)?;
+        check::<NodeId>(&rt, words, expected)?;
     }
     Ok(())
 }
 
 #[test]
 fn drops_flags_of_what_is_null(rt: HostRuntime) -> Result<(), Fail> {
-    let alloc = rt.alloc();
-    check::<ExpandedNodeId>(&rt, alloc, "80 48 FFFFFFFF", "0048")?;
-    check::<ExpandedNodeId>(&rt, alloc, "40 48 00000000", "0048")?;
-    check::<ExpandedNodeId>(&rt, alloc, "41 01 4800 05000000", "same")?;
-    check::<ExpandedNodeId>(&rt, alloc, "81 01 4800 01000000 75", "same")?;
-    check::<LocalizedText>(&rt, alloc, "01 FFFFFFFF", "00")?;
-    check::<LocalizedText>(&rt, alloc, "03 02000000 656E 02000000 6869", "same")?;
-    check::<LocalizedText>(&rt, alloc, "04", "none")?;
-    check::<QualifiedName>(&rt, alloc, "0200 01000000 78", "same")?;
-    check::<ExtensionObject>(&rt, alloc, "01004101 01 01000000 AB", "same")?;
-    check::<ExtensionObject>(&rt, alloc, "0048 00", "same")?;
-    check::<ExtensionObject>(&rt, alloc, "0048 02 FFFFFFFF", "same")?;
-    check::<ExtensionObject>(&rt, alloc, "0048 03", "none")
+    check::<ExpandedNodeId>(&rt, "80 48 FFFFFFFF", "0048")?;
+    check::<ExpandedNodeId>(&rt, "40 48 00000000", "0048")?;
+    check::<ExpandedNodeId>(&rt, "41 01 4800 05000000", "same")?;
+    check::<ExpandedNodeId>(&rt, "81 01 4800 01000000 75", "same")?;
+    check::<LocalizedText>(&rt, "01 FFFFFFFF", "00")?;
+    check::<LocalizedText>(&rt, "03 02000000 656E 02000000 6869", "same")?;
+    check::<LocalizedText>(&rt, "04", "none")?;
+    check::<QualifiedName>(&rt, "0200 01000000 78", "same")?;
+    check::<ExtensionObject>(&rt, "01004101 01 01000000 AB", "same")?;
+    check::<ExtensionObject>(&rt, "0048 00", "same")?;
+    check::<ExtensionObject>(&rt, "0048 02 FFFFFFFF", "same")?;
+    check::<ExtensionObject>(&rt, "0048 03", "none")
 }
 
 /// Asserts that a clone equals its source.
@@ -139,13 +137,12 @@ fn hands_over_texts_and_octets(rt: HostRuntime) -> Result<(), Fail> {
     let alloc = rt.alloc();
     for words in ["01000000 41", "1F000000 31*41"] {
         let text = value::<UaString>(alloc, words)?.into_string(alloc)?;
-        writes(&rt, alloc, &UaString::new(text), words)?;
+        writes(&rt, &UaString::new(text), words)?;
         let octets = value::<UaBytes>(alloc, words)?.into_octets();
-        writes(&rt, alloc, &UaBytes::new(octets), words)?;
+        writes(&rt, &UaBytes::new(octets), words)?;
     }
     writes(
         &rt,
-        alloc,
         &UaString::from_str(alloc, "Hot水")?,
         "06000000 486F74E6B0B4",
     )
