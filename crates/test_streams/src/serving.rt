@@ -1,369 +1,235 @@
-//! A server: its nodes, its services, and its steps over bytes.
+//! A server on one connection: over fragments, and over a transport.
 
-ghost use Rattle.std.specs.Prelude.{IfSome};
-ghost use Rattle.ua_nodes.specs.Sound.{AreNodesSound};
-
-use crate::calling::tell_code;
-use crate::given::Given;
-use crate::lines::Course;
-use crate::requests::{request_in, tell_response};
-use crate::sharing::node_named;
-use crate::sweeps::{changed, fronts};
-use crate::taking::{Goes, Takes, take_pieces};
-use crate::told::Told;
-use crate::words::{first_number, front, limits_of, moment_of, moments_of, number_of, text_of};
-use example_callers::{Pulse, serve_connection, serve_pulse};
+use crate::services::{PUMP, reply, services_over};
+use crate::transports::line_of;
+use crate::vectors::{MOMENT, Vectors, limits, row_of};
+use example_callers::{Pulse, serve_pulse};
 use std::alloc::Global;
-use ua_builtin::{DateTime, Octets, Wire};
-use ua_channel::{ListMoments, Moments};
-use ua_frame::Limits;
-use ua_nodes::{LoadFault, NodeTable};
-use ua_server::{
-    End, Endpoint, ServeFault, ServeTerms, Server, Services, Step, StepFault, Unwatched, serve,
-};
+use std::mem;
+use std::test::Fail;
+use ua_builtin::NodeId;
+use ua_channel::{ListMoments, MemoryLine};
+use ua_server::{End, ServeFault, ServeTerms, Server, Services, Unwatched, serve};
 
-/// What rows have said of a server, and what was begun with it.
-#[derive(Drop)]
-pub struct Serving {
-    /// The text of a node file.
-    pub nodes: String,
-    /// The limits and the channel.
-    pub limits: Option<Limits>,
-    pub channel: u32,
-    services: Option<Services>,
-    server: Option<Server>,
+/// The paces of a transport and what comes over it: how the connection ends, what is written, and then the answer
+/// to the Read.
+const SERVED: &str = "\
+all all / $UP = Ok(Closed) / $DOWN / $UNKNOWN
+1 1 / $UP = Ok(Closed) / $DOWN / $UNKNOWN
+100 7 / $UP = Ok(Closed) / $DOWN / $UNKNOWN
+all all / $UP[..690] = Ok(Cut) / $DOWN[..731] / $SIX_1
+all all / $UP[..700] = Ok(NoClose) / $DOWN / $UNKNOWN
+all all / 0*00 = Ok(NoClose) / / $UNKNOWN
+100!3 all / $UP = Err(Read) / $DOWN[..163] / $UNKNOWN
+all all!5 / $UP = Err(Write(585)) / $DOWN[..585] / $SIX_1
+all 100!6 / $UP = Err(Write(363)) / $DOWN[..363] / $INACTIVE
+all all / $HEL_20 $OPN $CREATE $CLOSE_3 = Ok(NoClose) / 'ACKF 1C000000 00000000 FFFF0000 FFFF0000 00001000 00010000 \
+$OPENED 'MSGA 20000000 01000000 01000000 02000000 02000000 0000B980 FFFFFFFF 'MSGA 20000000 01000000 01000000 \
+03000000 06000000 0000B980 FFFFFFFF / $INACTIVE
+all all / $BEGIN $WRITE $RENEWAL $READ_RENEWED = Ok(NoClose) / $DOWN[..649] $RENEWED $SIX_RENEWED / $SIX_1
+all all / $HEL_8192 $OPN $CREATE $ACTIVATE 'MSGF F3610000 01000000 01000000 04000000 04000000 $READ_ANY E8030000 \
+1000*$ITEM 'MSGF 0C620000 01000000 01000000 05000000 05000000 $READ_ANY E9030000 1001*$ITEM = Ok(NoClose) / \
+$ACK_8192 $OPENED $CREATED $ACTIVATED 'MSGC 00200000 01000000 01000000 04000000 04000000 01007A02 $AT 05000000 $GOOD \
+E8030000 581*$FIVE 0906 'MSGF 04170000 01000000 01000000 05000000 04000000 05000000 $AT 418*$FIVE FFFFFFFF 'MSGF \
+34000000 01000000 01000000 06000000 05000000 $NO_READING / $FIVE_1
+";
+
+/// How a server ends over a transport, to which it answers at 1970-01-01.
+fn serve_line(
+    services: &mut Services,
+    line: &mut MemoryLine,
+    alloc: Global,
+) -> Result<Result<End, ServeFault>, Fail> {
+    let mut ticks = Vec::new(alloc);
+    ticks.push(MOMENT.ticks)?;
+    let mut moments = ListMoments::new(ticks);
+    Ok(serve(alloc, line, services, limits()?, 1, &mut moments))
 }
 
-/// The nodes of a text.
-pub fn load(text: &str, told: &mut Told) -> Option<NodeTable>
-    ensures { IfSome result (λ table. AreNodesSound table) }
-{
-    match NodeTable::load(told.alloc(), text) {
-        Ok(nodes) => Some(nodes),
-        Err(LoadFault::OutOfMemory) => {
-            told.end("load: out of memory");
-            None
-        }
-        Err(LoadFault::Line { .. }) => {
-            told.fail("no nodes");
-            None
-        }
+/// What a server writes over a transport of these paces for these bytes, and how it ends.
+fn served(
+    alloc: Global,
+    paces: &str,
+    octets: &[u8],
+) -> Result<(MemoryLine, Result<End, ServeFault>), Fail> {
+    let mut services = services_over(alloc, PUMP)?;
+    let mut copy = Vec::new(alloc);
+    copy.extend_from_slice(octets)?;
+    let mut line = line_of(alloc, paces, copy)?;
+    let end = serve_line(&mut services, &mut line, alloc)?;
+    Ok((line, end))
+}
+
+#[test]
+fn serves_transports(rt: HostRuntime) -> Result<(), Fail> {
+    let (alloc, vectors) = (rt.alloc(), Vectors::new(rt.alloc())?);
+    for row in SERVED.lines() {
+        let (question, answer) = row_of(row).ok_or("no row")?;
+        let (paces, up) = question.split_once(" / ").ok_or("no paces")?;
+        let (end, answer) = answer.split_once(" / ").ok_or("no end")?;
+        let (down, after) = answer.split_once("/ ").ok_or("no answer")?;
+        let mut services = services_over(alloc, PUMP)?;
+        let mut line = line_of(alloc, paces, vectors.octets(up)?)?;
+        let found = serve_line(&mut services, &mut line, alloc)?;
+        assert_eq!(rt; format!(in alloc; "{found:?}")?.as_str(), end, "{row}");
+        assert_eq!(rt; line.written(), vectors.octets(down)?.as_slice(), "{row}");
+        assert_eq!(rt;
+            reply(&mut services, &vectors, "$READING")?,
+            vectors.octets(after)?,
+            "{row}"
+        );
+    }
+    Ok(())
+}
+
+#[test]
+fn ends_cleanly_behind_eight_fronts(rt: HostRuntime) -> Result<(), Fail> {
+    let vectors = Vectors::new(rt.alloc())?;
+    let (up, down) = (vectors.octets("$UP")?, vectors.octets("$DOWN")?);
+    for len in 0..757 {
+        let (line, end) = served(
+            rt.alloc(),
+            "all all",
+            up.as_slice().get(..len).unwrap_or(&[]),
+        )?;
+        let is_clean = matches!(len, 0 | 56 | 188 | 347 | 452 | 540 | 640 | 700);
+        assert_eq!(rt;
+            end,
+            Ok(if is_clean { End::NoClose } else { End::Cut }),
+            "{len}"
+        );
+        assert!(rt; down.as_slice().starts_with(line.written()), "{len}");
+    }
+    Ok(())
+}
+
+/// Puts a byte into a place, and answers what stood there.
+fn set(octets: &mut Vec<u8>, place: usize, octet: u8) -> u8 {
+    match octets.get_mut(place) {
+        Some(found) => mem::replace(found, octet),
+        None => 0,
     }
 }
 
-/// The services of the program `ua` over the nodes of a text.
-pub fn services_over(text: &str, told: &mut Told) -> Option<Services> {
-    let nodes = load(text, told)?;
-    let url = text_of("opc.tcp://localhost:4840", told)?;
-    let application_uri = text_of("urn:ua:server", told)?;
-    let name = text_of("ua", told)?;
-    if !url.is_encodable() || !application_uri.is_encodable() || !name.is_encodable() {
-        return None;
+#[test]
+fn answers_spoiled_streams_in_all_fragments(rt: HostRuntime) -> Result<(), Fail> {
+    let vectors = Vectors::new(rt.alloc())?;
+    let mut up = vectors.octets("$UP")?;
+    for octet in [0, 0x7F, 0xFF] {
+        for place in 0..757 {
+            let kept = set(&mut up, place, octet);
+            let (line, end) = served(rt.alloc(), "all all", up.as_slice())?;
+            let (slow, again) = served(rt.alloc(), "1 1", up.as_slice())?;
+            assert!(rt; end.is_ok() && end == again, "{octet} at {place}");
+            assert_eq!(rt; line.written(), slow.written(), "{octet} at {place}");
+            set(&mut up, place, kept);
+        }
     }
-    let endpoint = Endpoint {
-        url,
-        application_uri,
-        name,
-        message_limit: 1_048_576,
+    Ok(())
+}
+
+/// Chunks of a message under a RequestId, from a SequenceNumber on, each with a body of so many zeros.
+fn push_chunks(
+    vectors: &Vectors,
+    first: u32,
+    count: u32,
+    id: u32,
+    len: u32,
+    out: &mut Vec<u8>,
+) -> Result<(), Fail> {
+    for number in first..first.saturating_add(count) {
+        out.extend_from_slice(b"MSGC")?;
+        out.extend_from_slice(&len.saturating_add(24).to_le_bytes())?;
+        out.extend_from_slice(vectors.octets("01000000 01000000")?.as_slice())?;
+        out.extend_from_slice(&number.to_le_bytes())?;
+        out.extend_from_slice(&id.to_le_bytes())?;
+        out.resize(out.len().saturating_add(len as usize), 0)?;
+    }
+    Ok(())
+}
+
+/// A server that took these bytes.
+fn server_after(services: &mut Services, vectors: &Vectors, octets: &[u8]) -> Result<Server, Fail> {
+    let mut server = Server::new(vectors.alloc(), limits()?, 1);
+    let mut rest = octets;
+    for _ in 0..octets.len() {
+        let step = server.step(services, rest, MOMENT)?;
+        rest = rest.get(step.taken..).unwrap_or(&[]);
+        if rest.is_empty() {
+            break;
+        }
+    }
+    Ok(server)
+}
+
+#[test]
+fn holds_as_much_as_its_bound(rt: HostRuntime) -> Result<(), Fail> {
+    let vectors = Vectors::new(rt.alloc())?;
+    let mut services = services_over(rt.alloc(), PUMP)?;
+    let mut octets = vectors.octets("$HEL_FREE $OPN")?;
+    for id in 0..4u32 {
+        push_chunks(&vectors, 2 + id * 17, 16, 2 + id, 65511, &mut octets)?;
+        push_chunks(&vectors, 18 + id * 17, 1, 2 + id, 400, &mut octets)?;
+    }
+    octets.extend_from_slice(b"MSGF\xFF\xFF\0\0")?;
+    octets.resize(octets.len().saturating_add(65526), 0)?;
+    let server = server_after(&mut services, &vectors, octets.as_slice())?;
+    assert_eq!(rt; (server.held(), server.bound()), (4_259_838, 4_259_839));
+    Ok(())
+}
+
+#[test]
+fn takes_256_chunks(rt: HostRuntime) -> Result<(), Fail> {
+    let vectors = Vectors::new(rt.alloc())?;
+    for (flag, is_refused) in [(b'C', true), (b'F', true), (b'A', false)] {
+        let mut services = services_over(rt.alloc(), PUMP)?;
+        let mut octets = vectors.octets("$HEL_FREE $OPN")?;
+        push_chunks(&vectors, 2, 256, 2, 0, &mut octets)?;
+        let mut server = server_after(&mut services, &vectors, octets.as_slice())?;
+        let mut last = vectors.octets(
+            "'MSGA 20000000 01000000 01000000 02010000 02000000 00000000 00000000",
+        )?;
+        if let Some(found) = last.get_mut(3) {
+            *found = flag;
+        }
+        let step = server.step(&mut services, last.as_slice(), MOMENT)?;
+        assert_eq!(rt; step.end.is_some(), is_refused, "{flag}");
+    }
+    Ok(())
+}
+
+#[test]
+fn an_application_acts_before_each_answer(rt: HostRuntime) -> Result<(), Fail> {
+    let (alloc, vectors) = (rt.alloc(), Vectors::new(rt.alloc())?);
+    let mut services = services_over(alloc, "ns=1;s=Pump\trw\tPump\tBoolean\tfalse\n")?;
+    let id = NodeId::parse_text(alloc, "ns=1;s=Pump")?;
+    let mut pulse = Pulse {
+        id,
+        is_on: true,
+        moment: MOMENT,
     };
-    Some(Services::new(nodes, endpoint))
-}
-
-impl Serving {
-    pub fn new(alloc: Global) -> Serving {
-        Serving {
-            nodes: String::new(alloc),
-            limits: None,
-            channel: 0,
-            services: None,
-            server: None,
-        }
-    }
-
-    /// The answer to a row about a server.
-    pub fn answer(&mut self, given: &Given, kind: &str, words: &str, told: &mut Told) {
-        match kind {
-            "node" => self.add_node(words, told),
-            "services" => {
-                self.services = services_over(self.nodes.as_str(), told);
-                told.word("ready");
-            }
-            "connect" => self.begin(told),
-            "host" => self.begin_server(words, told),
-            "answer" => self.reply(given, words, told),
-            "respond" => self.respond(given, words, told),
-            "step" => {
-                let (size, words) = first_number(words, told);
-                let octets = given.octets(words, told);
-                take_pieces(given, self, size as usize, octets.as_slice(), told);
-            }
-            "held" => self.tell_held(told),
-            "serve-octets" => self.serve_octets(given, words, told),
-            "serve-octets-at" => {
-                let (word, words) = front(words);
-                let moments = ListMoments::new(moments_of(word, told));
-                self.serve_octets_at(given, moments, words, told);
-            }
-            _ => self.sweep(given, kind, words, told),
-        }
-    }
-
-    /// Adds a line to the node file.
-    fn add_node(&mut self, line: &str, told: &mut Told) {
-        if self.nodes.push_str(line).is_err() || self.nodes.push('\n').is_err() {
-            told.refused();
-        }
-        told.word("added");
-    }
-
-    /// A connection begins: there is no session.
-    fn begin(&mut self, told: &mut Told) {
-        match &mut self.services {
-            Some(services) => services.begin(),
-            None => told.fail("no row"),
-        }
-        told.word("begun");
-    }
-
-    /// A new server of these limits, on this channel.
-    fn begin_server(&mut self, words: &str, told: &mut Told) {
-        let (limits, words) = limits_of(words, told);
-        self.limits = limits;
-        self.channel = number_of(words, told);
-        self.server = match limits {
-            Some(limits) => Some(Server::new(told.alloc(), limits, self.channel)),
-            None => None,
-        };
-        self.tell_held(told);
-    }
-
-    /// How many bytes the server holds, and how many at most.
-    fn tell_held(&self, told: &mut Told) {
-        match &self.server {
-            Some(server) => {
-                told.word("held");
-                told.shown(&server.held());
-                told.word("bound");
-                told.shown(&server.bound());
-            }
-            None => told.fail("no row"),
-        }
-    }
-
-    /// The body of the reply to a message.
-    fn reply(&mut self, given: &Given, words: &str, told: &mut Told) {
-        let body = given.octets(words, told);
-        let Some(services) = &mut self.services else {
-            told.fail("no row");
-            return;
-        };
-        match services.reply(
-            told.alloc(),
-            &mut Octets::new(body.as_slice()),
-            given.moment,
-        ) {
-            Ok(body) => given.tell(body.as_slice(), told),
-            Err(_) => told.end("reply: out of memory"),
-        }
-    }
-
-    /// The body of the response to a request, which the services are handed as such.
-    fn respond(&mut self, given: &Given, words: &str, told: &mut Told) {
-        let body = given.octets(words, told);
-        let (Some(services), Some(request)) = (
-            &mut self.services,
-            request_in(body.as_slice(), told),
-        ) else {
-            told.fail("no row");
-            return;
-        };
-        match services.answer(told.alloc(), request, given.moment) {
-            Ok(response) => tell_response(given, response, told),
-            Err(_) => told.end("answer: out of memory"),
-        }
-    }
-
-    /// How serving a transport ends, with these times, and the next time.
-    pub fn serve(&mut self, course: &mut Course, word: &str, told: &mut Told) {
-        let mut moments = ListMoments::new(moments_of(word, told));
-        match (&mut self.services, self.limits) {
-            (Some(services), Some(limits)) => {
-                let (alloc, channel) = (told.alloc(), self.channel);
-                let end = serve(
-                    alloc,
-                    &mut course.line,
-                    services,
-                    limits,
-                    channel,
-                    &mut moments,
-                );
-                tell_served(end, course.has_failing_write, told);
-                told.word("next");
-                told.shown(&moments.next());
-            }
-            _ => told.fail("no row"),
-        }
-    }
-
-    /// How serving a transport ends beside a switch, which sets its node at this time before each
-    /// answer, with the times of the answers.
-    pub fn serve_switch(&mut self, course: &mut Course, words: &str, told: &mut Told) {
-        let (name, words) = front(words);
-        let (ticks, word) = front(words);
-        let ticks = moment_of(ticks, told);
-        let mut moments = ListMoments::new(moments_of(word, told));
-        match (node_named(name, told), &mut self.services, self.limits) {
-            (Some(id), Some(services), Some(limits)) => {
-                let mut pulse = Pulse {
-                    id,
-                    is_on: true,
-                    moment: DateTime { ticks },
-                };
-                let terms = ServeTerms {
-                    alloc: told.alloc(),
-                    limits,
-                    channel_id: self.channel,
-                };
-                let end = serve_pulse(
-                    &mut course.line,
-                    services,
-                    terms,
-                    &mut moments,
-                    &mut Unwatched,
-                    &mut pulse,
-                );
-                tell_served(end, course.has_failing_write, told);
-            }
-            _ => told.fail("no row"),
-        }
-    }
-
-    /// How bytes end that are served from the beginning of a connection, each answer at the time
-    /// given.
-    fn serve_octets(&mut self, given: &Given, words: &str, told: &mut Told) {
-        let mut ticks = Vec::new(told.alloc());
-        if ticks.push(given.moment.ticks).is_err() {
-            told.refused();
-        }
-        self.serve_octets_at(given, ListMoments::new(ticks), words, told);
-    }
-
-    /// How bytes end that are served from the beginning of a connection, with these times, and what
-    /// is sent back.
-    fn serve_octets_at(
-        &mut self,
-        given: &Given,
-        moments: ListMoments,
-        words: &str,
-        told: &mut Told,
-    ) {
-        let octets = given.octets(words, told);
-        let (Some(services), Some(limits)) = (&mut self.services, self.limits) else {
-            told.fail("no row");
-            return;
-        };
-        let (alloc, channel) = (told.alloc(), self.channel);
-        let mut moments = moments;
-        let mut out = Vec::new(alloc);
-        match serve_connection(
-            alloc,
-            limits,
-            channel,
-            services,
-            octets.as_slice(),
-            &mut moments,
-            &mut out,
-        ) {
-            Ok(Some(end)) => tell_end(end, told),
-            Ok(None) => told.word("waits"),
-            Err(_) => told.end("serve-octets: out of memory"),
-        }
-        given.tell_frames(out.as_slice(), told);
-    }
-
-    /// What comes of bytes where they end at any place, or where one of them is another one.
-    fn sweep(&mut self, given: &Given, kind: &str, words: &str, told: &mut Told) {
-        match kind {
-            "fronts" => {
-                let octets = given.octets(words, told);
-                fronts(self, octets.as_slice(), told);
-            }
-            "changed" => {
-                let (octet, words) = first_number(words, told);
-                let mut octets = given.octets(words, told);
-                changed(self, octet.to_le_bytes()[0], octets.as_mut_slice(), told);
-            }
-            _ => told.fail("no row"),
-        }
-    }
-}
-
-/// Tells how a connection ended.
-pub fn tell_end(end: End, told: &mut Told) {
-    match end {
-        End::Refused(code) => tell_code("Refused", code, told),
-        end => told.named(&end),
-    }
-}
-
-/// Tells how serving a transport ended. A write that is not told to fail means a failed allocation
-/// where it does.
-pub fn tell_served(end: Result<End, ServeFault>, has_failing_write: bool, told: &mut Told) {
-    match end {
-        Ok(end) => tell_end(end, told),
-        Err(ServeFault::OutOfMemory) => told.end("serve: out of memory"),
-        Err(ServeFault::Write(_)) if !has_failing_write => told.end("line: out of memory"),
-        Err(ServeFault::Write(count)) => {
-            told.word("Write");
-            told.shown(&count);
-        }
-        Err(fault) => told.named(&fault),
-    }
-}
-
-impl Takes for Serving {
-    fn take_one(&mut self, given: &Given, piece: &[u8], told: &mut Told) -> (usize, Goes) {
-        let (Some(server), Some(services)) = (&mut self.server, &mut self.services) else {
-            told.fail("no row");
-            return (piece.len(), Goes::Out);
-        };
-        match server.step(services, piece, given.moment) {
-            Ok(step) => (step.taken, tell_step(given, &step, told)),
-            Err(StepFault::Closed) => {
-                told.event("is closed");
-                (piece.len(), Goes::Out)
-            }
-            Err(StepFault::OutOfMemory) => {
-                let again = server.step(services, piece, given.moment);
-                tell_refusal(&again, server.held(), told);
-                (piece.len(), Goes::Out)
-            }
-        }
-    }
-}
-
-/// Ends the program where a server was rejected memory: it is to take nothing more, and to hold
-/// nothing.
-pub fn tell_refusal(again: &Result<Step, StepFault>, held: usize, told: &mut Told) {
-    match again {
-        Err(StepFault::Closed) if held == 0 => told.end("step: out of memory"),
-        _ => told.end("a server that was refused memory goes on"),
-    }
-}
-
-/// Tells what a server says, and how its connection ends.
-pub fn tell_step(given: &Given, step: &Step, told: &mut Told) -> Goes {
-    if !step.out.is_empty() {
-        told.event("sends");
-        given.tell_frames(step.out.as_slice(), told);
-    }
-    match step.end {
-        Some(end) => {
-            told.event("ends");
-            tell_end(end, told);
-            Goes::Out
-        }
-        None if step.out.is_empty() => Goes::On,
-        None => Goes::Telling,
-    }
+    let terms = ServeTerms {
+        alloc,
+        limits: limits()?,
+        channel_id: 1,
+    };
+    let mut line = line_of(alloc, "all all", vectors.octets("$BEGIN $READ_4")?)?;
+    let mut ticks = Vec::new(alloc);
+    ticks.push(MOMENT.ticks)?;
+    let mut moments = ListMoments::new(ticks);
+    let end = serve_pulse(
+        &mut line,
+        &mut services,
+        terms,
+        &mut moments,
+        &mut Unwatched,
+        &mut pulse,
+    );
+    assert_eq!(rt; end, Ok(End::NoClose));
+    let want = vectors.octets(
+        "$DOWN[..585] 'MSGF 4F000000 01000000 01000000 04000000 04000000 01007A02 $AT 05000000 $GOOD 01000000 0D 0101 \
+        $AT $AT FFFFFFFF",
+    )?;
+    assert_eq!(rt; line.written(), want.as_slice());
+    Ok(())
 }
