@@ -1,5 +1,3 @@
 mod Passed
 mod Pieces
 mod Talks
-mod Serving
-mod Sensing

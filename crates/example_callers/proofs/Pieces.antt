@@ -64,8 +64,3 @@ went-all x y before fs piece at done went =
 pub pushed : {T E A : Type 0} (r : Result T E) (new more old : List A) → false ≡ is_err r → new ≡ (if is_ok r then more else old) → new ≡ more
 pushed (Ok x) new more old well is = is
 pushed (Err e) new more old well is = absurd cc
-
--- and where it was
-pub not_pushed : {T E A : Type 0} (r : Result T E) (new more old : List A) → true ≡ is_err r → new ≡ (if is_ok r then more else old) → new ≡ old
-not_pushed (Ok x) new more old refused is = absurd cc
-not_pushed (Err e) new more old refused is = is

@@ -1,3 +1,2 @@
 pub mod Talk
-pub mod Serve
 pub mod Application

@@ -14,9 +14,8 @@ ghost use Rattle.ua_server.specs.State.{State, begun, with_nodes};
 ghost use Rattle.ua_server.specs.Stepping.{StepTakes};
 ghost use Rattle.ua_server.specs.Storing.{StepStores};
 ghost use Rattle.ua_server.specs.ServingOver.{ServesApplication};
-ghost use Rattle.ua_server.specs.declared.step.StepFault.TheVariants as step_fault;
 ghost use Rattle.example_callers.specs.Application.{BothStep, IfSetFault, IfStepFault};
-ghost use Rattle.example_callers.specs.Application.{RefusesReading, ServesSensor, pulses, step_in};
+ghost use Rattle.example_callers.specs.Application.{pulses, step_in};
 
 use std::alloc::{AllocError, Global};
 use thiserror::Error;
@@ -87,70 +86,6 @@ pub fn set_and_step(
         Ok(step) => Ok(step),
         Err(fault) => Err(SensorFault::Step(fault)),
     }
-}
-
-/// The result for bytes of a client that came beside a sensor.
-#[derive(Clone, Copy, PartialEq, Eq, Debug)]
-pub struct Sensed {
-    /// How many of them were taken.
-    pub taken: usize,
-    /// How the connection ended, if it did.
-    pub end: Option<End>,
-}
-
-/// A server whose values move by themselves: it sets a reading, takes bytes of a client, sets the
-/// next reading and so on, until there are no more readings or the connection ended. The bytes to
-/// be sent are added to `out`. A reading that is refused ends it: what came before it remains, and
-/// the connection may go on.
-pub fn serve_sensor(
-    connection: &mut Connection,
-    services: &mut Services,
-    sensor: &NodeId,
-    readings: Vec<Reading>,
-    octets: &[u8],
-    moment: DateTime,
-    out: &mut Vec<u8>,
-) -> Result<Sensed, SensorFault>
-    ensures served { (before : List ℕ) (hs : List ConnectionEvent) (first : State)
-        → StandsOver (channel_at connection.old) before hs first (with_own_session connection.old services.old)
-        → IfOk result (λ sensed. ServesSensor sensor.now moment readings.items (channel_at connection.old) before hs
-        first octets.now out.old.items sensed (channel_at connection.new) out.new.items
-        (with_own_session connection.new services.new)) }
-    ensures refused { (before : List ℕ) (hs : List ConnectionEvent) (first : State)
-        → StandsOver (channel_at connection.old) before hs first (with_own_session connection.old services.old)
-        → IfErr result
-        (IfSetFault (RefusesReading sensor.now moment readings.items (channel_of (channel_at connection.old))
-        (channel_at connection.new) before hs first octets.now out.old.items out.new.items
-        (with_own_session connection.new services.new))) }
-    ensures failed { (before : List ℕ) (hs : List ConnectionEvent) (first : State)
-        → StandsOver (channel_at connection.old) before hs first (with_own_session connection.old services.old)
-        → IfErr result (IfStepFault (λ fault. fault ≡ step_fault.OutOfMemory)) }
-{
-    let mut taken = 0;
-    for reading in readings {
-        let step = match set_and_step(
-            connection,
-            services,
-            sensor,
-            reading,
-            &octets[taken..],
-            moment,
-        ) {
-            Ok(step) => step,
-            Err(fault) => return Err(fault),
-        };
-        if out.extend_from_slice(&step.out).is_err() {
-            return Err(SensorFault::Step(StepFault::OutOfMemory));
-        }
-        taken += step.taken;
-        if step.end.is_some() {
-            return Ok(Sensed {
-                taken,
-                end: step.end,
-            });
-        }
-    }
-    Ok(Sensed { taken, end: None })
 }
 
 /// Why bytes of a client were not taken, or not all that they stored was passed on.
