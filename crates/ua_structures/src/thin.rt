@@ -15,17 +15,7 @@ use crate::attribute::{WriteRequest, WriteValue};
 use std::alloc::Global;
 use ua_builtin::{FIRST_NEGATIVE, NodeId, ReadFault, Skip, Source, UaString, Wire};
 use ua_opening::UaArray;
-use ua_variant::{DataValue, HeldVariant, Variant};
-
-/// The flag of a value in the mask of a DataValue, and the mask of a value alone (OPC 10000-6,
-/// 5.2.2.17).
-const VALUE: u8 = 0x01;
-
-/// The flag of an array in the first byte of a Variant (OPC 10000-6, 5.2.2.16).
-const ARRAY: u8 = 0x80;
-
-/// The bits of the type id in the first byte of an array (OPC 10000-6, 5.2.2.16).
-const TYPE_ID: u8 = 0x3F;
+use ua_variant::{DataValue, HeldVariant, Variant, masks};
 
 /// The fewest bytes of an item of a Write: two of a NodeId, four of the number of an attribute, four
 /// of a null range, and the mask of a DataValue (OPC 10000-6, 5.2.2.9, 5.2.2.4 and 5.2.2.17).
@@ -63,9 +53,9 @@ fn announced_type(tag: u8) -> Option<ValueType>
     if tag == 0 {
         return None;
     }
-    if tag >= ARRAY {
+    if tag >= masks::ARRAY {
         return Some(ValueType {
-            kind: tag & TYPE_ID,
+            kind: tag & masks::TYPE_ID,
             array: true,
         });
     }
@@ -86,7 +76,7 @@ fn is_kept<S: Source, T: TakesTypes>(src: &S, types: &T, id: &NodeId) -> bool
         return true;
     }
     let [mask, tag] = octets;
-    if mask & VALUE == 0 {
+    if mask & masks::VALUE == 0 {
         return true;
     }
     match announced_type(tag) {
@@ -132,7 +122,7 @@ fn take_value_alone<S: Source>(alloc: Global, src: &mut S) -> bool
     ensures behind { StaysBehind (S.octets src.old) (S.octets src.new) }
 {
     let mut ahead = src.fork();
-    let Ok(VALUE) = u8::read_value(alloc, &mut ahead, 0) else {
+    let Ok(masks::VALUE) = u8::read_value(alloc, &mut ahead, 0) else {
         return false;
     };
     *src = ahead;

@@ -30,7 +30,7 @@ mod fixed_width;
 pub mod laws;
 mod leaf;
 mod least;
-mod masks;
+pub mod masks;
 mod measure;
 mod onto;
 mod packed;
