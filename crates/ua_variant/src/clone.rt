@@ -2,12 +2,10 @@
 
 ghost use Rattle.std.specs.Prelude.{◌≡◌, ◌≤◌, ◌-◌, ◌++◌, ◌∷◌, [], drop, take};
 ghost use Rattle.std.specs.Prelude.{length, map, option_map, slice_get, IfOk, OnOk};
-ghost use Rattle.ua_variant.specs.Data.{bare, data_value, leaf, many, one, valued, variant};
-ghost use Rattle.ua_variant.specs.Packed.{packed_leaves};
+ghost use Rattle.ua_variant.specs.Data.{bare, data_value, many, one, valued, variant};
 ghost use Rattle.ua_variant.specs.View.{data_fields_of, data_value_of, row, scalar_of, value_within, variant_of};
 
 use crate::boxed::Boxed;
-use crate::packed::Packed;
 use crate::values::{
     BoxedDataValue, BoxedVariant, DataValue, Elements, HeldVariant, Scalar, Scalars, Variant,
 };
@@ -129,28 +127,11 @@ fn copy_to_heap(alloc: Global, value: &Variant) -> Result<BoxedVariant, AllocErr
             kind,
             items: Some(items),
             dims,
-        } => copy_array(alloc, *kind, items, dims),
-        other => box_copy(alloc, other),
-    }
-}
-
-/// A copy of an array, on the heap.
-#[cycle(copies)]
-#[inline(always)]
-fn copy_array(
-    alloc: Global,
-    kind: u8,
-    items: &Scalars,
-    dims: &Dimensions,
-) -> Result<BoxedVariant, AllocError>
-    ensures { IfOk result (λ v. v ≡ many kind (row items.now) dims.now) }
-{
-    match items.elements() {
-        Elements::Packed(packed) => box_packed(alloc, kind, packed, dims),
-        Elements::Mixed(scalars) => {
-            let copies = copy_scalars(alloc, scalars)?;
-            box_array(alloc, kind, copies, dims)
+        } => {
+            let copies = copy_row(alloc, items)?;
+            box_array(alloc, *kind, copies, dims)
         }
+        other => box_copy(alloc, other),
     }
 }
 
@@ -177,35 +158,15 @@ fn box_one(alloc: Global, value: BoxedDataValue) -> Result<BoxedVariant, AllocEr
 fn box_array(
     alloc: Global,
     kind: u8,
-    items: Vec<Scalar>,
+    items: Scalars,
     dims: &Dimensions,
 ) -> Result<BoxedVariant, AllocError>
-    ensures { IfOk result (λ v. v ≡ many kind (row (map scalar_of items.items)) dims.now) }
+    ensures { IfOk result (λ v. v ≡ many kind (row items) dims.now) }
 {
     let dims = dims.try_clone(alloc)?;
     let value = Variant::Many {
         kind,
-        items: Some(Scalars::new(items)),
-        dims,
-    };
-    BoxedVariant::new(alloc, value)
-}
-
-/// The array of a copy of these elements with a copy of the dimensions, on the heap.
-#[inline(never)]
-fn box_packed(
-    alloc: Global,
-    kind: u8,
-    items: &Packed,
-    dims: &Dimensions,
-) -> Result<BoxedVariant, AllocError>
-    ensures { IfOk result (λ v. v ≡ many kind (row (map leaf (packed_leaves items.now))) dims.now) }
-{
-    let items = items.try_clone(alloc)?;
-    let dims = dims.try_clone(alloc)?;
-    let value = Variant::Many {
-        kind,
-        items: Some(Scalars::packed(items)),
+        items: Some(items),
         dims,
     };
     BoxedVariant::new(alloc, value)
@@ -332,6 +293,7 @@ fn with_value(value: Option<HeldVariant>, beside: &DataValue) -> DataValue
 }
 
 #[cycle(copies)]
+#[inline(always)]
 fn copy_row(alloc: Global, items: &Scalars) -> Result<Scalars, AllocError>
     ensures { IfOk result (λ r. r ≡ items.now) }
 {

@@ -125,7 +125,9 @@ impl Packed {
         }
     }
 
-    /// Returns an owned copy, equal to this array.
+    /// Returns an owned copy, equal to this array. Not inlined, so that its room is not taken on the
+    /// stack at each level of nesting.
+    #[inline(never)]
     pub fn try_clone(&self, alloc: Global) -> Result<Packed, AllocError>
         ensures { IfOk result (λ copy. packed_leaves copy ≡ packed_leaves self.now) }
     {

@@ -13,11 +13,6 @@ pub copy_scalars-push_copy-requires : goal.copy_scalars-push_copy-requires
 copy_scalars-push_copy-requires t c =
     (omega (arith, count_below c.args.items.now c.loop-s.s-index c.s-item.result (map scalar_of c.args.items.now) refl (omega arith) c.s-item.is), tt)
 
-pub copy_array-copy_scalars-requires : goal.copy_array-copy_scalars-requires
-copy_array-copy_scalars-requires t c =
-    let all = ap elements_of (sym c.in-Mixed.is) ∙ c.elements.ensures in
-    (omega (arith, ap (λ xs. scalars_count (row xs)) all, ap (λ xs. scalars_count (row (map scalar_of xs))) c.deref.ensures.value), tt)
-
 pub copy_scalars-loop-s-preserved : goal.copy_scalars-loop-s-preserved
 copy_scalars-loop-s-preserved t c =
     c.in_ok-push_copy.ensures

@@ -24,9 +24,6 @@ decreases-copy_boxed l = 12 * variant_count l.value.now + 3
 abbrev pub decreases-copy_to_heap : goal.decreases-copy_to_heap
 decreases-copy_to_heap l = 12 * variant_count (variant_of l.value.now) + 2
 
-abbrev pub decreases-copy_array : goal.decreases-copy_array
-decreases-copy_array l = 12 * scalars_count (row l.items.now) + 8
-
 abbrev pub decreases-box_copy : goal.decreases-box_copy
 decreases-box_copy l = 12 * variant_count (variant_of l.value.now) + 1
 
