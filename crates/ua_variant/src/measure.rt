@@ -1,6 +1,6 @@
 //! The nesting depth of values, and the number of values in them.
 
-ghost use Rattle.std.specs.Prelude.{◌≡◌, ◌≤◌, min};
+ghost use Rattle.std.specs.Prelude.{◌≡◌, ◌+◌, min};
 ghost use Rattle.ua_variant.specs.Measure.{variant_depth, scalar_depth, scalars_depth, data_value_depth, variant_count};
 ghost use Rattle.ua_variant.specs.Measure.{scalar_count, scalars_count, data_value_count, data_fields_count};
 ghost use Rattle.ua_variant.specs.View.{row, variant_of, scalar_of, data_value_of, data_fields_of};
@@ -13,14 +13,14 @@ impl Variant {
     pub fn depth(&self) -> u32
         ensures { result ≡ min (variant_depth (variant_of self.now)) u32.MAX }
     {
-        variant_levels(self)
+        measure_variant(self).0
     }
 
     /// The number of values in it, saturated at `u64::MAX`.
     pub fn count(&self) -> u64
         ensures { result ≡ min (variant_count (variant_of self.now)) u64.MAX }
     {
-        count_variant(self)
+        measure_variant(self).1
     }
 }
 
@@ -29,140 +29,100 @@ impl DataValue {
     pub fn depth(&self) -> u32
         ensures { result ≡ min (data_value_depth (data_value_of self.now)) u32.MAX }
     {
-        data_value_levels(self)
+        measure_data_value(self).0
     }
 
     /// The number of values in it, saturated at `u64::MAX`.
     pub fn count(&self) -> u64
         ensures { result ≡ min (data_value_count (data_value_of self.now)) u64.MAX }
     {
-        count_data_value(self)
+        measure_data_value(self).1
     }
 }
 
-#[cycle(levels)]
-fn variant_levels(value: &Variant) -> u32
-    ensures { result ≡ min (variant_depth (variant_of value.now)) u32.MAX }
+// The nesting depth of a value and the number of values in it are found in one walk.
+
+#[cycle(measures)]
+fn measure_variant(value: &Variant) -> (u32, u64)
+    ensures depth { result.0 ≡ min (variant_depth (variant_of value.now)) u32.MAX }
+    ensures count { result.1 ≡ min (variant_count (variant_of value.now)) u64.MAX }
 {
     match value {
-        Variant::Null => 1,
-        Variant::One(s) => scalar_levels(s).saturating_add(1),
-        Variant::Many { items: None, .. } => 1,
-        Variant::Many {
-            items: Some(items),
-            ..
-        } => row_levels(items).saturating_add(1),
-    }
-}
-
-#[cycle(levels)]
-fn scalar_levels(value: &Scalar) -> u32
-    ensures { result ≡ min (scalar_depth (scalar_of value.now)) u32.MAX }
-{
-    match value {
-        Scalar::DataValue(d) => match d.get() {
-            None => 1,
-            Some(d) => data_value_levels(d),
-        },
-        Scalar::Variant(v) => match v.get() {
-            None => 1,
-            Some(v) => variant_levels(v),
-        },
-        Scalar::DiagnosticInfo(d) => d.depth(),
-        _ => 0,
-    }
-}
-
-#[cycle(levels)]
-fn row_levels(items: &Scalars) -> u32
-    ensures { result ≡ min (scalars_depth (row items.now)) u32.MAX }
-{
-    let scalars = match items.elements() {
-        Elements::Packed(_) => return 0,
-        Elements::Mixed(scalars) => scalars,
-    };
-    let mut deepest = 0;
-    for s in scalars {
-        deepest = deepest.max(scalar_levels(s));
-    }
-    deepest
-}
-
-#[cycle(levels)]
-fn data_value_levels(value: &DataValue) -> u32
-    ensures { result ≡ min (data_value_depth (data_value_of value.now)) u32.MAX }
-{
-    match &value.value {
-        None => 1,
-        Some(v) => variant_levels(v.get()).saturating_add(1),
-    }
-}
-
-#[cycle(counts)]
-fn count_variant(value: &Variant) -> u64
-    ensures { result ≡ min (variant_count (variant_of value.now)) u64.MAX }
-{
-    match value {
-        Variant::Null => 1,
-        Variant::One(s) => count_scalar(s).saturating_add(1),
+        Variant::Null => (1, 1),
+        Variant::One(s) => one_more(measure_scalar(s), 0),
         Variant::Many {
             items: None,
             dims,
             ..
-        } => (dims.as_slice().len() as u64).saturating_add(1),
+        } => one_more((0, 0), dims.as_slice().len() as u64),
         Variant::Many {
             items: Some(items),
             dims,
             ..
-        } => count_row(items)
-            .saturating_add(dims.as_slice().len() as u64)
-            .saturating_add(1),
+        } => one_more(measure_row(items), dims.as_slice().len() as u64),
     }
 }
 
-#[cycle(counts)]
-fn count_scalar(value: &Scalar) -> u64
-    ensures { result ≡ min (scalar_count (scalar_of value.now)) u64.MAX }
+/// What holds a value of this depth and count, and so many more values.
+#[inline]
+fn one_more(within: (u32, u64), beside: u64) -> (u32, u64)
+    ensures depth { result.0 ≡ min (1 + within.0) u32.MAX }
+    ensures count { result.1 ≡ min (1 + (within.1 + beside)) u64.MAX }
+{
+    let (depth, count) = within;
+    (
+        depth.saturating_add(1),
+        count.saturating_add(beside).saturating_add(1),
+    )
+}
+
+#[cycle(measures)]
+fn measure_scalar(value: &Scalar) -> (u32, u64)
+    ensures depth { result.0 ≡ min (scalar_depth (scalar_of value.now)) u32.MAX }
+    ensures count { result.1 ≡ min (scalar_count (scalar_of value.now)) u64.MAX }
 {
     match value {
         Scalar::DataValue(d) => match d.get() {
-            None => 1,
-            Some(d) => count_data_value(d),
+            None => (1, 1),
+            Some(d) => measure_data_value(d),
         },
         Scalar::Variant(v) => match v.get() {
-            None => 1,
-            Some(v) => count_variant(v),
+            None => (1, 1),
+            Some(v) => measure_variant(v),
         },
-        Scalar::DiagnosticInfo(d) => d.count(),
-        _ => 1,
+        Scalar::DiagnosticInfo(d) => (d.depth(), d.count()),
+        _ => (0, 1),
     }
 }
 
-#[cycle(counts)]
-fn count_row(items: &Scalars) -> u64
-    ensures { result ≡ min (scalars_count (row items.now)) u64.MAX }
+#[cycle(measures)]
+fn measure_row(items: &Scalars) -> (u32, u64)
+    ensures depth { result.0 ≡ min (scalars_depth (row items.now)) u32.MAX }
+    ensures count { result.1 ≡ min (scalars_count (row items.now)) u64.MAX }
 {
     let scalars = match items.elements() {
-        Elements::Packed(packed) => return packed.len() as u64,
+        Elements::Packed(packed) => return (0, packed.len() as u64),
         Elements::Mixed(scalars) => scalars,
     };
+    let mut deepest = 0u32;
     let mut all = 0u64;
     for s in scalars {
-        all = all.saturating_add(count_scalar(s));
+        let (depth, count) = measure_scalar(s);
+        deepest = deepest.max(depth);
+        all = all.saturating_add(count);
     }
-    all
+    (deepest, all)
 }
 
-#[cycle(counts)]
-fn count_data_value(value: &DataValue) -> u64
-    ensures { result ≡ min (data_value_count (data_value_of value.now)) u64.MAX }
+#[cycle(measures)]
+fn measure_data_value(value: &DataValue) -> (u32, u64)
+    ensures depth { result.0 ≡ min (data_value_depth (data_value_of value.now)) u32.MAX }
+    ensures count { result.1 ≡ min (data_value_count (data_value_of value.now)) u64.MAX }
 {
     let fields = count_data_fields(value);
     match &value.value {
-        None => fields.saturating_add(1),
-        Some(v) => count_variant(v.get())
-            .saturating_add(fields)
-            .saturating_add(1),
+        None => one_more((0, 0), fields),
+        Some(v) => one_more(measure_variant(v.get()), fields),
     }
 }
 
