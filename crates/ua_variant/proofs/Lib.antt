@@ -11,6 +11,7 @@ pub mod VariantsLawful
 mod Rows
 mod Fits
 mod Judged
+pub mod Heads
 mod Loops
 mod Boxes
 mod BlocksRead

@@ -5,13 +5,12 @@ use Rattle.std.proofs.lemmas.Grind.{common_steps}
 use Rattle.ua_builtin.specs.Exact.{◌>>=◌, image_read}
 use Rattle.ua_variant.specs.Data.{LeafData, ScalarData, leaf, VariantData, one, DataValueData, valued}
 use Rattle.ua_variant.specs.declared.values.DataValue.{DataValue}
-use Rattle.ua_variant.specs.Decoding.{variant_after, variant_step, variant_at, data_value_step, data_value_at, scalar_at, scalars_at}
+use Rattle.ua_variant.specs.Decoding.{variant_after, variant_at, data_value_at, scalar_at, scalars_at}
 use Rattle.ua_variant.specs.Fields.{data_fields}
 use Rattle.ua_variant.specs.Formats.{data_value_format}
 use Rattle.ua_variant.specs.Leaf.{leaf_at, holds_values}
 use Rattle.ua_variant.specs.Onto.{with_last, valued_at, leaf_valued_at}
 use Rattle.ua_variant.specs.Values.{data_value_value}
-use Rattle.ua_variant.proofs.VariantsRead.{variant_none, variant_level, data_value_none, data_value_level}
 
 -- ---- the steps of the readers
 
@@ -38,12 +37,13 @@ value_placed items d = Some (items ++ d.0 ∷ [], d.1)
 
 -- ---- by the value's reader
 
-pub valued_none : (items : List DataValue) (m n : ℕ) (octets : List ℕ) → n ≡ 0 → image_read (with_last items) (valued_at m (variant_at n)) octets ≡ None
-valued_none items m n octets e = ap (λ (o : Option (VariantData × List ℕ)). (o >>= behind_value m) >>= placed items) (variant_none n octets e)
+pub valued_none : (items : List DataValue) (m n : ℕ) (octets : List ℕ) → variant_at n octets ≡ None
+    → image_read (with_last items) (valued_at m (variant_at n)) octets ≡ None
+valued_none items m n octets e = ap (λ (o : Option (VariantData × List ℕ)). (o >>= behind_value m) >>= placed items) e
 
-pub valued_level : (items : List DataValue) (m n : ℕ) (octets : List ℕ) → 0 < n → image_read (with_last items) (valued_at m (variant_at n)) octets
-    ≡ image_read (with_last items) (valued_at m (variant_step (scalars_at (n - 1)))) octets
-valued_level items m n octets h = ap (λ (o : Option (VariantData × List ℕ)). (o >>= behind_value m) >>= placed items) (variant_level n octets h)
+pub valued_behind : (items : List DataValue) (m n inner t : ℕ) (old new : List ℕ) → variant_at n old ≡ variant_after (scalars_at inner) t new
+    → image_read (with_last items) (valued_at m (variant_at n)) old ≡ image_read (with_last items) (valued_at m (variant_after (scalars_at inner) t)) new
+valued_behind items m n inner t old new e = ap (λ (o : Option (VariantData × List ℕ)). (o >>= behind_value m) >>= placed items) e
 
 -- ---- a Boolean, a whole number, a Float or a Double
 
@@ -75,9 +75,6 @@ by_data : (items : List DataValue) (n : ℕ) (octets : List ℕ) → image_read 
 unfolding data_value_format
 by_data items n octets = in_turn items (data_value_at n octets)
 
-pub onto_none : (items : List DataValue) (n : ℕ) (octets : List ℕ) → n ≡ 0 → image_read (λ d. items ++ d ∷ []) (data_value_format.decode n) octets ≡ None
-onto_none items n octets e = by_data items n octets ∙ ap (λ (o : Option (DataValueData × List ℕ)). o >>= placed items) (data_value_none n octets e)
-
-pub onto_level : (items : List DataValue) (n : ℕ) (octets : List ℕ) → 0 < n → image_read (λ d. items ++ d ∷ []) (data_value_format.decode n) octets
-    ≡ image_read (with_last items) (data_value_step (variant_at (n - 1))) octets
-onto_level items n octets h = by_data items n octets ∙ ap (λ (o : Option (DataValueData × List ℕ)). o >>= placed items) (data_value_level n octets h)
+pub onto_behind : (items : List DataValue) (n : ℕ) (old : List ℕ) (found : Option (DataValueData × List ℕ)) → data_value_at n old ≡ found
+    → image_read (λ d. items ++ d ∷ []) (data_value_format.decode n) old ≡ (found >>= placed items)
+onto_behind items n old found e = by_data items n old ∙ ap (λ (o : Option (DataValueData × List ℕ)). o >>= placed items) e

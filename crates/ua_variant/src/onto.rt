@@ -5,23 +5,20 @@ ghost use Rattle.std.specs.Prelude.{◌≡◌, ◌≤◌, ◌<◌, ◌++◌, ◌
 ghost use Rattle.std.specs.Vec.{vec_len, vec_capacity};
 ghost use Rattle.ua_builtin.specs.Exact.{image_read};
 ghost use Rattle.ua_builtin.specs.Format.{most_levels, GivesBy, StaysBehind};
-ghost use Rattle.ua_variant.specs.Decoding.{variant_at, variant_step, variant_after};
-ghost use Rattle.ua_variant.specs.Decoding.{data_value_at, data_value_step, scalars_at};
+ghost use Rattle.ua_variant.specs.Decoding.{variant_at, variant_after, scalars_at};
 ghost use Rattle.ua_variant.specs.Formats.{data_value_format};
 ghost use Rattle.ua_variant.specs.Onto.{with_last, announced_at, valued_at, leaf_valued_at};
 
 use crate::fields::read_data_fields;
 use crate::leaf::{HeldLeaf, read_leaf_as};
-use crate::masks;
-use crate::read::{give_up, read_tagged};
+use crate::read::{give_up, read_mask, read_tag, read_tagged};
 use crate::values::{DataValue, HeldVariant, Variant};
 use std::alloc::Global;
-use ua_builtin::{DoubleBits, FloatBits, ReadFault, Source, Wire};
+use ua_builtin::{DoubleBits, FloatBits, ReadFault, Source};
 
 impl DataValue {
     /// Decodes the DataValue at the start of the source, of at most nesting depth `depth`, and
     /// pushes it to the vector. After an error, discard the source.
-    #[tactic(auto, unfolding(crate::specs::Formats::data_value_format))]
     pub fn read_onto<S: Source>(
         alloc: Global,
         src: &mut S,
@@ -35,36 +32,10 @@ impl DataValue {
         ensures kept { OnErr result (items.new.items ≡ items.old.items) }
         ensures behind { StaysBehind (S.octets src.old) (S.octets src.new) }
     {
-        if depth == 0 {
-            return Err(ReadFault::NoValue);
-        }
+        let (inner, mask, set) = read_mask(alloc, src, depth)?;
         items.reserve(1)?;
-        push_level(alloc, src, depth - 1, items)
+        push_announced(alloc, src, inner, mask, set, items)
     }
-}
-
-/// Reads a DataValue, whose inner values may have that nesting depth.
-#[inline(always)]
-#[tactic(auto, unfolding(crate::specs::Decoding::data_value_step))]
-fn push_level<S: Source>(
-    alloc: Global,
-    src: &mut S,
-    depth: u32,
-    items: &mut Vec<DataValue>,
-) -> Result<(), ReadFault>
-    requires levels { depth ≤ most_levels }
-    requires room { vec_len items.old < vec_capacity items.old }
-    ensures exact { GivesBy (λ _. items.new.items)
-        (image_read (with_last items.old.items) (data_value_step (variant_at depth))) (S.octets src.old)
-        (S.octets src.new) result }
-    ensures kept { OnErr result (items.new.items ≡ items.old.items) }
-    ensures behind { StaysBehind (S.octets src.old) (S.octets src.new) }
-{
-    let mask = u8::read_value(alloc, src, 0)?;
-    if mask > masks::KNOWN_FLAGS {
-        return Err(ReadFault::NoValue);
-    }
-    push_announced(alloc, src, depth, mask, mask & masks::VALUE != 0, items)
 }
 
 /// Reads a DataValue after its mask, with a value where it is announced.
@@ -109,56 +80,11 @@ fn push_valued<S: Source>(
     ensures kept { OnErr result (items.new.items ≡ items.old.items) }
     ensures behind { StaysBehind (S.octets src.old) (S.octets src.new) }
 {
-    if depth == 0 {
-        return Err(ReadFault::NoValue);
-    }
-    push_stepped(alloc, src, depth - 1, mask, items)
-}
-
-/// Reads a DataValue with a value after its mask, with so many levels left within the value.
-#[inline(always)]
-#[tactic(auto, unfolding(crate::specs::Decoding::variant_step))]
-fn push_stepped<S: Source>(
-    alloc: Global,
-    src: &mut S,
-    depth: u32,
-    mask: u8,
-    items: &mut Vec<DataValue>,
-) -> Result<(), ReadFault>
-    requires levels { depth ≤ most_levels }
-    requires room { vec_len items.old < vec_capacity items.old }
-    ensures exact { GivesBy (λ _. items.new.items)
-        (image_read (with_last items.old.items) (valued_at mask (variant_step (scalars_at depth)))) (S.octets src.old)
-        (S.octets src.new) result }
-    ensures kept { OnErr result (items.new.items ≡ items.old.items) }
-    ensures behind { StaysBehind (S.octets src.old) (S.octets src.new) }
-{
-    let tag = u8::read_value(alloc, src, 0)?;
-    push_tagged(alloc, src, depth, mask, tag, items)
-}
-
-/// Reads a DataValue with a value after the first byte of the value.
-#[inline(always)]
-fn push_tagged<S: Source>(
-    alloc: Global,
-    src: &mut S,
-    depth: u32,
-    mask: u8,
-    tag: u8,
-    items: &mut Vec<DataValue>,
-) -> Result<(), ReadFault>
-    requires levels { depth ≤ most_levels }
-    requires room { vec_len items.old < vec_capacity items.old }
-    ensures exact { GivesBy (λ _. items.new.items)
-        (image_read (with_last items.old.items) (valued_at mask (variant_after (scalars_at depth) tag)))
-        (S.octets src.old) (S.octets src.new) result }
-    ensures kept { OnErr result (items.new.items ≡ items.old.items) }
-    ensures behind { StaysBehind (S.octets src.old) (S.octets src.new) }
-{
+    let (inner, tag) = read_tag(alloc, src, depth)?;
     if 1 <= tag && tag <= 11 {
         return push_number(alloc, src, mask, tag, items);
     }
-    push_other(alloc, src, depth, mask, tag, items)
+    push_other(alloc, src, inner, mask, tag, items)
 }
 
 /// Reads a DataValue of any value after the first byte of the value.

@@ -1,14 +1,15 @@
 //! Decoding of Variants and DataValues.
 
-ghost use Rattle.std.specs.Prelude.{◌≡◌, ◌<◌, ◌≤◌, ◌%◌, true, map, IsErrOf, IsTrue};
+ghost use Rattle.std.specs.Prelude.{◌≡◌, ◌+◌, ◌<◌, ◌≤◌, ◌%◌, true, map, None, Some, IfErr, IfOk, IsErrOf, IsTrue, OnErr};
 ghost use Rattle.ua_builtin.specs.Counted.{first_negative};
 ghost use Rattle.ua_builtin.specs.Format.{most_levels, Gives, GivesBy, StaysBehind};
+ghost use Rattle.ua_builtin.specs.Number.{number_at};
 ghost use Rattle.ua_wire.specs.declared.fault.ReadFault.TheVariants.{NoValue};
 ghost use Rattle.ua_diagnostic.specs.Parts.{optional_read};
 ghost use Rattle.ua_variant.specs.Formats.{IsOverlongArray, IsOverlongRow};
 ghost use Rattle.ua_variant.specs.Encodable.{is_read_kind as read_kind};
-ghost use Rattle.ua_variant.specs.Decoding.{variant_at, variant_step, variant_after, data_value_at};
-ghost use Rattle.ua_variant.specs.Decoding.{data_value_step, scalars_at, scalar_at, variant_array_at, elements_at};
+ghost use Rattle.ua_variant.specs.Decoding.{variant_at, variant_after, data_value_at};
+ghost use Rattle.ua_variant.specs.Decoding.{scalars_at, scalar_at, variant_array_at, elements_at};
 ghost use Rattle.ua_variant.specs.Decoding.{row_at, fields_behind, dims_behind, no_dims_behind};
 ghost use Rattle.ua_variant.specs.Onto.{announced_at};
 ghost use Rattle.ua_variant.specs.View.{row, variant_of, scalar_of, data_value_of};
@@ -28,6 +29,31 @@ use ua_builtin::{ReadFault, Source, Wire};
 use ua_diagnostic::{read_dims, read_no_dims};
 use ua_wire::FIRST_NEGATIVE;
 
+/// Reads the encoding byte of a Variant of at most this nesting depth: how many levels its inner
+/// values may have, and the byte.
+#[inline(always)]
+#[tactic(auto, using(crate::proofs::Heads::variant_behind, crate::proofs::Heads::variant_unread))]
+pub(crate) fn read_tag<S: Source>(
+    alloc: Global,
+    src: &mut S,
+    depth: u32,
+) -> Result<(u32, u8), ReadFault>
+    requires levels { depth ≤ most_levels }
+    ensures level { IfOk result (λ (inner, _). depth ≡ inner + 1) }
+    ensures tag { IfOk result (λ (_, tag). number_at 1 (S.octets src.old) ≡ Some (tag, S.octets src.new)) }
+    ensures ok { IfOk result (λ (inner, tag). variant_at depth (S.octets src.old)
+        ≡ variant_after (scalars_at inner) tag (S.octets src.new)) }
+    ensures err { IfErr result (λ fault. fault ≡ NoValue) }
+    ensures none { OnErr result (variant_at depth (S.octets src.old) ≡ None) }
+    ensures behind { StaysBehind (S.octets src.old) (S.octets src.new) }
+{
+    if depth == 0 {
+        return Err(ReadFault::NoValue);
+    }
+    let tag = u8::read_value(alloc, src, 0)?;
+    Ok((depth - 1, tag))
+}
+
 /// Decodes a Variant of at most this nesting depth.
 #[inline(always)]
 pub fn read_variant<S: Source>(alloc: Global, src: &mut S, depth: u32) -> Result<Variant, ReadFault>
@@ -36,10 +62,8 @@ pub fn read_variant<S: Source>(alloc: Global, src: &mut S, depth: u32) -> Result
     ensures behind { StaysBehind (S.octets src.old) (S.octets src.new) }
     ensures long { IsOverlongArray (S.octets src.old) → IsErrOf result NoValue }
 {
-    if depth == 0 {
-        return Err(ReadFault::NoValue);
-    }
-    read_variant_level(alloc, src, depth - 1)
+    let (inner, tag) = read_tag(alloc, src, depth)?;
+    read_tagged(alloc, src, inner, tag)
 }
 
 /// Whether values of the type id are decoded.
@@ -48,23 +72,6 @@ pub(crate) fn is_read_kind(kind: u8) -> bool
     ensures { result ≡ read_kind kind }
 {
     1 <= kind && kind <= 31
-}
-
-/// Reads a Variant, whose inner values may have that nesting depth.
-#[inline(always)]
-#[tactic(auto, unfolding(crate::specs::Decoding::variant_step))]
-fn read_variant_level<S: Source>(
-    alloc: Global,
-    src: &mut S,
-    depth: u32,
-) -> Result<Variant, ReadFault>
-    requires levels { depth ≤ most_levels }
-    ensures exact { GivesBy variant_of (variant_step (scalars_at depth)) (S.octets src.old) (S.octets src.new) result }
-    ensures behind { StaysBehind (S.octets src.old) (S.octets src.new) }
-    ensures long { IsOverlongArray (S.octets src.old) → IsErrOf result NoValue }
-{
-    let tag = u8::read_value(alloc, src, 0)?;
-    read_tagged(alloc, src, depth, tag)
 }
 
 /// Decodes a Variant after its encoding byte, whose inner values may have this nesting depth.
@@ -281,6 +288,33 @@ fn read_scalar<S: Source>(
 // as the functions that call each other for it, so what has a whole Variant or DataValue in its
 // hands is not inlined into them.
 
+/// Reads the mask of a DataValue of at most this nesting depth: how many levels its value may have,
+/// the mask, and whether it announces a value.
+#[inline(always)]
+#[tactic(auto, using(crate::proofs::Heads::data_value_behind, crate::proofs::Heads::data_value_unread, crate::proofs::Heads::data_value_refused))]
+pub(crate) fn read_mask<S: Source>(
+    alloc: Global,
+    src: &mut S,
+    depth: u32,
+) -> Result<(u32, u8, bool), ReadFault>
+    requires levels { depth ≤ most_levels }
+    ensures level { IfOk result (λ (inner, _, _). depth ≡ inner + 1) }
+    ensures ok { IfOk result (λ (inner, mask, set). data_value_at depth (S.octets src.old)
+        ≡ announced_at mask set (variant_at inner) (S.octets src.new)) }
+    ensures err { IfErr result (λ fault. fault ≡ NoValue) }
+    ensures none { OnErr result (data_value_at depth (S.octets src.old) ≡ None) }
+    ensures behind { StaysBehind (S.octets src.old) (S.octets src.new) }
+{
+    if depth == 0 {
+        return Err(ReadFault::NoValue);
+    }
+    let mask = u8::read_value(alloc, src, 0)?;
+    if mask > masks::KNOWN_FLAGS {
+        return Err(ReadFault::NoValue);
+    }
+    Ok((depth - 1, mask, mask & masks::VALUE != 0))
+}
+
 /// Reads a DataValue of at most this nesting depth to the heap.
 #[cycle(variants)]
 #[inline(never)]
@@ -293,50 +327,11 @@ fn read_boxed_data_value<S: Source>(
     ensures exact { Gives (data_value_at depth) (S.octets src.old) (S.octets src.new) result }
     ensures behind { StaysBehind (S.octets src.old) (S.octets src.new) }
 {
-    if depth == 0 {
-        return Err(ReadFault::NoValue);
-    }
-    read_boxed_data_value_level(alloc, src, depth - 1)
-}
-
-/// Reads a DataValue to the heap, whose inner values may have that nesting depth.
-#[cycle(variants)]
-#[inline(always)]
-#[tactic(auto, unfolding(crate::specs::Decoding::data_value_step))]
-fn read_boxed_data_value_level<S: Source>(
-    alloc: Global,
-    src: &mut S,
-    depth: u32,
-) -> Result<BoxedDataValue, ReadFault>
-    requires levels { depth ≤ most_levels }
-    ensures exact { Gives (data_value_step (variant_at depth)) (S.octets src.old) (S.octets src.new) result }
-    ensures behind { StaysBehind (S.octets src.old) (S.octets src.new) }
-{
-    let mask = u8::read_value(alloc, src, 0)?;
-    if mask > masks::KNOWN_FLAGS {
-        return Err(ReadFault::NoValue);
-    }
-    read_boxed_announced(alloc, src, depth, mask, mask & masks::VALUE != 0)
-}
-
-/// Reads a DataValue to the heap after its mask, with a value where it is announced.
-#[cycle(variants)]
-#[inline(always)]
-fn read_boxed_announced<S: Source>(
-    alloc: Global,
-    src: &mut S,
-    depth: u32,
-    mask: u8,
-    set: bool,
-) -> Result<BoxedDataValue, ReadFault>
-    requires levels { depth ≤ most_levels }
-    ensures exact { Gives (announced_at mask set (variant_at depth)) (S.octets src.old) (S.octets src.new) result }
-    ensures behind { StaysBehind (S.octets src.old) (S.octets src.new) }
-{
+    let (inner, mask, set) = read_mask(alloc, src, depth)?;
     if !set {
         return box_data_value(alloc, src, mask, None);
     }
-    let value = read_boxed_variant(alloc, src, depth)?;
+    let value = read_boxed_variant(alloc, src, inner)?;
     box_data_value(alloc, src, mask, Some(value))
 }
 
@@ -382,27 +377,8 @@ fn read_boxed_variant<S: Source>(
     ensures exact { Gives (variant_at depth) (S.octets src.old) (S.octets src.new) result }
     ensures behind { StaysBehind (S.octets src.old) (S.octets src.new) }
 {
-    if depth == 0 {
-        return Err(ReadFault::NoValue);
-    }
-    read_boxed_variant_level(alloc, src, depth - 1)
-}
-
-/// Reads a Variant to the heap, whose inner values may have that nesting depth.
-#[cycle(variants)]
-#[inline(always)]
-#[tactic(auto, unfolding(crate::specs::Decoding::variant_step))]
-fn read_boxed_variant_level<S: Source>(
-    alloc: Global,
-    src: &mut S,
-    depth: u32,
-) -> Result<BoxedVariant, ReadFault>
-    requires levels { depth ≤ most_levels }
-    ensures exact { Gives (variant_step (scalars_at depth)) (S.octets src.old) (S.octets src.new) result }
-    ensures behind { StaysBehind (S.octets src.old) (S.octets src.new) }
-{
-    let tag = u8::read_value(alloc, src, 0)?;
-    read_boxed_tagged(alloc, src, depth, tag)
+    let (inner, tag) = read_tag(alloc, src, depth)?;
+    read_boxed_tagged(alloc, src, inner, tag)
 }
 
 /// Reads a Variant to the heap after its encoding byte.
@@ -540,30 +516,8 @@ pub(crate) fn read_data_value<S: Source>(
     ensures exact { GivesBy data_value_of (data_value_at depth) (S.octets src.old) (S.octets src.new) result }
     ensures behind { StaysBehind (S.octets src.old) (S.octets src.new) }
 {
-    if depth == 0 {
-        return Err(ReadFault::NoValue);
-    }
-    read_data_value_level(alloc, src, depth - 1)
-}
-
-/// Reads a DataValue, whose inner values may have that nesting depth.
-#[inline(always)]
-#[tactic(auto, unfolding(crate::specs::Decoding::data_value_step))]
-fn read_data_value_level<S: Source>(
-    alloc: Global,
-    src: &mut S,
-    depth: u32,
-) -> Result<DataValue, ReadFault>
-    requires levels { depth ≤ most_levels }
-    ensures exact { GivesBy data_value_of (data_value_step (variant_at depth)) (S.octets src.old)
-        (S.octets src.new) result }
-    ensures behind { StaysBehind (S.octets src.old) (S.octets src.new) }
-{
-    let mask = u8::read_value(alloc, src, 0)?;
-    if mask > masks::KNOWN_FLAGS {
-        return Err(ReadFault::NoValue);
-    }
-    let value = read_held(alloc, src, depth, mask & masks::VALUE != 0)?;
+    let (inner, mask, set) = read_mask(alloc, src, depth)?;
+    let value = read_held(alloc, src, inner, set)?;
     match read_data_fields(alloc, src, mask) {
         Ok(fields) => Ok(fields.behind(value)),
         Err(fault) => {

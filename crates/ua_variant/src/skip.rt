@@ -1,15 +1,14 @@
 //! Skips Variants and DataValues. Of an array, one scalar at a time is decoded and dropped, or a
 //! part of a packed one, so that memory does not grow with the number of elements.
 
-ghost use Rattle.std.specs.Prelude.{◌≡◌, ◌<◌, ◌≤◌, ◌%◌, true, IsErrOf};
-ghost use Rattle.ua_builtin.specs.Counted.{first_negative};
+ghost use Rattle.std.specs.Prelude.{◌≡◌, ◌≤◌, ◌%◌, true, IsErrOf};
 ghost use Rattle.ua_builtin.specs.Exact.{image_read, skipped};
 ghost use Rattle.ua_builtin.specs.Format.{most_levels, Gives, StaysBehind};
 ghost use Rattle.ua_wire.specs.declared.fault.ReadFault.TheVariants.{NoValue};
 ghost use Rattle.ua_diagnostic.specs.Parts.{optional_read};
 ghost use Rattle.ua_variant.specs.Data.{leaf};
-ghost use Rattle.ua_variant.specs.Decoding.{variant_at, variant_step, variant_after, data_value_at};
-ghost use Rattle.ua_variant.specs.Decoding.{data_value_step, scalars_at, variant_array_at, elements_at, row_at};
+ghost use Rattle.ua_variant.specs.Decoding.{variant_at, variant_after, data_value_at};
+ghost use Rattle.ua_variant.specs.Decoding.{scalars_at, variant_array_at, row_at};
 ghost use Rattle.ua_variant.specs.Encodable.{is_read_kind as read_kind};
 ghost use Rattle.ua_variant.specs.Formats.{IsOverlongArray, IsOverlongRow};
 ghost use Rattle.ua_variant.specs.Leaf.{leaf_at};
@@ -19,7 +18,7 @@ use crate::blocks::{is_packed, read_packed};
 use crate::fields::read_data_fields;
 use crate::least::least_octets;
 use crate::masks;
-use crate::read::is_read_kind;
+use crate::read::{is_read_kind, read_mask, read_tag};
 use crate::records::read_leaf;
 use crate::values::{DataValue, Variant};
 use std::alloc::Global;
@@ -80,23 +79,8 @@ fn skip_variant<S: Source>(alloc: Global, src: &mut S, depth: u32) -> Result<(),
     ensures behind { StaysBehind (S.octets src.old) (S.octets src.new) }
     ensures long { IsOverlongArray (S.octets src.old) → IsErrOf result NoValue }
 {
-    if depth == 0 {
-        return Err(ReadFault::NoValue);
-    }
-    skip_variant_level(alloc, src, depth - 1)
-}
-
-/// Skips a Variant, whose inner values may have that nesting depth.
-#[cycle(skips)]
-#[tactic(auto, unfolding(crate::specs::Decoding::variant_step))]
-fn skip_variant_level<S: Source>(alloc: Global, src: &mut S, depth: u32) -> Result<(), ReadFault>
-    requires levels { depth ≤ most_levels }
-    ensures exact { Gives (skipped (variant_step (scalars_at depth))) (S.octets src.old) (S.octets src.new) result }
-    ensures behind { StaysBehind (S.octets src.old) (S.octets src.new) }
-    ensures long { IsOverlongArray (S.octets src.old) → IsErrOf result NoValue }
-{
-    let tag = u8::read_value(alloc, src, 0)?;
-    skip_tagged(alloc, src, depth, tag)
+    let (inner, tag) = read_tag(alloc, src, depth)?;
+    skip_tagged(alloc, src, inner, tag)
 }
 
 /// Skips a Variant after its first byte, whose inner values may have that nesting depth.
@@ -126,7 +110,7 @@ fn skip_tagged<S: Source>(alloc: Global, src: &mut S, depth: u32, tag: u8) -> Re
     skip_scalar(alloc, src, depth, tag)
 }
 
-/// Skips an array after its first byte.
+/// Skips an array after its first byte: its elements, and its dimensions.
 #[cycle(skips)]
 #[tactic(auto, unfolding(crate::specs::Decoding::variant_array_at))]
 fn skip_array<S: Source>(
@@ -152,25 +136,6 @@ fn skip_array<S: Source>(
     if room < count as usize {
         return Err(ReadFault::NoValue);
     }
-    skip_elements(alloc, src, depth, kind, flagged, count)
-}
-
-/// Skips so many elements and the dimensions.
-#[cycle(skips)]
-fn skip_elements<S: Source>(
-    alloc: Global,
-    src: &mut S,
-    depth: u32,
-    kind: u8,
-    flagged: bool,
-    count: u32,
-) -> Result<(), ReadFault>
-    requires levels { depth ≤ most_levels }
-    requires count { count < first_negative }
-    ensures exact { Gives (skipped (elements_at (scalars_at depth) kind flagged count)) (S.octets src.old)
-        (S.octets src.new) result }
-    ensures behind { StaysBehind (S.octets src.old) (S.octets src.new) }
-{
     skip_row(alloc, src, depth, kind, count)?;
     skip_dims(alloc, src, flagged, count)
 }
@@ -221,25 +186,8 @@ fn skip_data_value<S: Source>(alloc: Global, src: &mut S, depth: u32) -> Result<
     ensures exact { Gives (skipped (data_value_at depth)) (S.octets src.old) (S.octets src.new) result }
     ensures behind { StaysBehind (S.octets src.old) (S.octets src.new) }
 {
-    if depth == 0 {
-        return Err(ReadFault::NoValue);
-    }
-    skip_data_value_level(alloc, src, depth - 1)
-}
-
-/// Skips a DataValue, whose inner values may have that nesting depth.
-#[cycle(skips)]
-#[tactic(auto, unfolding(crate::specs::Decoding::data_value_step))]
-fn skip_data_value_level<S: Source>(alloc: Global, src: &mut S, depth: u32) -> Result<(), ReadFault>
-    requires levels { depth ≤ most_levels }
-    ensures exact { Gives (skipped (data_value_step (variant_at depth))) (S.octets src.old) (S.octets src.new) result }
-    ensures behind { StaysBehind (S.octets src.old) (S.octets src.new) }
-{
-    let mask = u8::read_value(alloc, src, 0)?;
-    if mask > masks::KNOWN_FLAGS {
-        return Err(ReadFault::NoValue);
-    }
-    skip_held(alloc, src, depth, mask & masks::VALUE != 0)?;
+    let (inner, mask, set) = read_mask(alloc, src, depth)?;
+    skip_held(alloc, src, inner, set)?;
     read_data_fields(alloc, src, mask)?;
     Ok(())
 }

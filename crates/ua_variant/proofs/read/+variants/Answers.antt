@@ -9,34 +9,16 @@ use Rattle.ua_variant.specs.declared.packed.Packed.{Packed}
 use Rattle.ua_variant.specs.declared.values.Scalar.{Scalar}
 use Rattle.ua_variant.specs.View.{row, scalar_of, variant_of}
 use Rattle.ua_variant.specs.Encodable.{is_read_kind}
-use Rattle.ua_variant.specs.Decoding.{row_at, variant_at, variant_step, data_value_at, data_value_step, scalars_at, variant_after, variant_array_at}
+use Rattle.ua_variant.specs.Decoding.{row_at, variant_at, data_value_at, scalars_at, variant_after, variant_array_at}
 use Rattle.ua_variant.proofs.RowsSkipped.{array_passed, no_array}
-use Rattle.ua_variant.proofs.VariantsRead.{variant_none, variant_level, data_value_none, data_value_level}
 use Rattle.ua_diagnostic.proofs.Extents.{gives_same}
+use Rattle.ua_variant.proofs.Heads.{gives_behind}
 use Rattle.ua_variant.proofs.Boxes.{data_value_ends, data_value_is, variant_ends, variant_is}
 use Rattle.ua_variant.proofs.Loops.{row_so_far, row_done, array_short}
 use Rattle.ua_variant.specs.Blocks.{leaf_row_at}
 use Rattle.ua_variant.specs.Leaf.{holds_values}
 use Rattle.ua_variant.proofs.BlocksRead.{leaves_at, element_stops, packed_ends, packed_is, records_end, records_are, fault_ends}
 use Rattle.ua_variant.proofs.read.+variants.Goals as goal
-
-pub read_boxed_data_value-returns-then-depth-eq0-clause-exact : goal.read_boxed_data_value-returns-then-depth-eq0-clause-exact
-read_boxed_data_value-returns-then-depth-eq0-clause-exact g t c = data_value_none c.args.depth (g.S.Source.octets c.args.src.now) c.if-depth-eq0.true
-
-pub read_boxed_data_value-returns-clause-exact : goal.read_boxed_data_value-returns-clause-exact
-read_boxed_data_value-returns-clause-exact g t c =
-    gives_same (λ (d : DataValueData). d) (data_value_at c.args.depth) (data_value_step (variant_at (c.args.depth - 1))) (g.S.Source.octets c.args.src.now)
-    (g.S.Source.octets c.read_boxed_data_value_level.new.src) c.read_boxed_data_value_level.result
-    (data_value_level c.args.depth (g.S.Source.octets c.args.src.now) (omega arith)) c.read_boxed_data_value_level.ensures.exact
-
-pub read_boxed_variant-returns-then-depth-eq0-clause-exact : goal.read_boxed_variant-returns-then-depth-eq0-clause-exact
-read_boxed_variant-returns-then-depth-eq0-clause-exact g t c = variant_none c.args.depth (g.S.Source.octets c.args.src.now) c.if-depth-eq0.true
-
-pub read_boxed_variant-returns-clause-exact : goal.read_boxed_variant-returns-clause-exact
-read_boxed_variant-returns-clause-exact g t c =
-    gives_same (λ (v : VariantData). v) (variant_at c.args.depth) (variant_step (scalars_at (c.args.depth - 1))) (g.S.Source.octets c.args.src.now)
-    (g.S.Source.octets c.read_boxed_variant_level.new.src) c.read_boxed_variant_level.result
-    (variant_level c.args.depth (g.S.Source.octets c.args.src.now) (omega arith)) c.read_boxed_variant_level.ensures.exact
 
 pub read_boxed_array-returns-then-room-count-clause-exact : goal.read_boxed_array-returns-then-room-count-clause-exact
 read_boxed_array-returns-then-room-count-clause-exact g t c =
@@ -162,15 +144,6 @@ read_array-returns-then-room-count-clause-behind g t c = c.in_ok-count.ensures.b
 pub read_array-returns-clause-behind : goal.read_array-returns-clause-behind
 read_array-returns-clause-behind g t c = λ start h. c.read_elements.ensures.behind start (c.in_ok-count.ensures.behind start h)
 
-pub read_boxed_announced-returns-then-not-set-clause-behind : goal.read_boxed_announced-returns-then-not-set-clause-behind
-read_boxed_announced-returns-then-not-set-clause-behind g t c = c.box_data_value.ensures.behind
-
-pub read_boxed_announced-returns-in_err-value-clause-behind : goal.read_boxed_announced-returns-in_err-value-clause-behind
-read_boxed_announced-returns-in_err-value-clause-behind g t c = c.in_err-value.ensures.behind
-
-pub read_boxed_announced-returns-clause-behind : goal.read_boxed_announced-returns-clause-behind
-read_boxed_announced-returns-clause-behind g t c = λ start h. c.box_data_value-2.ensures.behind start (c.in_ok-value.ensures.behind start h)
-
 pub read_boxed_array-returns-in_err-count-clause-behind : goal.read_boxed_array-returns-in_err-count-clause-behind
 read_boxed_array-returns-in_err-count-clause-behind g t c = c.in_err-count.ensures.behind
 
@@ -188,32 +161,11 @@ pub read_boxed_array-returns-clause-behind : goal.read_boxed_array-returns-claus
 read_boxed_array-returns-clause-behind g t c = λ start h.
     c.box_array.ensures.behind start (c.in_ok-items.ensures.behind start (c.in_ok-count.ensures.behind start h))
 
-pub read_boxed_data_value-returns-clause-behind : goal.read_boxed_data_value-returns-clause-behind
-read_boxed_data_value-returns-clause-behind g t c = c.read_boxed_data_value_level.ensures.behind
-
-pub read_boxed_data_value_level-returns-in_err-mask-clause-behind : goal.read_boxed_data_value_level-returns-in_err-mask-clause-behind
-read_boxed_data_value_level-returns-in_err-mask-clause-behind g t c = c.in_err-mask.ensures.behind
-
-pub read_boxed_data_value_level-returns-then-mask-gt-KNOWN_FLAGS-clause-behind : goal.read_boxed_data_value_level-returns-then-mask-gt-KNOWN_FLAGS-clause-behind
-read_boxed_data_value_level-returns-then-mask-gt-KNOWN_FLAGS-clause-behind g t c = c.in_ok-mask.ensures.behind
-
-pub read_boxed_data_value_level-returns-clause-behind : goal.read_boxed_data_value_level-returns-clause-behind
-read_boxed_data_value_level-returns-clause-behind g t c = λ start h. c.read_boxed_announced.ensures.behind start (c.in_ok-mask.ensures.behind start h)
-
 pub read_boxed_tagged-returns-then-nests-clause-behind : goal.read_boxed_tagged-returns-then-nests-clause-behind
 read_boxed_tagged-returns-then-nests-clause-behind g t c = c.read_boxed_array.ensures.behind
 
 pub read_boxed_tagged-returns-clause-behind : goal.read_boxed_tagged-returns-clause-behind
 read_boxed_tagged-returns-clause-behind g t c = c.box_tagged.ensures.behind
-
-pub read_boxed_variant-returns-clause-behind : goal.read_boxed_variant-returns-clause-behind
-read_boxed_variant-returns-clause-behind g t c = c.read_boxed_variant_level.ensures.behind
-
-pub read_boxed_variant_level-returns-in_err-tag-clause-behind : goal.read_boxed_variant_level-returns-in_err-tag-clause-behind
-read_boxed_variant_level-returns-in_err-tag-clause-behind g t c = c.in_err-tag.ensures.behind
-
-pub read_boxed_variant_level-returns-clause-behind : goal.read_boxed_variant_level-returns-clause-behind
-read_boxed_variant_level-returns-clause-behind g t c = λ start h. c.read_boxed_tagged.ensures.behind start (c.in_ok-tag.ensures.behind start h)
 
 pub read_data_values-returns-in_err-item-clause-behind : goal.read_data_values-returns-in_err-item-clause-behind
 read_data_values-returns-in_err-item-clause-behind g t c = λ start h. c.in_err-item.ensures.behind start (c.loop.invariant.behind start h)
@@ -345,3 +297,29 @@ read_boxed_tagged-returns-then-nests-clause-exact g t c =
     (array_passed scalars tag old some high (ap (λ b. b && leb tag 0xFF) read ∙ octet)
     ∙ ap (λ k. variant_array_at scalars k (has tag 0x40) old) (sym kind))
     c.read_boxed_array.ensures.exact
+
+-- behind the first byte
+pub read_boxed_variant-returns-clause-exact : goal.read_boxed_variant-returns-clause-exact
+read_boxed_variant-returns-clause-exact g t c =
+    gives_behind (λ (v : VariantData). v) (variant_at c.args.depth) (variant_after (scalars_at c.in_ok-inner.inner) c.in_ok-inner.tag)
+    (g.S.Source.octets c.args.src.now) (g.S.Source.octets c.read_tag.new.src) (g.S.Source.octets c.read_boxed_tagged.new.src) c.read_boxed_tagged.result
+    c.in_ok-inner.ensures.ok c.read_boxed_tagged.ensures.exact
+
+pub read_boxed_variant-returns-in_err-inner-clause-behind : goal.read_boxed_variant-returns-in_err-inner-clause-behind
+read_boxed_variant-returns-in_err-inner-clause-behind g t c = c.in_err-inner.ensures.behind
+
+pub read_boxed_variant-returns-clause-behind : goal.read_boxed_variant-returns-clause-behind
+read_boxed_variant-returns-clause-behind g t c = λ start h. c.read_boxed_tagged.ensures.behind start (c.in_ok-inner.ensures.behind start h)
+
+pub read_boxed_data_value-returns-in_err-inner-clause-behind : goal.read_boxed_data_value-returns-in_err-inner-clause-behind
+read_boxed_data_value-returns-in_err-inner-clause-behind g t c = c.in_err-inner.ensures.behind
+
+pub read_boxed_data_value-returns-then-not-set-clause-behind : goal.read_boxed_data_value-returns-then-not-set-clause-behind
+read_boxed_data_value-returns-then-not-set-clause-behind g t c = λ start h. c.box_data_value.ensures.behind start (c.in_ok-inner.ensures.behind start h)
+
+pub read_boxed_data_value-returns-in_err-value-clause-behind : goal.read_boxed_data_value-returns-in_err-value-clause-behind
+read_boxed_data_value-returns-in_err-value-clause-behind g t c = λ start h. c.in_err-value.ensures.behind start (c.in_ok-inner.ensures.behind start h)
+
+pub read_boxed_data_value-returns-clause-behind : goal.read_boxed_data_value-returns-clause-behind
+read_boxed_data_value-returns-clause-behind g t c = λ start h.
+    c.box_data_value-2.ensures.behind start (c.in_ok-value.ensures.behind start (c.in_ok-inner.ensures.behind start h))

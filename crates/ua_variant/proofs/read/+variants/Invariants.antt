@@ -29,15 +29,6 @@ decreases-read_data_values g l = 10 * l.depth + 4
 abbrev pub decreases-read_variants : goal.decreases-read_variants
 decreases-read_variants g l = 10 * l.depth + 4
 
-abbrev pub decreases-read_boxed_data_value_level : goal.decreases-read_boxed_data_value_level
-decreases-read_boxed_data_value_level g l = 10 * l.depth + 10
-
-abbrev pub decreases-read_boxed_announced : goal.decreases-read_boxed_announced
-decreases-read_boxed_announced g l = 10 * l.depth + 9
-
-abbrev pub decreases-read_boxed_variant_level : goal.decreases-read_boxed_variant_level
-decreases-read_boxed_variant_level g l = 10 * l.depth + 12
-
 abbrev pub decreases-read_boxed_tagged : goal.decreases-read_boxed_tagged
 decreases-read_boxed_tagged g l = 10 * l.depth + 11
 

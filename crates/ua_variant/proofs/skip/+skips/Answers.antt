@@ -6,8 +6,7 @@ use Rattle.ua_variant.specs.Encodable.{is_read_kind}
 use Rattle.std.proofs.lemmas.Result.{err_from_is_err_and}
 use Rattle.ua_wire.specs.Exact.{skipped}
 use Rattle.ua_diagnostic.proofs.Skipped.{rest, gives_on}
-use Rattle.ua_variant.specs.Decoding.{variant_at, variant_step, data_value_at, data_value_step, scalars_at, row_at, variant_after, variant_array_at}
-use Rattle.ua_variant.proofs.VariantsRead.{variant_none, variant_level, data_value_none, data_value_level}
+use Rattle.ua_variant.specs.Decoding.{variant_at, data_value_at, scalars_at, row_at, variant_after, variant_array_at}
 use Rattle.ua_variant.proofs.Loops.{array_short}
 use Rattle.ua_variant.proofs.BlocksRead.{leaves_at, row_packed}
 use Rattle.ua_diagnostic.specs.Diagnostic.{diagnostic_at}
@@ -17,24 +16,6 @@ use Rattle.ua_wire.specs.Exact.{image_read}
 use Rattle.ua_variant.specs.Data.{leaf}
 use Rattle.ua_variant.specs.Leaf.{holds_values, leaf_at}
 use Rattle.ua_variant.proofs.skip.+skips.Goals as goal
-
-pub skip_variant-returns-then-depth-eq0-clause-exact : goal.skip_variant-returns-then-depth-eq0-clause-exact
-skip_variant-returns-then-depth-eq0-clause-exact g t c = ap rest (variant_none c.args.depth (g.S.Source.octets c.args.src.now) c.if-depth-eq0.true)
-
-pub skip_variant-returns-clause-exact : goal.skip_variant-returns-clause-exact
-skip_variant-returns-clause-exact g t c =
-    gives_on (skipped (variant_at c.args.depth)) (skipped (variant_step (scalars_at (c.args.depth - 1)))) (g.S.Source.octets c.args.src.now)
-    (g.S.Source.octets c.args.src.now) (g.S.Source.octets c.skip_variant_level.new.src) c.skip_variant_level.result
-    (ap rest (variant_level c.args.depth (g.S.Source.octets c.args.src.now) (omega arith))) c.skip_variant_level.ensures.exact
-
-pub skip_data_value-returns-then-depth-eq0-clause-exact : goal.skip_data_value-returns-then-depth-eq0-clause-exact
-skip_data_value-returns-then-depth-eq0-clause-exact g t c = ap rest (data_value_none c.args.depth (g.S.Source.octets c.args.src.now) c.if-depth-eq0.true)
-
-pub skip_data_value-returns-clause-exact : goal.skip_data_value-returns-clause-exact
-skip_data_value-returns-clause-exact g t c =
-    gives_on (skipped (data_value_at c.args.depth)) (skipped (data_value_step (variant_at (c.args.depth - 1)))) (g.S.Source.octets c.args.src.now)
-    (g.S.Source.octets c.args.src.now) (g.S.Source.octets c.skip_data_value_level.new.src) c.skip_data_value_level.result
-    (ap rest (data_value_level c.args.depth (g.S.Source.octets c.args.src.now) (omega arith))) c.skip_data_value_level.ensures.exact
 
 pub skip_array-returns-then-room-count-clause-exact : goal.skip_array-returns-then-room-count-clause-exact
 skip_array-returns-then-room-count-clause-exact g t c =
@@ -81,34 +62,12 @@ skip_array-returns-then-count-ge-FIRST_NEGATIVE-clause-behind g t c = λ start h
 pub skip_array-returns-then-room-count-clause-behind : goal.skip_array-returns-then-room-count-clause-behind
 skip_array-returns-then-room-count-clause-behind g t c = c.in_ok-count.ensures.behind
 
+pub skip_array-returns-in_err-skip_row-clause-behind : goal.skip_array-returns-in_err-skip_row-clause-behind
+skip_array-returns-in_err-skip_row-clause-behind g t c = λ start h. c.in_err-skip_row.ensures.behind start (c.in_ok-count.ensures.behind start h)
+
 pub skip_array-returns-clause-behind : goal.skip_array-returns-clause-behind
-skip_array-returns-clause-behind g t c = λ start h. c.skip_elements.ensures.behind start (c.in_ok-count.ensures.behind start h)
-
-pub skip_data_value-returns-clause-behind : goal.skip_data_value-returns-clause-behind
-skip_data_value-returns-clause-behind g t c = c.skip_data_value_level.ensures.behind
-
-pub skip_data_value_level-returns-in_err-mask-clause-behind : goal.skip_data_value_level-returns-in_err-mask-clause-behind
-skip_data_value_level-returns-in_err-mask-clause-behind g t c = c.in_err-mask.ensures.behind
-
-pub skip_data_value_level-returns-then-mask-gt-KNOWN_FLAGS-clause-behind : goal.skip_data_value_level-returns-then-mask-gt-KNOWN_FLAGS-clause-behind
-skip_data_value_level-returns-then-mask-gt-KNOWN_FLAGS-clause-behind g t c = c.in_ok-mask.ensures.behind
-
-pub skip_data_value_level-returns-in_err-skip_held-clause-behind : goal.skip_data_value_level-returns-in_err-skip_held-clause-behind
-skip_data_value_level-returns-in_err-skip_held-clause-behind g t c = λ start h. c.in_err-skip_held.ensures.behind start (c.in_ok-mask.ensures.behind start h)
-
-pub skip_data_value_level-returns-in_err-read_data_fields-clause-behind : goal.skip_data_value_level-returns-in_err-read_data_fields-clause-behind
-skip_data_value_level-returns-in_err-read_data_fields-clause-behind g t c = λ start h.
-    c.in_err-read_data_fields.ensures.behind start (c.in_ok-skip_held.ensures.behind start (c.in_ok-mask.ensures.behind start h))
-
-pub skip_data_value_level-returns-clause-behind : goal.skip_data_value_level-returns-clause-behind
-skip_data_value_level-returns-clause-behind g t c = λ start h.
-    c.in_ok-read_data_fields.ensures.behind start (c.in_ok-skip_held.ensures.behind start (c.in_ok-mask.ensures.behind start h))
-
-pub skip_elements-returns-in_err-skip_row-clause-behind : goal.skip_elements-returns-in_err-skip_row-clause-behind
-skip_elements-returns-in_err-skip_row-clause-behind g t c = c.in_err-skip_row.ensures.behind
-
-pub skip_elements-returns-clause-behind : goal.skip_elements-returns-clause-behind
-skip_elements-returns-clause-behind g t c = λ start h. c.skip_dims.ensures.behind start (c.in_ok-skip_row.ensures.behind start h)
+skip_array-returns-clause-behind g t c = λ start h.
+    c.skip_dims.ensures.behind start (c.in_ok-skip_row.ensures.behind start (c.in_ok-count.ensures.behind start h))
 
 pub skip_held-returns-clause-behind : goal.skip_held-returns-clause-behind
 skip_held-returns-clause-behind g t c = c.skip_variant.ensures.behind
@@ -139,15 +98,6 @@ skip_tagged-returns-then-tag-ge-ARRAY-clause-behind g t c = c.skip_array.ensures
 
 pub skip_tagged-returns-clause-behind : goal.skip_tagged-returns-clause-behind
 skip_tagged-returns-clause-behind g t c = c.skip_scalar.ensures.behind
-
-pub skip_variant-returns-clause-behind : goal.skip_variant-returns-clause-behind
-skip_variant-returns-clause-behind g t c = c.skip_variant_level.ensures.behind
-
-pub skip_variant_level-returns-in_err-tag-clause-behind : goal.skip_variant_level-returns-in_err-tag-clause-behind
-skip_variant_level-returns-in_err-tag-clause-behind g t c = c.in_err-tag.ensures.behind
-
-pub skip_variant_level-returns-clause-behind : goal.skip_variant_level-returns-clause-behind
-skip_variant_level-returns-clause-behind g t c = λ start h. c.skip_tagged.ensures.behind start (c.in_ok-tag.ensures.behind start h)
 
 pub skip_scalar-returns-in-23-clause-exact : goal.skip_scalar-returns-in-23-clause-exact
 skip_scalar-returns-in-23-clause-exact g t c =
@@ -208,3 +158,30 @@ skip_tagged-returns-then-not-is_read_kind-clause-exact g t c =
     let high : leb 0x80 tag ≡ true = search rules in
     let read : is_read_kind (tag % 0x40) ≡ false = ap is_read_kind (sym kind) ∙ sym c.is_read_kind.ensures ∙ c.if-not-is_read_kind.true in
     ap rest (no_array (scalars_at c.args.depth) tag (g.S.Source.octets c.args.src.now) some high (ap (λ b. b && leb tag 0xFF) read))
+
+-- behind the first byte
+pub skip_variant-returns-clause-exact : goal.skip_variant-returns-clause-exact
+skip_variant-returns-clause-exact g t c =
+    gives_on (skipped (variant_at c.args.depth)) (skipped (variant_after (scalars_at c.in_ok-inner.inner) c.in_ok-inner.tag))
+    (g.S.Source.octets c.args.src.now) (g.S.Source.octets c.read_tag.new.src) (g.S.Source.octets c.skip_tagged.new.src) c.skip_tagged.result
+    (ap rest c.in_ok-inner.ensures.ok) c.skip_tagged.ensures.exact
+
+pub skip_variant-returns-in_err-inner-clause-behind : goal.skip_variant-returns-in_err-inner-clause-behind
+skip_variant-returns-in_err-inner-clause-behind g t c = c.in_err-inner.ensures.behind
+
+pub skip_variant-returns-clause-behind : goal.skip_variant-returns-clause-behind
+skip_variant-returns-clause-behind g t c = λ start h. c.skip_tagged.ensures.behind start (c.in_ok-inner.ensures.behind start h)
+
+pub skip_data_value-returns-in_err-inner-clause-behind : goal.skip_data_value-returns-in_err-inner-clause-behind
+skip_data_value-returns-in_err-inner-clause-behind g t c = c.in_err-inner.ensures.behind
+
+pub skip_data_value-returns-in_err-skip_held-clause-behind : goal.skip_data_value-returns-in_err-skip_held-clause-behind
+skip_data_value-returns-in_err-skip_held-clause-behind g t c = λ start h. c.in_err-skip_held.ensures.behind start (c.in_ok-inner.ensures.behind start h)
+
+pub skip_data_value-returns-in_err-read_data_fields-clause-behind : goal.skip_data_value-returns-in_err-read_data_fields-clause-behind
+skip_data_value-returns-in_err-read_data_fields-clause-behind g t c = λ start h.
+    c.in_err-read_data_fields.ensures.behind start (c.in_ok-skip_held.ensures.behind start (c.in_ok-inner.ensures.behind start h))
+
+pub skip_data_value-returns-clause-behind : goal.skip_data_value-returns-clause-behind
+skip_data_value-returns-clause-behind g t c = λ start h.
+    c.in_ok-read_data_fields.ensures.behind start (c.in_ok-skip_held.ensures.behind start (c.in_ok-inner.ensures.behind start h))

@@ -7,17 +7,11 @@ use Rattle.ua_variant.proofs.skip.+skips.Given as goal
 abbrev pub decreases-skip_variant : goal.decreases-skip_variant
 decreases-skip_variant g l = 10 * l.depth + 1
 
-abbrev pub decreases-skip_variant_level : goal.decreases-skip_variant_level
-decreases-skip_variant_level g l = 10 * l.depth + 10
-
 abbrev pub decreases-skip_tagged : goal.decreases-skip_tagged
 decreases-skip_tagged g l = 10 * l.depth + 9
 
 abbrev pub decreases-skip_array : goal.decreases-skip_array
 decreases-skip_array g l = 10 * l.depth + 8
-
-abbrev pub decreases-skip_elements : goal.decreases-skip_elements
-decreases-skip_elements g l = 10 * l.depth + 7
 
 abbrev pub decreases-skip_row : goal.decreases-skip_row
 decreases-skip_row g l = 10 * l.depth + 6
@@ -30,9 +24,6 @@ decreases-skip_held g l = 10 * l.depth + 2
 
 abbrev pub decreases-skip_data_value : goal.decreases-skip_data_value
 decreases-skip_data_value g l = 10 * l.depth + 2
-
-abbrev pub decreases-skip_data_value_level : goal.decreases-skip_data_value_level
-decreases-skip_data_value_level g l = 10 * l.depth + 9
 
 abbrev pub invariant-skip_row-loop : goal.invariant-skip_row-loop
 invariant-skip_row-loop g l = record {
