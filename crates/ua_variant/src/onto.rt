@@ -19,6 +19,7 @@ use ua_builtin::{DoubleBits, FloatBits, ReadFault, Source};
 impl DataValue {
     /// Decodes the DataValue at the start of the source, of at most nesting depth `depth`, and
     /// pushes it to the vector. After an error, discard the source.
+    #[tactic(auto, unfolding(crate::specs::Formats::data_value_format))]
     pub fn read_onto<S: Source>(
         alloc: Global,
         src: &mut S,

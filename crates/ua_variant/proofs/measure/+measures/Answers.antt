@@ -20,8 +20,8 @@ measure_row-returns-in-Packed-clause-count t c =
           ∙ c.elements.ensures),
     )
 
-pub measure_row-measure_scalar-requires : goal.measure_row-measure_scalar-requires
-measure_row-measure_scalar-requires t c = (
+pub measure_row-measure_scalar-depth-requires : goal.measure_row-measure_scalar-depth-requires
+measure_row-measure_scalar-depth-requires t c = (
   omega (
     arith,
     count_below c.deref-s-items.result.now c.loop-s.s-index c.s-item.result c.args.items.now (ap (map scalar_of) c.deref-s-items.ensures.value
