@@ -62,8 +62,9 @@ fn moves_bytes_over_streams(rt: HostRuntime) {
     }
 }
 
-/// The most bytes of a write beneath (0: no limit), the write that fails (0: none), and calls of a transport that gathers
-/// writes, of which a number is a write of so many bytes: what each answers, and how many bytes went out.
+/// The most bytes of a write beneath (0: no limit), the write that fails (0: none), and calls of a transport
+/// that gathers writes, of which a number is a write of so many bytes: what each answers, and how many bytes
+/// went out.
 const GATHERED: &str = "\
 0 0 3 4 = 3 4 out 0
 0 0 3 4 read 5 = 3 4 0 5 out 7

@@ -25,7 +25,7 @@ all all!5 / $UP = Err(Write(585)) / $DOWN[..585] / $SIX_1
 all 100!6 / $UP = Err(Write(363)) / $DOWN[..363] / $INACTIVE
 all all / $HEL_20 $OPN $CREATE $CLOSE_3 = Ok(NoClose) / 'ACKF 1C000000 00000000 FFFF0000 FFFF0000 00001000 00010000 \
 $OPENED 'MSGA 20000000 01000000 01000000 02000000 02000000 0000B980 FFFFFFFF 'MSGA 20000000 01000000 01000000 \
-03000000 06000000 0000B980 FFFFFFFF / $INACTIVE
+03000000 06000000 0000B980 FFFFFFFF / $UNKNOWN
 all all / $BEGIN $WRITE $RENEWAL $READ_RENEWED = Ok(NoClose) / $DOWN[..649] $RENEWED $SIX_RENEWED / $SIX_1
 all all / $HEL_8192 $OPN $CREATE $ACTIVATE 'MSGF F3610000 01000000 01000000 04000000 04000000 $READ_ANY E8030000 \
 1000*$ITEM 'MSGF 0C620000 01000000 01000000 05000000 05000000 $READ_ANY E9030000 1001*$ITEM = Ok(NoClose) / \
@@ -167,9 +167,9 @@ fn holds_as_much_as_its_bound(rt: HostRuntime) -> Result<(), Fail> {
     let vectors = Vectors::new(rt.alloc())?;
     let mut services = services_over(rt.alloc(), PUMP)?;
     let mut octets = vectors.octets("$HEL_FREE $OPN")?;
-    for id in 0..4u32 {
-        push_chunks(&vectors, 2 + id * 17, 16, 2 + id, 65511, &mut octets)?;
-        push_chunks(&vectors, 18 + id * 17, 1, 2 + id, 400, &mut octets)?;
+    for (first, id) in [(2u32, 2), (19, 3), (36, 4), (53, 5)] {
+        push_chunks(&vectors, first, 16, id, 65511, &mut octets)?;
+        push_chunks(&vectors, first.saturating_add(16), 1, id, 400, &mut octets)?;
     }
     octets.extend_from_slice(b"MSGF\xFF\xFF\0\0")?;
     octets.resize(octets.len().saturating_add(65526), 0)?;
