@@ -7,7 +7,6 @@
 //! program sees no answer but its own.
 #![tactic(auto)]
 
-mod streams;
 mod values;
 
 use std::alloc::{AllocError, Global};
@@ -15,29 +14,17 @@ use std::io;
 use std::io::{BufRead, BufReader};
 
 fn main(rt: HostRuntime) -> io::Result<()> {
-    let mut state = streams::State::new(rt.alloc());
     for line in BufReader::new(rt.alloc(), rt.reader())?.lines(rt.alloc()) {
-        let text = row(rt.alloc(), &mut state, line?.as_str())?;
+        let text = row(rt.alloc(), line?.as_str())?;
         println!(rt; "{text}")?;
     }
     Ok(())
 }
 
 /// A line with its answer after it, if it is a row.
-fn row(alloc: Global, state: &mut streams::State, line: &str) -> Result<String, AllocError> {
-    match answered(alloc, state, line)? {
+fn row(alloc: Global, line: &str) -> Result<String, AllocError> {
+    match values::answered(alloc, line)? {
         Some(answer) => format!(in alloc; "{line} = {answer}"),
         None => String::from_str(alloc, line),
-    }
-}
-
-fn answered(
-    alloc: Global,
-    state: &mut streams::State,
-    line: &str,
-) -> Result<Option<String>, AllocError> {
-    match values::answered(alloc, line)? {
-        Some(answer) => Ok(Some(answer)),
-        None => streams::answered(alloc, state, line),
     }
 }
