@@ -161,15 +161,18 @@ fn array_of(alloc: Global, items: Scalars) -> Variant {
     }
 }
 
+/// The elements of the array that bytes are decoded as.
+fn elements_in(alloc: Global, words: &str) -> Result<Scalars, Fail> {
+    match value::<Variant>(alloc, words)?.into_array() {
+        Ok((_, items, _)) => Ok(items.ok_or("null")?),
+        Err(_) => Err(Fail::new("no array")),
+    }
+}
+
 #[test]
 fn takes_arrays_apart(rt: HostRuntime) -> Result<(), Fail> {
     let alloc = rt.alloc();
-    let Ok((kind, items, _)) = value::<Variant>(alloc, "85 03000000 0700 0800 0900")?.into_array()
-    else {
-        return Err(Fail::new("no array"));
-    };
-    let items = items.ok_or("null")?;
-    assert_eq!(rt; kind, 5);
+    let items = elements_in(alloc, "85 03000000 0700 0800 0900")?;
     assert!(rt; items.as_items::<u16>().is_some() && items.as_items::<u32>().is_none());
     let element = items.get(alloc, 2)?.ok_or("no element")?;
     writes(&rt, &Variant::One(element), "05 0900")?;
