@@ -1,6 +1,24 @@
--- What was read, or that none was.
-use Rattle.std.proofs.Common.{◌≡◌, Option, Some, None, Result, Ok, Err, ◌⊎◌, inl, inr, refl, sym, ap, ◌∙◌}
+-- What is added of a message that was found, or of none.
+use Rattle.std.proofs.Common.{◌≡◌, ℕ, List, [], ◌++◌, IfOk, Option, Some, None, Result, Ok, Err, ◌⊎◌, inl, inr, append-nil, refl, sym, ap, subst, ◌∙◌}
 use Rattle.ua_opening.specs.Message.{found_or}
+use Rattle.ua_texts.specs.PlainLeaf.{Adds}
+use Rattle.ua_fields.specs.Bodies.{IsFound}
+
+-- its lines were
+pub found_added : {A E : Type 0} (Is : A → List ℕ → Type 0) (value : A) (there : Option A) (r : Result (Unit {0}) E) (old new : List ℕ) → Some value ≡ there
+    → Adds r old new (Is value) → Adds r old new (IsFound Is there)
+found_added {A = A} Is value there r old new e h = subst (λ (o : Option A). Adds r old new (IsFound Is o)) e h
+
+-- none are there
+pub none_added : {A : Type 0} (Is : A → List ℕ → Type 0) (there : Option A) (old : List ℕ) → None ≡ there
+    → (text : List ℕ) × (old ≡ old ++ text) × IsFound Is there text
+none_added {A = A} Is there old e = ([], sym (append-nil old), subst (λ (o : Option A). IsFound Is o []) e refl)
+
+-- what was found is what is there
+pub is_found : {E A : Type 0} (found : Result (Option A) E) (one there : Option A) → found ≡ Ok one → IfOk found (λ o. o ≡ there) → one ≡ there
+is_found {E = E} {A = A} found one there e h = subst (λ (r : Result (Option A) E). IfOk r (λ o. o ≡ there)) e h
+
+-- ---- what was read
 
 found_is : {A E : Type 0} (o : Option A) (other : E) (m : A) → ◌≡◌ {A = Result A E} (Ok m) (found_or o other) → Some m ≡ o
 found_is None other m e = absurd cc

@@ -129,15 +129,17 @@ fn found_open_answer<S: Source>(
 fn push_found<T: Lines + Drop>(
     alloc: Global,
     style: FieldStyle,
-    found: Option<T>,
+    found: Result<Option<T>, AllocError>,
     out: &mut String,
 ) -> Result<(), AllocError>
-    ensures { Adds result (string_bytes out.old) (string_bytes out.new)
-        (IsFound (λ value. AreMessageLines style (T.tree value)) found) }
+    ensures { (there : Option T) → IfOk found (λ o. o ≡ there)
+        → Adds result (string_bytes out.old) (string_bytes out.new)
+        (IsFound (λ value. AreMessageLines style (T.tree value)) there) }
 {
     match found {
-        Some(value) => push_message(alloc, style, &value, out),
-        None => Ok(()),
+        Ok(Some(value)) => push_message(alloc, style, &value, out),
+        Ok(None) => Ok(()),
+        Err(fault) => Err(fault),
     }
 }
 
@@ -154,11 +156,11 @@ pub fn push_body<S: Source>(
     ensures { Adds result (string_bytes out.old) (string_bytes out.new) (IsBodyText style kind (S.octets src.old)) }
 {
     match kind {
-        BodyKind::Request => push_found(alloc, style, found_request(alloc, src)?, out),
-        BodyKind::Response => push_found(alloc, style, found_response(alloc, src)?, out),
-        BodyKind::OpenRequest => push_found(alloc, style, found_open_request(alloc, src)?, out),
-        BodyKind::OpenResponse => push_found(alloc, style, found_open_answer(alloc, src)?, out),
-        BodyKind::CloseRequest => push_found(alloc, style, found_close_request(alloc, src)?, out),
+        BodyKind::Request => push_found(alloc, style, found_request(alloc, src), out),
+        BodyKind::Response => push_found(alloc, style, found_response(alloc, src), out),
+        BodyKind::OpenRequest => push_found(alloc, style, found_open_request(alloc, src), out),
+        BodyKind::OpenResponse => push_found(alloc, style, found_open_answer(alloc, src), out),
+        BodyKind::CloseRequest => push_found(alloc, style, found_close_request(alloc, src), out),
     }
 }
 
@@ -211,12 +213,20 @@ pub fn push_header<S: Source>(
 {
     match side {
         Side::Client => {
-            let found: Option<CloseRequest> = found_behind(alloc, src)?;
-            push_found(alloc, style, found, out)
+            push_found(
+                alloc,
+                style,
+                found_behind::<CloseRequest, S>(alloc, src),
+                out,
+            )
         }
         Side::Server => {
-            let found: Option<ServiceFault> = found_behind(alloc, src)?;
-            push_found(alloc, style, found, out)
+            push_found(
+                alloc,
+                style,
+                found_behind::<ServiceFault, S>(alloc, src),
+                out,
+            )
         }
     }
 }

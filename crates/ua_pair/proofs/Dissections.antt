@@ -27,7 +27,7 @@ use Rattle.ua_pair.specs.declared.teller.Teller.{Teller}
 use Rattle.ua_chunk.specs.declared.chunk.Chunk.{Chunk}
 use Rattle.ua_chunk.specs.Open.{open_octets}
 use Rattle.ua_pair.specs.Before.{message_chunks}
-use Rattle.ua_pair.specs.Dissected.{rules, every_frame, AddsLines, AreTexts, AreTold}
+use Rattle.ua_pair.specs.Dissected.{rules, every_frame, AddsLines, AreTexts}
 use Rattle.ua_pair.specs.Dissecting.{Holds, DissectorGoesOn, HasRefused, IsDissectorClosed, AreHeld, DissectorStandsAt, StandsBehind, TellsMore}
 use Rattle.ua_pair.specs.Dissecting.{EndsLines, is_dissecting, MovesOn, TakesPiece, Accepts, RefusesFrame, FrameTold, TakesNone, DissectsSome}
 use Rattle.ua_pair.specs.Lines.{refused_line}

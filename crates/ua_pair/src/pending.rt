@@ -1,6 +1,6 @@
 //! What has its line appended, and whose fields are appended behind it.
 
-ghost use Rattle.std.specs.Prelude.{◌≡◌, string_bytes};
+ghost use Rattle.std.specs.Prelude.{◌≡◌, Some, string_bytes};
 ghost use Rattle.std.specs.List.{concat};
 ghost use Rattle.ua_fields.specs.Bodies.{message_kind as kind_of_message, opening_kind as kind_of_opening};
 ghost use Rattle.ua_pair.specs.Telling.{AreMessageFields, ArePendingLines};
@@ -155,6 +155,24 @@ fn push_opening_fields(
     }
 }
 
+/// Appends the lines of the fields of what has its line appended, if they are wanted.
+fn push_fields_of(
+    alloc: Global,
+    options: &DissectOptions,
+    pending: &Pending,
+    out: &mut String,
+) -> Result<(), AllocError>
+    ensures { Adds result (string_bytes out.old) (string_bytes out.new)
+        (ArePendingLines options.now (Some pending.now)) }
+{
+    match pending {
+        Pending::Message(message, unsupported) => {
+            push_message_fields(alloc, options, *unsupported, message, out)
+        }
+        Pending::Opening(chunk) => push_opening_fields(alloc, options, chunk, out),
+    }
+}
+
 /// Appends the lines of the fields of what has its line appended, if they are wanted; none where
 /// nothing is pending. If an allocation fails, some of them may have been appended.
 pub(crate) fn push_pending(
@@ -166,10 +184,7 @@ pub(crate) fn push_pending(
     ensures { Adds result (string_bytes out.old) (string_bytes out.new) (ArePendingLines options.now pending.now) }
 {
     match pending {
-        Some(Pending::Message(message, unsupported)) => {
-            push_message_fields(alloc, options, *unsupported, message, out)
-        }
-        Some(Pending::Opening(chunk)) => push_opening_fields(alloc, options, chunk, out),
+        Some(pending) => push_fields_of(alloc, options, pending, out),
         None => Ok(()),
     }
 }

@@ -1,6 +1,6 @@
 -- How far the lines of a file have come.
 use Rattle.std.proofs.Common.{◌≡◌, ◌⊎◌, inl, inr, ℕ, zero, suc, ◌<◌, take, ◌+◌, length, Bool, true, false, List}
-use Rattle.std.proofs.Common.{[], ◌++◌, Option, Some, None, is_none, unwrap_or, Result, Ok, Err, IfErr, refl, sym, ap, subst, ◌∙◌, append_assoc, append-nil}
+use Rattle.std.proofs.Common.{[], ◌++◌, Option, Some, None, is_none, unwrap_or, refl, sym, ap, subst, ◌∙◌, append_assoc, append-nil}
 use Rattle.std.proofs.lemmas.List.{append_cancel_left}
 use Rattle.std.specs.Io.KnownBytes.{Appends, Consumes, IsAtEnd}
 use Rattle.std.specs.Borrow.{Bor}
@@ -15,14 +15,13 @@ use Rattle.ua_words.specs.declared.arguments.Serve.{Serve}
 use Rattle.ua_program.specs.Printed.{HasBegun, HasDissected, HasListed, HasToldSome}
 use Rattle.ua_answers.specs.declared.style.AnswerStyle.{AnswerStyle}
 use Rattle.ua_answers.specs.declared.style.EndpointStyle.{EndpointStyle}
-use Rattle.ua_report.specs.Digits.{HexSoFar, HoldsSoFar, HoldsOctets, HoldsNever, HoldsNone, IsNeverHex}
+use Rattle.ua_report.specs.Digits.{HexSoFar, HoldsSoFar, HoldsOctets, HoldsNever, HoldsNone}
 use Rattle.ua_report.specs.declared.fault.Fault.{Fault}
 use Rattle.ua_report.specs.declared.fault.Fault.TheVariants.{NoMemory, NotHexadecimal}
 use Rattle.ua_session.specs.declared.verdict.Verdict.{Verdict}
 use Rattle.ua_report.specs.declared.output.Stop.{Stop}
 use Rattle.ua_report.specs.declared.output.Stop.TheVariants as stop
 use Rattle.ua_program.specs.Dissects.{AreLinesOf, DissectsAll, EndsFile, GivesNone, HasBegunDissecting, IsJudged, LeavesNone, PrintsLast}
-use Rattle.ua_report.specs.Reasons.{StopsWriting}
 use Rattle.ua_program.specs.Dissects.{PrintsNext, PrintsPiece, ReadsIntoFragment, StopsLast, StopsNext, StopsReading, TellsPiece, ToldSoFar}
 use Rattle.ua_report.proofs.HexParts.{hex_first}
 

@@ -1,5 +1,5 @@
 -- What `ua dissect` prints of a file that is read in fragments, and what stops it.
-use Rattle.std.specs.Prelude.{◌≡◌, ◌⊎◌, ◌<◌, ◌≤◌, ℕ, Bool, true, false, cond, List, [], ◌++◌, length, take, Option, Some, None}
+use Rattle.std.specs.Prelude.{◌≡◌, ◌⊎◌, ◌<◌, ◌≤◌, ℕ, Bool, cond, List, [], ◌++◌, length, take, Option, Some, None}
 use Rattle.std.specs.Borrow.{Bor}
 use Rattle.std.specs.Io.KnownBytes.{Appends, Consumes, IsAtEnd}
 use Rattle.ua_pair.specs.declared.dissector.Dissector.{Dissector}
@@ -9,7 +9,7 @@ use Rattle.ua_pair.specs.Dissecting.{StandsBehind, is_stopped}
 use Rattle.ua_frame.specs.Run.{End}
 use Rattle.ua_session.specs.declared.verdict.Verdict.{Verdict}
 use Rattle.ua_session.specs.declared.verdict.Verdict.TheVariants.{AllGood, SomeBad}
-use Rattle.ua_report.specs.Digits.{HoldsNever, HoldsNone, HoldsOctets, HoldsSoFar}
+use Rattle.ua_report.specs.Digits.{HoldsNone, HoldsOctets, HoldsSoFar}
 use Rattle.ua_report.specs.declared.fault.Fault.TheVariants.{CannotRead, NoMemory, NotHexadecimal}
 use Rattle.ua_report.specs.declared.output.Stop.{Stop}
 use Rattle.ua_report.specs.Reasons.{StopsWriting}

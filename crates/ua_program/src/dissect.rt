@@ -1,12 +1,12 @@
 //! The output of `ua dissect` for a source.
 
-ghost use Rattle.std.specs.Prelude.{◌≡◌, ◌++◌, ◌⊎◌, ◌<◌, [], ℕ, List, length, true};
+ghost use Rattle.std.specs.Prelude.{◌≡◌, ◌++◌, ◌⊎◌, ◌<◌, ℕ, List, length, true};
 ghost use Rattle.std.specs.Prelude.{false, cond, string_bytes, IfOk, IfErr, OnOk};
 ghost use Rattle.std.specs.Io.KnownBytes.{Appends};
 ghost use Rattle.ua_pair.specs.Dissecting.{StandsBehind};
 ghost use Rattle.ua_pair.specs.declared.options.DissectOptions.{DissectOptions};
 ghost use Rattle.ua_session.specs.declared.verdict.Verdict.TheVariants.{AllGood, SomeBad};
-ghost use Rattle.ua_report.specs.Digits.{HoldsNone, HoldsNever, HoldsOctets, HoldsSoFar};
+ghost use Rattle.ua_report.specs.Digits.{HoldsNone, HoldsNever, HoldsOctets};
 ghost use Rattle.ua_program.specs.Dissects.{DissectsAll, EndsFile, HasBegunDissecting, IsJudged, PrintsNext};
 ghost use Rattle.ua_program.specs.Dissects.{ReadsIntoFragment, StopsLast, StopsNext};
 ghost use Rattle.ua_program.specs.Dissects.{StopsReading, TellsPiece, ToldSoFar};
