@@ -1,11 +1,12 @@
 -- What a client sends at once, and what a server answers to it, one message after the other.
 use Rattle.std.proofs.Common.{◌≡◌, ℕ, ◌+◌, ◌<◌, ◌≤◌, ◌^◌, Bool, true, false, leb, IsTrue, List, [], ◌∷◌, ◌++◌, Option}
-use Rattle.std.proofs.Common.{Some, None, length, map, refl, arith, append-nil, append_assoc}
+use Rattle.std.proofs.Common.{Some, None, length, map, refl, sym, ◌∙◌, arith, append-nil, append_assoc}
 use Rattle.std.specs.Prelude.{if◌then◌else◌}
 use Rattle.std.specs.List.{AllByRecursion}
 use Rattle.std.proofs.lemmas.Bool.{leb-false}
 use Rattle.ua_builtin.specs.DateTime.{date_time}
 use Rattle.ua_builtin.specs.Reasons.{first_reason, or_else}
+use Rattle.ua_builtin.specs.declared.date_time.DateTime.{DateTime}
 use Rattle.ua_frame.specs.Frames.{frame_octets}
 use Rattle.ua_frame.specs.declared.ack.Ack.{Ack}
 use Rattle.ua_frame.specs.declared.frame.Frame.{Frame}
@@ -17,8 +18,8 @@ use Rattle.ua_channel_laws.specs.Answers.{Answer, BringsToken, AreAnswersTo, ans
 use Rattle.ua_channel_laws.specs.Answers.Answer.{ReplyTo, TokenFor}
 use Rattle.ua_channel.specs.Asks.{Placed, asked_in, next_id}
 use Rattle.ua_channel.specs.Asks.Asking.{Call, Renewal}
-use Rattle.ua_channel.specs.Client.{ClientStands, client_limits}
-use Rattle.ua_channel.specs.ClientAsks.{is_too_large, most_pending, most_tokens, no_id}
+use Rattle.ua_channel.specs.Client.{ClientStands, client_limits, renewal_refused}
+use Rattle.ua_channel.specs.ClientAsks.{is_too_large, most_pending, most_tokens, no_id, reasons_of_renewal}
 use Rattle.ua_channel_laws.specs.ClientReads.{AtClient, ClientReads, IsLaneBack, lane_from, told_reply, with_answer, with_call, with_renewal, with_reply}
 use Rattle.ua_channel.specs.ClientSends.{renewal_frame}
 use Rattle.ua_channel.specs.ClientTold.{ClientTold, Renewed}
@@ -33,6 +34,7 @@ use Rattle.ua_channel.specs.ServerTold.{Told, Asked, Opened}
 use Rattle.ua_channel.specs.declared.client.channel.ClientChannel.{ClientChannel}
 use Rattle.ua_channel_laws.proofs.ClientReadsMessages.{reads_call, reads_renewed, reads_replied}
 use Rattle.ua_channel_laws.proofs.ClientReadsMessages as client
+use Rattle.ua_channel_laws.proofs.ClientSending.{refuses_renewal}
 use Rattle.ua_channel.proofs.HeldTokens.{stays_in}
 use Rattle.ua_channel_laws.proofs.InStep.{body_for, in_more, in_step_answer, in_step_call, in_step_renewal, in_step_reply, lane_to}
 use Rattle.ua_channel_laws.proofs.ServerReadsMessages.{reads_message, reads_renewal}
@@ -258,7 +260,16 @@ in_step_answers server client url channel s c (TokenFor id handle token lifetime
 
 -- ---- why a channel does not send the next one
 
+or_none_behind : {A : Type 0} (o : Option A) → or_else o None ≡ o
+or_none_behind None = refl
+or_none_behind (Some x) = refl
+
 module _ (x : ClientChannel) (asks : List Placed) (octets : List ℕ) (frames : List Frame) (rest : List ℕ) (told : List ClientTold) (at : AtClient)
     (stands : ClientStands x asks octets frames rest) (r : ClientReads (client_limits x) asks octets told at) where
   abbrev next : ℕ
   next = next_id (asked_in asks)
+
+  pub renewal_is_refused : (moment : DateTime) → renewal_refused x ≡ outgoing_refusal at next (RenewalAt moment ∷ [])
+  renewal_is_refused moment =
+      refuses_renewal x asks octets frames rest told at stands r
+      ∙ sym (or_none_behind (first_reason (reasons_of_renewal (has_some at.renewals) (length at.tokens) next)))
