@@ -43,7 +43,8 @@ module _ {S : Type 0} (seen : S → Seen) where
   StandsAfter es first now octets t = (s : TalkStands seen es first now t) × (s.octets ≡ octets)
 
   -- the same behind the same events
-  abbrev pub stands_as : (es all : List SharedEvent) (first now : State) (t : Talk S) → es ≡ all → TalkStands seen es first now t → TalkStands seen all first now t
+  abbrev pub stands_as : (es all : List SharedEvent) (first now : State) (t : Talk S) → es ≡ all → TalkStands seen es first now t
+      → TalkStands seen all first now t
   stands_as es all first now t same s = record {
     octets = s.octets;
     written = s.written;
@@ -105,7 +106,8 @@ module _ {S : Type 0} (seen : S → Seen) where
 
     -- one did this, and then that
     pub went_then : (first : State) (before mid now : State × A) (a b c : Talk S)
-        → ((es : List SharedEvent) (s : TalkStands seen es first before.0 a) → Went seen acts es first before mid s.octets b) → b.phase ≡ phase.Going → c.number ≡ b.number
+        → ((es : List SharedEvent) (s : TalkStands seen es first before.0 a) → Went seen acts es first before mid s.octets b) → b.phase ≡ phase.Going
+        → c.number ≡ b.number
         → ((es : List SharedEvent) (s : TalkStands seen es first mid.0 b) → Went seen acts es first mid now s.octets c) → (es : List SharedEvent)
         (s : TalkStands seen es first before.0 a) → Went seen acts es first before now s.octets c
     went_then first before mid now a b c f going same h es s =

@@ -102,7 +102,8 @@ module _ {S : Type 0} (seen : S → Seen) where
           come = s.come;
           carried = λ c e. let before = heard_before (with_read w.piece) (seen a.socket).heard (seen b.socket).heard c w.heard_is e in
               let was = s.carried before.0 before.1 in (
-                ap (λ (x : Carried). x.read) before.2 ∙ ap (λ (x : List ℕ). x ++ w.piece) (was.0 ∙ ap (λ (x : List ℕ). s.octets ++ x) none ∙ append-nil s.octets),
+                ap (λ (x : Carried). x.read) before.2
+                    ∙ ap (λ (x : List ℕ). x ++ w.piece) (was.0 ∙ ap (λ (x : List ℕ). s.octets ++ x) none ∙ append-nil s.octets),
                 ap (λ (x : Carried). x.written) before.2 ∙ was.1,
               );
         },
@@ -191,9 +192,11 @@ module _ {S : Type 0} (seen : S → Seen) where
   failed_as x y a b e f = subst (λ (o : Option (Result End Failure)). FailedBy o a b) (sym e) f
 
   failed_writes : (a b : Talk S) → a.outcome ≡ None → WritesSocket seen a b → FailedBy b.outcome (seen a.socket) (seen b.socket)
-  failed_writes a b still (inl w) = failed_as b.outcome None (seen a.socket) (seen b.socket) (ap (λ (t : Talk S). t.outcome) w.is ∙ still) (ap (λ (x : Seen). x.failures) w.did)
+  failed_writes a b still (inl w) = failed_as b.outcome None (seen a.socket) (seen b.socket) (ap (λ (t : Talk S). t.outcome) w.is ∙ still)
+      (ap (λ (x : Seen). x.failures) w.did)
   failed_writes a b still (inr (inl w)) = failed_as b.outcome None (seen a.socket) (seen b.socket) (ap (λ (t : Talk S). t.outcome) w.is ∙ still) w.failures_is
-  failed_writes a b still (inr (inr w)) = failed_as b.outcome (Some (Err failure.Write)) (seen a.socket) (seen b.socket) (ap (λ (t : Talk S). t.outcome) w.is) w.failures_is
+  failed_writes a b still (inr (inr w)) = failed_as b.outcome (Some (Err failure.Write)) (seen a.socket) (seen b.socket) (ap (λ (t : Talk S). t.outcome) w.is)
+      w.failures_is
 
   -- ---- steps, and writes behind them
 
@@ -263,7 +266,8 @@ module _ {S : Type 0} (seen : S → Seen) where
       by (inr l) = inr (inr (inl l))
 
   -- a read of some bytes, with steps and writes behind it
-  pub turned_read : (a b c : Talk S) → a.outcome ≡ None → ReadsSocket seen a b → 0 < length b.unread → a.unread ≡ [] → SteppedAndWrote seen b c → Turned seen a c
+  pub turned_read : (a b c : Talk S) → a.outcome ≡ None → ReadsSocket seen a b → 0 < length b.unread → a.unread ≡ [] → SteppedAndWrote seen b c
+      → Turned seen a c
   turned_read a b c still (inl w) some none s = record {
     read = w.piece;
     written = s.written;

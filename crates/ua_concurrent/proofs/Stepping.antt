@@ -261,12 +261,14 @@ module _ {S A : Type 0} (seen : S → Seen) (acts : A → Act → A → Type 0) 
           come_by (Some ending.NoClose) x = absurd x
           come_by (Some ending.Cut) x = absurd x
 
-          come : KeepsStep step (record t { connection = c }) b → HasCome b.phase b.number b.connection octets (es ++ events_in (taken_step a.told (Some step) ∷ []))
+          come : KeepsStep step (record t { connection = c }) b
+              → HasCome b.phase b.number b.connection octets (es ++ events_in (taken_step a.told (Some step) ∷ []))
               first now (s.written ++ b.waiting)
           come (inl is) =
               subst (λ (v : Talk S). HasCome v.phase v.number v.connection octets (es ++ events_in (taken_step a.told (Some step) ∷ [])) first now
               (s.written ++ v.waiting)) (sym is)
-              (subst (λ (all : List SharedEvent). HasCome (phase_after_step step.end) t.number c octets all first now (s.written ++ (t.waiting ++ step.out.items)))
+              (subst (λ (all : List SharedEvent). HasCome (phase_after_step step.end) t.number c octets all first now
+              (s.written ++ (t.waiting ++ step.out.items)))
               (all_is a.told (Some step))
               (come_by step.end
               (subst (λ (x : List ℕ). AmongBy step.end own_id t.number (channel_at c) (session_at c) (s.octets ++ take step.taken x) step.out.items mid more

@@ -212,7 +212,8 @@ module _ {S : Type 0} (seen : S → Seen) where
       each q t f (inl e) = subst (λ (x : Talk S). TalkStands seen (es ++ events_in w.steps) first now.0 x) (sym (here q t e f)) w.stands
       each q t f (inr n) =
           let was : IsAt places q t = sym (others q n) ∙ f in
-          stands_beside seen b.number es (events_in w.steps) first before.0 now.0 t (λ e. n (s.numbered.apart q p t a was at (e ∙ same))) w.others (s.each q t was)
+          stands_beside seen b.number es (events_in w.steps) first before.0 now.0 t (λ e. n (s.numbered.apart q p t a was at (e ∙ same))) w.others
+          (s.each q t was)
 
   -- ---- one after the other
 

@@ -1,5 +1,6 @@
 -- That a client refuses a call only where it has to.
-use Rattle.std.proofs.Common.{◌≡◌, ◌⊎◌, inl, inr, ℕ, ◌+◌, ◌<◌, ◌≤◌, Bool, true, false, not, ◌&&◌, ◌||◌, eqb, leb, List, [], ◌∷◌, ◌++◌, map, length, Option, Some, None, Result, refl, sym, ◌∙◌, ap, subst, arith}
+use Rattle.std.proofs.Common.{◌≡◌, ◌⊎◌, inl, inr, ℕ, ◌+◌, ◌<◌, ◌≤◌, Bool, true, false, not, ◌&&◌, ◌||◌, eqb, leb, List}
+use Rattle.std.proofs.Common.{[], ◌∷◌, ◌++◌, map, length, Option, Some, None, Result, refl, sym, ◌∙◌, ap, subst, arith}
 use Rattle.std.specs.Prelude.{if◌then◌else◌, is_none, min, ◌-◌}
 use Rattle.std.specs.List.{filter}
 use Rattle.std.proofs.lemmas.Bool.{eq-eqb, leb-true, or_left, or_right}
@@ -169,7 +170,7 @@ one_left : (test : ℕ → Bool) (id : ℕ) (b : Outgoing) (done bodies : List O
 one_left test id (CallWith b) done bodies h further =
     let rest = further (λ k e. h k (or_right (eqb id k) (is_in k (call_ids (id + 1) done)) e)) in
     let drop : length (filter (λ (k : ℕ). not (test k)) (call_ids id (CallWith b ∷ bodies)))
-        ≡ length (filter (λ (k : ℕ). not (test k)) (call_ids (id + 1) bodies)) =
+    ≡ length (filter (λ (k : ℕ). not (test k)) (call_ids (id + 1) bodies)) =
     ap length (gone (test id) id (filter (λ (k : ℕ). not (test k)) (call_ids (id + 1) bodies))
     (h id (or_left (eqb id id) (is_in id (call_ids (id + 1) done)) (eq-eqb id id refl)))) in
     omega (arith, rest, drop)
@@ -214,7 +215,8 @@ none_first : (rs : List OpenResponse) → is_none (first_channel rs) ≡ true �
 none_first [] e = refl
 none_first (r ∷ rs) e = absurd cc
 
-module _ (connect : EndsConnect) (reach : RoundsReach) (earlier : AsksEarlier) (e : Ends) (can : CanOpen e) (y : ClientChannel) (h : History) (d : Did e y h) where
+module _ (connect : EndsConnect) (reach : RoundsReach) (earlier : AsksEarlier) (e : Ends) (can : CanOpen e) (y : ClientChannel) (h : History)
+    (d : Did e y h) where
   i : IsPlain connect reach earlier e can y h
   i = plain connect reach earlier e can y h d
 
@@ -256,7 +258,7 @@ module _ (connect : EndsConnect) (reach : RoundsReach) (earlier : AsksEarlier) (
       let left = few_left (is_finished before.messages) 2 a.0 h.ops a.1.first
       (λ k there. finished_told (client_limits y) h.asks i.goes.frames k (ap (is_in k) ids ∙ there)) in
       let size : length (pending_calls before.messages (asked_in h.asks))
-          ≡ length (filter (λ (k : ℕ). not (is_finished before.messages k)) (call_ids 2 h.ops)) =
+      ≡ length (filter (λ (k : ℕ). not (is_finished before.messages k)) (call_ids 2 h.ops)) =
       ap length (pending_are before.messages (asked_in h.asks) h.ops own) in
       let least = leb-true most_pending (length (pending_calls before.messages (asked_in h.asks)) + 0) many in
       omega (arith, least, size, left, a.1.alone)

@@ -4,7 +4,8 @@ use Rattle.std.specs.List.{concat}
 use Rattle.ua_builtin.specs.DateTime.{date_time}
 use Rattle.ua_builtin.specs.declared.date_time.DateTime.{DateTime}
 use Rattle.ua_channel.specs.Asks.Asking.{Call, Renewal}
-use Rattle.ua_channel.specs.Client.{ClientEnded, ClientGoes, ClientGoesTelling, ClientStands, SameClient, SendsCall, SendsRenewal, WhateverPassed, call_refused, client_next, renewal_refused}
+use Rattle.ua_channel.specs.Client.{ClientEnded, ClientGoes, ClientGoesTelling, ClientStands, SameClient, SendsCall}
+use Rattle.ua_channel.specs.Client.{SendsRenewal, WhateverPassed, call_refused, client_next, renewal_refused}
 use Rattle.ua_channel.specs.ClientAnswers.{ClientAnswers}
 use Rattle.ua_channel.specs.ClientTold.{ClientTold, ClientTold as heard, Why}
 use Rattle.ua_channel.specs.declared.client.channel.ClientChannel.{ClientChannel}
@@ -27,7 +28,8 @@ goes_so e y h (Renewed z id time out d many own dated refused sends goes) = goes
 pub called_on : (e : Ends) (x y : ClientChannel) (h : History) (id : ℕ) (body out : List ℕ) → Did e x h
     → length (tokens_in h.heard) ≡ renewals_in h.ops + 1 → 0 < length body → call_refused x 0 body ≡ None
     → SendsCall x (client_next x) body id out (client_next y) → SameClient x y
-    → WhateverPassed x (λ asks octets frames rest. ClientStands y (asks ++ (length octets, Call id) ∷ []) octets frames rest) → Did e y (with_op h id (CallWith body) out)
+    → WhateverPassed x (λ asks octets frames rest. ClientStands y (asks ++ (length octets, Call id) ∷ []) octets frames rest)
+    → Did e y (with_op h id (CallWith body) out)
 called_on e x y h id body out d many some refused sends same stands =
     let g = goes_so e x h d in
     Called y id body out d many (sym same.limits) some refused sends
@@ -52,12 +54,18 @@ module _ (e : Ends) (x y : ClientChannel) (h : History) (piece : List ℕ) (n : 
       ⊎ ((why : Why) × ClientEnded y h.asks (h.got ++ take n piece) h.heard why)
 
   telling : (t : ClientTold) → ClientGoesTelling y h.asks (h.got ++ take n piece) h.heard t → GoesOn
-  telling t g = inl (h.heard ++ t ∷ [], Took y (take n piece) (h.heard ++ t ∷ []) d (sym same.limits) number
-      (goes_behind y h.asks (h.got ++ take n piece) h.heard t g) back)
+  telling t g = inl (
+    h.heard ++ t ∷ [],
+    Took y (take n piece) (h.heard ++ t ∷ []) d (sym same.limits) number
+        (goes_behind y h.asks (h.got ++ take n piece) h.heard t g) back,
+  )
 
   pub took_on : (moment : DateTime) (t : ClientEvent) → ClientAnswers moment piece (Ok (n, t)) y h.asks h.got h.heard → GoesOn
-  took_on moment event.NeedMore a = inl (h.heard, Took y (take n piece) h.heard d (sym same.limits) number
-      (subst (λ (o : List ℕ). ClientGoes y h.asks (h.got ++ o) h.heard) (sym (take_all n piece (omega (arith, a.0)))) a.1) back)
+  took_on moment event.NeedMore a = inl (
+    h.heard,
+    Took y (take n piece) h.heard d (sym same.limits) number
+        (subst (λ (o : List ℕ). ClientGoes y h.asks (h.got ++ o) h.heard) (sym (take_all n piece (omega (arith, a.0)))) a.1) back,
+  )
   took_on moment (event.Send sent) a = telling (heard.Agreed a.ack) a.goes
   took_on moment event.Open a = telling (heard.Opened a.channel a.token) a.goes
   took_on moment (event.Answered id message) a = telling (heard.Answered id (concat message)) a.0

@@ -1,5 +1,6 @@
 -- That a client which calls whatever is unanswered sends what it would send one call after another, and refuses as little.
-use Rattle.std.proofs.Common.{◌≡◌, ℕ, ◌+◌, ◌<◌, ◌≤◌, Bool, true, false, leb, List, [], ◌∷◌, ◌++◌, length, Option, Some, None, refl, sym, ◌∙◌, ap, subst, arith, append_assoc, append-nil, length-append, IsTrue, suc}
+use Rattle.std.proofs.Common.{◌≡◌, ℕ, ◌+◌, ◌<◌, ◌≤◌, Bool, true, false, leb, List, [], ◌∷◌, ◌++◌, length, Option, Some}
+use Rattle.std.proofs.Common.{None, refl, sym, ◌∙◌, ap, subst, arith, append_assoc, append-nil, length-append, IsTrue, suc}
 use Rattle.std.proofs.lemmas.Bool.{lt-leb}
 use Rattle.std.proofs.lemmas.List.{nil_from_length}
 use Rattle.ua_builtin.specs.Reasons.{first_reason, or_else}
@@ -36,7 +37,8 @@ use Rattle.ua_channel_laws.specs.AskedEarlier.{AreEarlier}
 use Rattle.ua_channel_laws.specs.ClientReads.{ClientReads, lane_from, told_reply}
 use Rattle.ua_channel_laws.specs.Outgoing.Outgoing.{CallWith, RenewalAt}
 use Rattle.ua_channel_laws.specs.Outgoing.{AreWritable, Outgoing, asking_of, outgoing_refusal}
-use Rattle.ua_channel_laws.specs.Rounds.{AreConnected, BothEnds, answers_lane, round_behind, round_down, round_up, rounds_asks, rounds_down, rounds_heard, rounds_up}
+use Rattle.ua_channel_laws.specs.Rounds.{AreConnected, BothEnds, answers_lane, round_behind, round_down}
+use Rattle.ua_channel_laws.specs.Rounds.{round_up, rounds_asks, rounds_down, rounds_heard, rounds_up}
 use Rattle.ua_channel_laws.proofs.Following.{client_begins}
 use Rattle.ua_channel_laws.proofs.Groups.{none_parts, renewal_is_refused}
 use Rattle.ua_channel_laws.proofs.Lists.{split_last}
@@ -50,7 +52,8 @@ use Rattle.ua_server.proofs.SaidInParts.{said-append}
 use Rattle.ua_client.specs.Opening.{hello_octets, open_frame_octets}
 use Rattle.ua_headline.specs.Headline.{CameBack, Did, History, asked_from, renewals_in, tokens_in, with_op}
 use Rattle.ua_headline.specs.Headline.Did.{Opened, Took, Called, Renewed}
-use Rattle.ua_headline.specs.Talk.{AreRoundsAccepted, CanOpen, Ends, IsPrefix, TookOf, asks_in, both_opened, heard_in, opening_answer_of_ends, rounds_from, rounds_in, sent_in, told_by_turns, left_by}
+use Rattle.ua_headline.specs.Talk.{AreRoundsAccepted, CanOpen, Ends, IsPrefix, TookOf, asks_in, both_opened, heard_in}
+use Rattle.ua_headline.specs.Talk.{opening_answer_of_ends, rounds_from, rounds_in, sent_in, told_by_turns, left_by}
 use Rattle.ua_headline.proofs.Answered.{dated_behind}
 use Rattle.ua_headline.proofs.Brought.{ack_told, acks_told, acks_append, channel_stays, newest_last, tokens_append, tokens_are_told}
 use Rattle.ua_headline.proofs.Fronts.{prefix_of_prefix}
@@ -150,7 +153,7 @@ module _ (e : Ends) where
   pub length_heard_all : (ops : List Outgoing) → length (heard_in e (singly ops)) ≡ length ops + 2
   length_heard_all ops =
       let two : length (heard_in e (singly ops))
-          ≡ suc (suc (length (rounds_heard e.server e.channel (both_opened e) (rounds_in e (singly ops))))) = refl in
+      ≡ suc (suc (length (rounds_heard e.server e.channel (both_opened e) (rounds_in e (singly ops))))) = refl in
       omega (arith, two, length_heard (both_opened e) e.first (behind_first e.times) ops)
 
 -- ---- a client
@@ -229,7 +232,7 @@ module _ (connect : EndsConnect) (reach : RoundsReach) (earlier : AsksEarlier) (
     tokens_all : length (tokens_in hs) ≡ renewals_in h.ops + 1
     tokens_all =
         let one : length (tokens_in hs)
-            ≡ suc (length (tokens_in (rounds_heard e.server e.channel (both_opened e) (rounds_in e (singly h.ops))))) = refl in
+        ≡ suc (length (tokens_in (rounds_heard e.server e.channel (both_opened e) (rounds_in e (singly h.ops))))) = refl in
         omega (arith, one, as_many_tokens e (both_opened e) e.first (behind_first e.times) h.ops)
 
     acks_first : acks_told h.heard ++ acks_told told_later.0 ≡ ack_to (hello_to e.client e.url) e.server ∷ []
@@ -321,7 +324,8 @@ module _ (connect : EndsConnect) (reach : RoundsReach) (earlier : AsksEarlier) (
 
     -- ---- a call more
 
-    module _ (z : ClientChannel) (id : ℕ) (body out : List ℕ) (many : length (tokens_in h.heard) ≡ renewals_in h.ops + 1) (own : client_limits z ≡ client_limits y) (some : 0 < length body)
+    module _ (z : ClientChannel) (id : ℕ) (body out : List ℕ) (many : length (tokens_in h.heard) ≡ renewals_in h.ops + 1)
+        (own : client_limits z ≡ client_limits y) (some : 0 < length body)
         (refused : call_refused y 0 body ≡ None) (sends : SendsCall y (client_next y) body id out (client_next z))
         (goes : ClientGoes z (h.asks ++ (length h.got, Call id) ∷ []) h.got h.heard) where
       abbrev os : List Outgoing
@@ -352,7 +356,8 @@ module _ (connect : EndsConnect) (reach : RoundsReach) (earlier : AsksEarlier) (
           ∙ sym (append-nil (chunks_octets (chunks_of (lane_from at.client) body at.server.next at.id))))))
 
       next_is : client_next z
-          ≡ (round_behind e.server e.channel at (turn e at (past e.first (behind_first e.times) h.ops).0 (past e.first (behind_first e.times) h.ops).1 os)).server.next
+          ≡ (round_behind e.server e.channel at
+          (turn e at (past e.first (behind_first e.times) h.ops).0 (past e.first (behind_first e.times) h.ops).1 os)).server.next
       next_is =
           called.next_is
           ∙ (ap (λ (n : ℕ). number_after n (pieces (room_of called.ack) body)) i.number_is
@@ -458,7 +463,8 @@ module _ (connect : EndsConnect) (reach : RoundsReach) (earlier : AsksEarlier) (
           ∙ sym (append-nil (frame_octets (renewal_frame at.client.channel at.server.next at.id time))))))
 
       pub renewed_plain : IsPlain z (with_op h id (RenewalAt time) out)
-      renewed_plain = one_plain (RenewalAt time) z id out (dated, tt) renewal_judged renewal_out (asked.next_is ∙ ap next_number i.number_is) renewal_id own goes
+      renewed_plain = one_plain (RenewalAt time) z id out (dated, tt) renewal_judged renewal_out (asked.next_is ∙ ap next_number i.number_is) renewal_id own
+          goes
 
   -- ---- all that it did
 

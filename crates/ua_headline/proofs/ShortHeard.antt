@@ -158,7 +158,8 @@ as_many {A = A} xs ys (m, p) enough =
 
 -- ---- a client
 
-module _ (connect : EndsConnect) (reach : RoundsReach) (earlier : AsksEarlier) (e : Ends) (can : CanOpen e) (y : ClientChannel) (h : History) (d : Did e y h) where
+module _ (connect : EndsConnect) (reach : RoundsReach) (earlier : AsksEarlier) (e : Ends) (can : CanOpen e) (y : ClientChannel) (h : History)
+    (d : Did e y h) where
   i : IsPlain connect reach earlier e can y h
   i = plain connect reach earlier e can y h d
 

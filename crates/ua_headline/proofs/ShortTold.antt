@@ -115,7 +115,7 @@ module _ (e : Ends) where
       told_from_more (now f) (left_by s times (f ∷ [])).0 (left_by s times (f ∷ [])).1 first calls (more, tails c f calls (first ++ more) is) in (
         rest.0,
         subst (λ (b : Outgoing). told_at at s times (b ∷ calls) ≡ told_at at s times (f ∷ first) ++ rest.0) (sym one)
-        (ap (λ (us : List Told). told_one at f ∷ us) rest.1),
+            (ap (λ (us : List Told). told_one at f ∷ us) rest.1),
       )
 
   -- with the opening
@@ -191,7 +191,8 @@ module _ (connect : EndsConnect) (reach : RoundsReach) (earlier : AsksEarlier) (
           let are = are_of e (both_opened e) e.first (behind_first e.times) h.ops us (more, tails first_token v _ (us ++ more) rest) in
           let whole : u ∷ (v ∷ us) ≡ told_by_turns e (singly are.done) =
           ap (λ (w : Told). w ∷ (v ∷ us)) (sym one)
-          ∙ ap (λ (ws : List Told). Agreed (agreement_of e.server (hello_to e.client e.url)) ∷ ws) (ap (λ (w : Told). w ∷ us) (sym two) ∙ ap (λ (ws : List Told). first_token ∷ ws) are.told_is) in (
+          ∙ ap (λ (ws : List Told). Agreed (agreement_of e.server (hello_to e.client e.url)) ∷ ws) (ap (λ (w : Told). w ∷ us) (sym two)
+          ∙ ap (λ (ws : List Told). first_token ∷ ws) are.told_is) in (
             are.done,
             record {
               first = are.first;
@@ -234,7 +235,7 @@ module _ (connect : EndsConnect) (reach : RoundsReach) (earlier : AsksEarlier) (
       size : length (told_by_turns e (singly first.ops)) ≡ length first.ops + 2
       size =
           let two : length (told_by_turns e (singly first.ops))
-              ≡ suc (suc (length (rounds_told e.server e.channel (both_opened e) (rounds_in e (singly first.ops))))) = refl in
+          ≡ suc (suc (length (rounds_told e.server e.channel (both_opened e) (rounds_in e (singly first.ops))))) = refl in
           omega (arith, two, length_told e (both_opened e) e.first (behind_first e.times) first.ops)
 
       front : IsPrefix told (told_by_turns e (singly h.ops))

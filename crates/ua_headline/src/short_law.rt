@@ -1,11 +1,13 @@
 //! The headline in words of calls and replies alone. The contract of its function, which only looks,
 //! is the law.
 
-ghost use Rattle.std.specs.Prelude.{◌≡◌, ◌↔◌, ◌⊎◌, ◌<◌, ◌≤◌, ◌+◌, ◌++◌, ◌∷◌, [], ℕ, IsTrue, List, None, Some, Ok, length, take};
+ghost use Rattle.std.specs.Prelude.{◌≡◌, ◌↔◌, ◌⊎◌, ◌<◌, ◌≤◌, ◌+◌, ◌++◌, ◌∷◌, []};
+ghost use Rattle.std.specs.Prelude.{ℕ, IsTrue, List, None, Some, Ok, length, take};
 ghost use Rattle.ua_builtin.specs.DateTime.{date_time};
 ghost use Rattle.ua_builtin.specs.declared.date_time.DateTime.{DateTime};
 ghost use Rattle.ua_channel.specs.Client.{ClientEnded, ClientGoes, ClientStands, SameClient, SendsCall, SendsRenewal};
-ghost use Rattle.ua_channel.specs.Client.{WhateverPassed, call_refused, client_limits, client_next, client_rules_of, renewal_refused};
+ghost use Rattle.ua_channel.specs.Client.{WhateverPassed, call_refused, client_limits};
+ghost use Rattle.ua_channel.specs.Client.{client_next, client_rules_of, renewal_refused};
 ghost use Rattle.ua_channel.specs.Client.{client_bound_behind, held_octets};
 ghost use Rattle.ua_channel.specs.ClientAnswers.{ClientAnswers};
 ghost use Rattle.ua_channel.specs.declared.client.fault.AskFault.{AskFault};
@@ -32,7 +34,8 @@ ghost use Rattle.ua_frame.specs.declared.frame.Frame.{Frame};
 ghost use Rattle.ua_frame.specs.FirstWrong.{FirstWrong};
 ghost use Rattle.ua_frame.specs.Frames.{Frames};
 ghost use Rattle.ua_frame.specs.Run.{Going};
-ghost use Rattle.ua_headline.specs.Headline.{AreAnswered, AreTold, CameBack, Did, History, MayRefuse, asked_from, handed_in, replies_in};
+ghost use Rattle.ua_headline.specs.Headline.{AreAnswered, AreTold, CameBack, Did, History};
+ghost use Rattle.ua_headline.specs.Headline.{MayRefuse, asked_from, handed_in, replies_in};
 ghost use Rattle.ua_headline.specs.Headline.{renewals_in, tokens_in, with_bytes, with_op};
 ghost use Rattle.ua_headline.specs.Talk.{CanOpen, Ends, IsPrefix, left_by};
 
@@ -62,9 +65,10 @@ pub fn calls_are_answered(server: &Server, client: &ClientChannel)
         IsPrefix took h.sent → Goes (channel_in server.now) took told →
         (done : List Outgoing) × AreTold h.ops done told
         × ((now : State) → ServerStands (channel_in server.now) took told e.first e.times now →
-            now ≡ (left_by e.first (behind_first e.times) done).0) }
+        now ≡ (left_by e.first (behind_first e.times) done).0) }
     // Of some of the calls it was told exactly where all bytes of these came.
-    ensures whole { (e : Ends) (y z : ClientChannel) (h first : History) (took : List ℕ) (told : List Told) → CanOpen e →
+    ensures whole { (e : Ends) (y z : ClientChannel) (h first : History) (took : List ℕ) (told : List Told) → CanOpen e
+        →
         Did e y h → Did e z first → IsPrefix first.ops h.ops →
         limits_of (channel_in server.now) ≡ e.server → channel_of (channel_in server.now) ≡ e.channel →
         IsPrefix took h.sent → Goes (channel_in server.now) took told →
@@ -87,7 +91,8 @@ pub fn calls_are_answered(server: &Server, client: &ClientChannel)
         c.took ≡ h.sent → h.got ≡ output_of e.channel e.first c.told Going e.times →
         AreAnswered e h.ops h.ops h.heard × (length h.heard ≡ length h.ops + 2) }
     // It refuses nothing that comes, and no ERR comes.
-    ensures not_failed { (e : Ends) (y : ClientChannel) (h : History) (more : List ℕ) (told : List ClientTold) (why : Why) →
+    ensures not_failed { (e : Ends) (y : ClientChannel) (h : History) (more : List ℕ) (told : List ClientTold)
+        (why : Why) →
         CanOpen e → Did e y h → CameBack e h.sent (h.got ++ more) → client_limits client.now ≡ e.client →
         ClientEnded client.now h.asks (h.got ++ more) told why → ⊥ }
     // At either end bytes with a wrong frame end in a refusal, for the first reason of the table against
@@ -129,10 +134,13 @@ pub fn calls_are_answered(server: &Server, client: &ClientChannel)
 /// `next`, `same`).
 pub fn histories_go_on()
     ensures called { (e : Ends) (x y : ClientChannel) (h : History) (id : ℕ) (body out : List ℕ) → Did e x h →
-        length (tokens_in h.heard) ≡ renewals_in h.ops + 1 → 0 < length body → call_refused x 0 body ≡ None → SendsCall x (client_next x) body id out (client_next y) →
+        length (tokens_in h.heard) ≡ renewals_in h.ops + 1 → 0 < length body → call_refused x 0 body ≡ None
+        → SendsCall x (client_next x) body id out (client_next y) →
         SameClient x y → WhateverPassed x (λ asks octets frames rest.
-        ClientStands y (asks ++ (length octets, Call id) ∷ []) octets frames rest) → Did e y (with_op h id (CallWith body) out) }
-    ensures renewed { (e : Ends) (x y : ClientChannel) (h : History) (id : ℕ) (time : DateTime) (out : List ℕ) → Did e x h →
+        ClientStands y (asks ++ (length octets, Call id) ∷ []) octets frames rest)
+        → Did e y (with_op h id (CallWith body) out) }
+    ensures renewed { (e : Ends) (x y : ClientChannel) (h : History) (id : ℕ) (time : DateTime) (out : List ℕ)
+        → Did e x h →
         length h.heard ≡ length h.ops + 2 → IsTrue (date_time.encodable time) → renewal_refused x ≡ None →
         SendsRenewal x (client_next x) time id out (client_next y) →
         SameClient x y → WhateverPassed x (λ asks octets frames rest.

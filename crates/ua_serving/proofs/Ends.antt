@@ -234,7 +234,8 @@ module _ {R O E : Type 0} (contents : O → Option (List ℕ)) where
       missed mid.halt p mid q (count_over news) news refl led.1.same.1 led.1.same.2 printed.1 led.2 (λ none. comes mid q news none led.2)
   comes p q (Acts (Told number step items) ∷ news) is led =
       let mid = led.0 in
-      let printed = subst (λ x. PrintsBy (Acts (Told number step items)) p.writes p.goes_on x mid.halt (contents p.out.now) (contents mid.out.now)) is led.1.printed
+      let printed = subst (λ x. PrintsBy (Acts (Told number step items)) p.writes p.goes_on x mid.halt (contents p.out.now) (contents mid.out.now)) is
+      led.1.printed
       in
       behind_stored mid.halt p.writes p mid q items (count_over news) news refl refl led.1.same.1 led.1.same.2 printed led.2
       (λ none. comes mid q news none led.2)

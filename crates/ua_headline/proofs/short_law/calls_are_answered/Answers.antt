@@ -61,7 +61,8 @@ returns-clause-refuses c = λ octets frames rest told code f r.
 
 pub returns-clause-misses_none : goal.returns-clause-misses_none
 returns-clause-misses_none c = λ octets frames rest told code f w g. not_wrong (channel_in c.args.server.now) octets told code
-    ((c.server_reads.ensures.first_wrong (limits_of (channel_in c.args.server.now)) (channel_of (channel_in c.args.server.now)) octets frames rest code f).1 w) g
+    ((c.server_reads.ensures.first_wrong (limits_of (channel_in c.args.server.now)) (channel_of (channel_in c.args.server.now)) octets frames rest code f).1 w)
+    g
 
 pub returns-clause-client_refuses : goal.returns-clause-client_refuses
 returns-clause-client_refuses c = λ asks octets frames rest told why f r.

@@ -10,14 +10,16 @@ returns-then-not-take_in-clause-goes g c = λ es first s.
 
 pub returns-in-Err-clause-goes : goal.returns-in-Err-clause-goes
 returns-in-Err-clause-goes g c = λ es first s.
-    let told = subst (λ (n : ℕ). Tells g.E.Endings.notes g.E.Application.acts c.args.self.now.over n c.args.endings.now c.take_in.new.endings) (sym c.wait.ensures.same.0)
+    let told = subst (λ (n : ℕ). Tells g.E.Endings.notes g.E.Application.acts c.args.self.now.over n c.args.endings.now c.take_in.new.endings)
+    (sym c.wait.ensures.same.0)
     c.take_in.ensures.told in
     goes_told g.E.Endings.notes g.E.Application.acts es first c.args.services.now _ _ _ _ _ _ told
     (c.wait.ensures.stand es first c.args.services.now (c.take_in.ensures.stand es first c.args.services.now s))
 
 pub returns-then-release-clause-goes : goal.returns-then-release-clause-goes
 returns-then-release-clause-goes g c = λ es first s.
-    let told = subst (λ (n : ℕ). Tells g.E.Endings.notes g.E.Application.acts c.args.self.now.over n c.args.endings.now c.take_in.new.endings) (sym c.wait.ensures.same.0)
+    let told = subst (λ (n : ℕ). Tells g.E.Endings.notes g.E.Application.acts c.args.self.now.over n c.args.endings.now c.take_in.new.endings)
+    (sym c.wait.ensures.same.0)
     c.take_in.ensures.told in
     goes_both g.E.Endings.notes g.E.Application.acts es first _ _ _ _ _ _ _ _ _ _
     (goes_told g.E.Endings.notes g.E.Application.acts es first c.args.services.now _ _ _ _ _ _ told
@@ -29,7 +31,8 @@ returns-then-release-clause-goes g c = λ es first s.
 
 pub returns-else-release-clause-goes : goal.returns-else-release-clause-goes
 returns-else-release-clause-goes g c = λ es first s.
-    let told = subst (λ (n : ℕ). Tells g.E.Endings.notes g.E.Application.acts c.args.self.now.over n c.args.endings.now c.take_in.new.endings) (sym c.wait.ensures.same.0)
+    let told = subst (λ (n : ℕ). Tells g.E.Endings.notes g.E.Application.acts c.args.self.now.over n c.args.endings.now c.take_in.new.endings)
+    (sym c.wait.ensures.same.0)
     c.take_in.ensures.told in
     goes_both g.E.Endings.notes g.E.Application.acts es first _ _ _ _ _ _ _ _ _ _
     (goes_told g.E.Endings.notes g.E.Application.acts es first c.args.services.now _ _ _ _ _ _ told
@@ -41,7 +44,8 @@ returns-else-release-clause-goes g c = λ es first s.
 
 pub returns-then-not-goes_on-clause-goes : goal.returns-then-not-goes_on-clause-goes
 returns-then-not-goes_on-clause-goes g c = λ es first s.
-    let told = subst (λ (n : ℕ). Tells g.E.Endings.notes g.E.Application.acts c.args.self.now.over n c.args.endings.now c.take_in.new.endings) (sym c.wait.ensures.same.0)
+    let told = subst (λ (n : ℕ). Tells g.E.Endings.notes g.E.Application.acts c.args.self.now.over n c.args.endings.now c.take_in.new.endings)
+    (sym c.wait.ensures.same.0)
     c.take_in.ensures.told in
     goes_both g.E.Endings.notes g.E.Application.acts es first _ _ _ _ _ _ _ _ _ _
     (goes_told g.E.Endings.notes g.E.Application.acts es first c.args.services.now _ _ _ _ _ _ told
