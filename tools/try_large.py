@@ -385,7 +385,7 @@ def hold_bound(program: str, nodes: str) -> None:
     print('try_large: %d requests and %d messages within the bounds' % (len(THINNED), len(dissections())))
 
 def try_long(program: str) -> None:
-    tried = [(size, options, *it) for size in LENGTHS for options, their in (([], trials), (['--plain'], plain_trials)) for it in their(size)]
+    tried = [(size, ['--largest', str(MOST), *options], *it) for size in LENGTHS for options, their in (([], trials), (['--plain'], plain_trials)) for it in their(size)]
     wrong = [(size, path) for size, options, side, body, path, text in tried if line_of(program, options, side, body, path) != text]
     for size, path in wrong:
         print('try_large: %s of %d bytes: another line' % (path, size))
