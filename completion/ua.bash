@@ -5,11 +5,11 @@ _ua() {
     case $before in
         --policy) words='anonymous auto' ;;
         --connections) words='all' ;;
-        --answers | --at-once | --attribute | --count | --cut | --every | --kept | --largest | --live | --path | --range | --record | --url | --writes) return ;;
+        --answers | --at-once | --attribute | --count | --cut | --every | --kept | --largest | --path | --range | --record | --url) return ;;
     esac
     for ((at = 2; at < COMP_CWORD; at++)); do
         case ${COMP_WORDS[at]} in
-        --answers | --at-once | --attribute | --connections | --count | --cut | --every | --kept | --largest | --live | --path | --policy | --range | --record | --url | --writes) at=$((at + 1)) ;;
+        --answers | --at-once | --attribute | --connections | --count | --cut | --every | --kept | --largest | --path | --policy | --range | --record | --url) at=$((at + 1)) ;;
         -*) ;;
         *) place=$((place + 1)) ;;
         esac

@@ -43,18 +43,22 @@ class Word:
         return not self.name.isupper()
 
     @property
+    def is_flag(self) -> bool:
+        return self.kind.startswith("Flag")
+
+    @property
     def shown(self) -> str:
         """As a synopsis has it.
 
         >>> [it.shown for it in (Word("NODE", "Several", ""), Word("SCRIPT", "Any", ""), Word("DOWN", "Optional", ""), Word("cut", "NumberOr", ""))]
         ['NODE..', '[SCRIPT..]', '[DOWN]', '--cut N']
-        >>> Word("kept", "NumberOrNone", "").shown
-        '--kept [N]'
+        >>> Word("kept", "NumberOrNone", "").shown, Word("live", "FlagWithout", "").shown
+        ('--kept [N]', '--live')
         """
         if not self.is_option:
             return {"Any": f"[{self.name}..]", "Optional": f"[{self.name}]", "Several": f"{self.name}.."}.get(self.kind, self.name)
-        value = {"Flag": "", "NumberOrNone": " [N]"}.get(self.kind, " " + (self.value or "N"))
-        return f"--{self.name}{value}"
+        value = " [N]" if self.kind == "NumberOrNone" else " " + (self.value or "N")
+        return f"--{self.name}{value * (not self.is_flag)}"
 
 @dataclass(frozen=True)
 class Command:
@@ -153,7 +157,7 @@ def first_page(about: str, commands: list[Command]) -> str:
 
 def completion(commands: list[Command]) -> str:
     """The completion for bash: commands, options, the values that some options have, and files by their place."""
-    valued = sorted({f"--{it.name}" for command in commands for it in command.words if it.is_option and it.kind != "Flag"})
+    valued = sorted({f"--{it.name}" for command in commands for it in command.words if it.is_option and not it.is_flag})
     names = " ".join([*(it.name for it in commands), "help"])
     lines = [f"        {' | '.join(f'--{name}' for name in [option])}) words='{' '.join(values)}' ;;" for option, values in VALUES.items()
              if f"--{option}" in valued]
