@@ -1,3 +1,1 @@
-mod Passed
-mod Pieces
 mod Talks
