@@ -70,69 +70,15 @@ fn exchanges_the_same_bytes_in_all_fragments(rt: HostRuntime) -> Result<(), Fail
 }
 
 #[test]
-fn exchanges_65_requests(rt: HostRuntime) -> Result<(), Fail> {
-    let (alloc, vectors) = (rt.alloc(), Vectors::new(rt.alloc())?);
-    let octets = vectors.octets("0100AC01 0000 $AT 02000000 $ASKING FFFFFFFF FFFFFFFF FFFFFFFF")?;
-    for length in [0, 1, 7, 65535] {
-        let mut turns = Vec::new(alloc);
-        for _ in 0..65 {
-            turns.push(Turn::Ask(request_in(alloc, octets.as_slice())?))?;
-        }
-        let nodes = NodeTable::load(alloc, "")?;
-        let lengths = lengths(alloc, length)?;
-        let found = exchange(
-            alloc,
-            nodes,
-            turns.as_slice(),
-            lengths.as_slice(),
-            lengths.as_slice(),
-            MOMENT,
-        )?;
-        let sizes = (found.up.len(), found.down.len(), found.replies.len());
-        assert_eq!(rt;
-            (sizes, found.end),
-            ((4730, 20833, 65), End::Closed),
-            "{length}"
-        );
-    }
-    Ok(())
-}
-
-/// Why these operations are not all accepted.
-fn refused(alloc: Global, turns: &[Turn]) -> Result<Option<PairFault>, Fail> {
-    let nodes = NodeTable::load(alloc, PUMP)?;
-    Ok(exchange(alloc, nodes, turns, &[], &[], MOMENT).err())
-}
-
-#[test]
 fn names_the_operation_that_is_refused(rt: HostRuntime) -> Result<(), Fail> {
-    let (alloc, vectors) = (rt.alloc(), Vectors::new(rt.alloc())?);
-    let mut turns = Vec::new(alloc);
+    let mut turns = Vec::new(rt.alloc());
     for _ in 0..16 {
         turns.push(Turn::Renew)?;
     }
+    let nodes = NodeTable::load(rt.alloc(), PUMP)?;
+    let found = exchange(rt.alloc(), nodes, turns.as_slice(), &[], &[], MOMENT);
     let want = PairFault::Request(15, AskFault::TooManyTokens);
-    assert_eq!(rt; refused(alloc, turns.as_slice())?, Some(want));
-    let mut long = vectors.octets(
-        "0100A102 $TOKEN $AT 04000000 $ASKING 01000000 $VALUE 01 0C 00001000",
-    )?;
-    long.resize(long.len().saturating_add(1_048_576), b'a')?;
-    let mut turns = Vec::new(alloc);
-    turns.push(Turn::Ask(request_in(alloc, long.as_slice())?))?;
-    let want = PairFault::Request(0, AskFault::RequestTooLarge);
-    assert_eq!(rt; refused(alloc, turns.as_slice())?, Some(want));
-    let mut turns = Vec::new(alloc);
-    for words in [
-        "0100AC01 0000 $AT 02000000 $ASKING FFFFFFFF FFFFFFFF FFFFFFFF",
-        "0100A102 $TOKEN $AT 04000000 $ASKING 01000000 $VALUE 01 1A 02000000 ABCD",
-    ] {
-        let octets = vectors.octets(words)?;
-        turns.push(Turn::Ask(request_in(alloc, octets.as_slice())?))?;
-    }
-    assert_eq!(rt;
-        refused(alloc, turns.as_slice())?,
-        Some(PairFault::NotWritable(1))
-    );
+    assert_eq!(rt; found.err(), Some(want));
     Ok(())
 }
 

@@ -3,9 +3,7 @@
 use crate::vectors::{MOMENT, Vectors, limits, row_of, url};
 use std::alloc::Global;
 use std::test::Fail;
-use ua_channel::{
-    AskFault, ChannelFault, ClientChannel, ClientEvent, ReplyFault, ServerChannel, ServerEvent,
-};
+use ua_channel::{AskFault, ChannelFault, ClientChannel, ClientEvent, ServerChannel, ServerEvent};
 use ua_chunk::Message;
 use ua_frame::Limits;
 
@@ -131,30 +129,6 @@ fn answers_clients_in_all_fragments(rt: HostRuntime) -> Result<(), Fail> {
             );
         }
     }
-    Ok(())
-}
-
-#[test]
-fn greets_by_need_more_55_times(rt: HostRuntime) -> Result<(), Fail> {
-    let vectors = Vectors::new(rt.alloc())?;
-    let (hello, ack) = (vectors.octets("$HEL_FREE")?, vectors.octets("$ACK")?);
-    let mut channel = ServerChannel::new(rt.alloc(), limits()?, 7);
-    let mut waits = 0u32;
-    for octet in hello.as_slice() {
-        match channel.take(&[*octet], MOMENT)? {
-            (1, ServerEvent::NeedMore) => waits = waits.saturating_add(1),
-            (1, ServerEvent::Send(octets)) => assert_eq!(rt; octets.as_slice(), ack.as_slice()),
-            _ => panic!(rt; "no ACK"),
-        }
-    }
-    assert_eq!(rt; waits, 55);
-    assert_eq!(rt; channel.bound(), 4_259_839);
-    channel.end();
-    assert_eq!(rt;
-        channel.take(&[0], MOMENT).err(),
-        Some(ChannelFault::Closed)
-    );
-    assert_eq!(rt; channel.reply(2, &[1]).err(), Some(ReplyFault::NotOpen));
     Ok(())
 }
 

@@ -1,41 +1,14 @@
 //! Chunks: their headers, bodies that are split, and messages that are reassembled.
 
+ghost use Rattle.std.specs.Prelude.{◌≡◌};
+
 use crate::vectors::{Vectors, number_of, row_of};
 use bytes::Bytes;
 use hex;
 use std::alloc::Global;
 use std::test::Fail;
-use ua_builtin::{NodeId, Source, Wire};
-use ua_chunk::{AssembleFault, Assembler, Delivered, Lane, cut, cut_in_place, read_chunk};
+use ua_chunk::{Assembler, CutFault, Delivered, Lane, cut, cut_in_place, read_chunk};
 use ua_frame::{Frame, Kind};
-
-/// The largest body of a chunk, the limits of bytes and of chunks, a SequenceNumber, and how long the body is:
-/// the next number, and how long the chunks are, or why there are none.
-const CUTS: &str = "\
-8168 0 0 5 8168 = 6 8192
-8168 0 0 5 8169 = 7 8217
-8168 0 0 4294966272 8169 = 2 8217
-8168 0 0 4294966271 8168 = 4294966272 8192
-8168 0 2 5 16336 = 7 16384
-8168 0 2 5 16337 = the body has too many chunks
-8168 8168 1 5 8168 = 6 8192
-8168 8168 1 5 8169 = the body has too many octets
-1 0 0 0 2 = 2 50
-";
-
-/// Last numbers, the number after each, and whether it follows.
-const NUMBERS: &str = "\
-4294966272 1 = true
-4294966272 4294966273 = true
-4294966272 1023 = true
-4294966272 1024 = false
-4294966271 1 = false
-4294967295 0 = true
-4294967295 4294967295 = false
-1 1 = false
-1 3 = false
-0 1 = true
-";
 
 /// Chunks of a connection, by flag, SequenceNumber, RequestId and body, and what comes of each.
 const CHUNKS: &str = "\
@@ -65,12 +38,8 @@ A 2 7 0000B980 02000000 6E = the body of the abort is unreadable
 F 2 7 17*07 = the message has too many octets
 ";
 
-/// What comes of a chunk with this flag, SequenceNumber, RequestId and body.
-fn accept(
-    assembler: &mut Assembler,
-    vectors: &Vectors,
-    words: &str,
-) -> Result<Result<Option<Delivered>, AssembleFault>, Fail> {
+/// What comes of a chunk with this flag, SequenceNumber, RequestId and body, as a text.
+fn accepted(assembler: &mut Assembler, vectors: &Vectors, words: &str) -> Result<String, Fail> {
     let (flag, words) = words.split_once(' ').ok_or("no flag")?;
     let (sequence, words) = words.split_once(' ').ok_or("no number")?;
     let (id, body) = words.split_once(' ').unwrap_or((words, ""));
@@ -83,17 +52,8 @@ fn accept(
     if !Kind::Msg.has_flag(flag) || body.len() < 16 {
         return Err(Fail::from("no chunk"));
     }
-    let frame = Frame {
-        kind: Kind::Msg,
-        flag,
-        body,
-    };
-    Ok(assembler.accept(read_chunk(frame)))
-}
-
-/// The same as a text.
-fn accepted(assembler: &mut Assembler, vectors: &Vectors, words: &str) -> Result<String, Fail> {
-    match accept(assembler, vectors, words)? {
+    let kind = Kind::Msg;
+    match assembler.accept(read_chunk(Frame { kind, flag, body })) {
         Ok(None) => Ok(String::from_str(vectors.alloc(), "waits")?),
         Ok(Some(delivered)) => told(vectors.alloc(), &delivered),
         Err(fault) => Ok(format!(in vectors.alloc(); "{fault}")?),
@@ -118,60 +78,71 @@ fn told(alloc: Global, delivered: &Delivered) -> Result<String, Fail> {
     }
 }
 
-/// How long the chunks of a body are that a row describes, and the number after them; alike in a new vector and
-/// in the body's own.
-fn cut_of(alloc: Global, words: &str) -> Result<String, Fail> {
-    let mut numbers = [0; 5];
-    for (number, word) in numbers.iter_mut().zip(words.split(' ')) {
-        *number = number_of(word)?;
+/// The number after the chunks of a body of this length, and how long they are, or why there are none; alike in a new
+/// vector and in the body's own.
+fn cut_of(
+    alloc: Global,
+    lane: &Lane,
+    sequence: u32,
+    len: usize,
+) -> Result<Result<(u32, usize), CutFault>, Fail>
+    requires room { lane.now.room ≡ 8168 }
+{
+    let (mut body, mut out) = (Vec::new(alloc), Vec::new(alloc));
+    body.resize(len, 7)?;
+    if body.is_empty() || sequence > 4_294_966_272 {
+        return Err(Fail::from("no body"));
     }
-    let [room, octets, chunks, sequence, len] = numbers;
-    let lane = Lane {
-        channel: 1,
-        token: 2,
-        room,
-        octets,
-        chunks,
-    };
-    let mut body = Vec::new(alloc);
-    body.resize(len as usize, 7)?;
-    if room == 0 || room > 8168 || body.is_empty() || sequence > 4_294_966_272 {
-        return Err(Fail::from("no row"));
-    }
-    let mut out = Vec::new(alloc);
-    let next = cut(&lane, body.as_slice(), sequence, 3, &mut out);
-    let again = cut_in_place(&lane, &mut body, sequence, 3);
+    let next = cut(lane, body.as_slice(), sequence, 3, &mut out);
+    let again = cut_in_place(lane, &mut body, sequence, 3);
     match next {
-        Ok(next) if again == Ok(next) && out == body => {
-            Ok(format!(in alloc; "{next} {}", out.len())?)
-        }
-        Err(fault) if again == Err(fault) && out.is_empty() => Ok(format!(in alloc; "{fault}")?),
+        Ok(next) if again == Ok(next) && out == body => Ok(Ok((next, out.len()))),
+        Err(fault) if again == Err(fault) && out.is_empty() => Ok(Err(fault)),
         _ => Err(Fail::from("not alike")),
     }
 }
 
 #[test]
 fn splits_bodies_into_chunks(rt: HostRuntime) -> Result<(), Fail> {
-    for line in CUTS.lines() {
-        let (words, told) = row_of(line).ok_or("no row")?;
-        assert_eq!(rt; cut_of(rt.alloc(), words)?.as_str(), told, "{line}");
+    for (octets, chunks, sequence, len, want) in [
+        (0, 0, 5, 8168, Ok((6, 8192))),
+        (0, 0, 5, 8169, Ok((7, 8217))),
+        (0, 0, 4_294_966_272, 8169, Ok((2, 8217))),
+        (0, 0, 4_294_966_271, 8168, Ok((4_294_966_272, 8192))),
+        (0, 2, 5, 16336, Ok((7, 16384))),
+        (0, 2, 5, 16337, Err(CutFault::TooManyChunks)),
+        (8168, 1, 5, 8168, Ok((6, 8192))),
+        (8168, 1, 5, 8169, Err(CutFault::TooManyOctets)),
+    ] {
+        let lane = Lane {
+            channel: 1,
+            token: 2,
+            room: 8168,
+            octets,
+            chunks,
+        };
+        assert_eq!(rt; cut_of(rt.alloc(), &lane, sequence, len)?, want, "{len}");
     }
     Ok(())
 }
 
 #[test]
-fn takes_the_numbers_that_follow(rt: HostRuntime) -> Result<(), Fail> {
-    for line in NUMBERS.lines() {
-        let (words, follows) = row_of(line).ok_or("no row")?;
-        let (last, next) = words.split_once(' ').ok_or("no number")?;
-        let mut assembler = Assembler::new(rt.alloc(), 0, 0, Some(number_of(last)?));
-        assert_eq!(rt;
-            assembler.step(number_of(next)?).is_ok(),
-            follows == "true",
-            "{line}"
-        );
+fn takes_the_numbers_that_follow(rt: HostRuntime) {
+    for (last, next, follows) in [
+        (4_294_966_272, 1, true),
+        (4_294_966_272, 4_294_966_273, true),
+        (4_294_966_272, 1023, true),
+        (4_294_966_272, 1024, false),
+        (4_294_966_271, 1, false),
+        (4_294_967_295, 0, true),
+        (4_294_967_295, 4_294_967_295, false),
+        (1, 1, false),
+        (1, 3, false),
+        (0, 1, true),
+    ] {
+        let mut assembler = Assembler::new(rt.alloc(), 0, 0, Some(last));
+        assert_eq!(rt; assembler.step(next).is_ok(), follows, "{last} {next}");
     }
-    Ok(())
 }
 
 #[test]
@@ -199,31 +170,6 @@ fn reassembles_interleaved_messages(rt: HostRuntime) -> Result<(), Fail> {
             told,
             "{line}"
         );
-    }
-    Ok(())
-}
-
-#[test]
-fn reads_a_node_id_in_parts(rt: HostRuntime) -> Result<(), Fail> {
-    let vectors = Vectors::new(rt.alloc())?;
-    let mut assembler = Assembler::new(rt.alloc(), 0, 0, None);
-    for (words, is_last) in [
-        ("C 1 7 03010006", false),
-        ("C 2 7 000000486F", false),
-        ("C 3 7", false),
-        ("C 4 7 74E6", false),
-        ("F 5 7 B0B4", true),
-    ] {
-        match accept(&mut assembler, &vectors, words)? {
-            Ok(Some(Delivered::Whole(7, message))) => {
-                let mut src = message.source();
-                assert_eq!(rt; src.left(), 13);
-                let node = NodeId::read(rt.alloc(), &mut src, 1)?;
-                assert_eq!(rt; node.to_text(rt.alloc())?.as_str(), "ns=1;s=Hot水");
-                assert!(rt; is_last && src.left() == 0);
-            }
-            found => assert!(rt; matches!(found, Ok(None)) && !is_last, "{words}"),
-        }
     }
     Ok(())
 }

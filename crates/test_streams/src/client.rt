@@ -150,34 +150,11 @@ fn talks_over_transports(rt: HostRuntime) -> Result<(), Fail> {
 }
 
 #[test]
-fn a_failed_client_is_closed(rt: HostRuntime) -> Result<(), Fail> {
-    let (alloc, vectors) = (rt.alloc(), Vectors::new(rt.alloc())?);
-    let mut line = line_of(alloc, "all all!3", vectors.octets("$DOWN")?)?;
-    let mut client = Client::open(alloc, &mut line, limits()?, url(alloc)?, MOMENT)?;
-    assert_eq!(rt; client.next_id(), Some(2));
-    assert_eq!(rt;
-        client.begin_session(&mut line, MOMENT).err(),
-        Some(ClientFault::Write)
-    );
-    let requests = requests(&vectors)?;
-    assert!(rt;
-        matches!(
-            client.call_all(&mut line, requests.as_slice(), MOMENT),
-            Err(ClientFault::Closed)
-        )
-    );
-    assert_eq!(rt; client.renew(&mut line, MOMENT), Err(ClientFault::Closed));
-    assert_eq!(rt; client.close(&mut line, MOMENT), Err(ClientFault::Closed));
-    assert_eq!(rt; (client.next_id(), client.held()), (None, 0));
-    assert_eq!(rt; line.written().len(), 188);
-    Ok(())
-}
-
-#[test]
 fn keeps_the_replies_before_a_fault(rt: HostRuntime) -> Result<(), Fail> {
     let (alloc, vectors) = (rt.alloc(), Vectors::new(rt.alloc())?);
     let mut line = line_of(alloc, "all all", vectors.octets("$DOWN[..649]")?)?;
     let mut client = Client::open(alloc, &mut line, limits()?, url(alloc)?, MOMENT)?;
+    assert_eq!(rt; client.next_id(), Some(2));
     client.begin_session(&mut line, MOMENT)?;
     let (requests, mut replies) = (requests(&vectors)?, Vec::new(alloc));
     let found = client.call_into(&mut line, requests.as_slice(), MOMENT, &mut replies);
@@ -187,5 +164,7 @@ fn keeps_the_replies_before_a_fault(rt: HostRuntime) -> Result<(), Fail> {
     };
     assert_eq!(rt; found, Err(want));
     assert_eq!(rt; bodies(alloc, replies)?, vectors.octets("$WRITTEN_1")?);
+    assert_eq!(rt; client.close(&mut line, MOMENT), Err(ClientFault::Closed));
+    assert_eq!(rt; (client.next_id(), client.held()), (None, 0));
     Ok(())
 }

@@ -3,13 +3,10 @@
 use crate::services::{PUMP, reply, services_over};
 use crate::transports::line_of;
 use crate::vectors::{MOMENT, Vectors, limits, row_of};
-use example_callers::{Pulse, serve_pulse};
 use std::alloc::Global;
-use std::mem;
 use std::test::Fail;
-use ua_builtin::NodeId;
 use ua_channel::{ListMoments, MemoryLine};
-use ua_server::{End, ServeFault, ServeTerms, Server, Services, Unwatched, serve};
+use ua_server::{End, ServeFault, Server, Services, serve};
 
 /// The paces of a transport and what comes over it: how the connection ends, what is written, and then the answer
 /// to the Read.
@@ -103,31 +100,6 @@ fn ends_cleanly_behind_eight_fronts(rt: HostRuntime) -> Result<(), Fail> {
     Ok(())
 }
 
-/// Puts a byte into a place, and answers what stood there.
-fn set(octets: &mut Vec<u8>, place: usize, octet: u8) -> u8 {
-    match octets.get_mut(place) {
-        Some(found) => mem::replace(found, octet),
-        None => 0,
-    }
-}
-
-#[test]
-fn answers_spoiled_streams_in_all_fragments(rt: HostRuntime) -> Result<(), Fail> {
-    let vectors = Vectors::new(rt.alloc())?;
-    let mut up = vectors.octets("$UP")?;
-    for octet in [0, 0x7F, 0xFF] {
-        for place in 0..757 {
-            let kept = set(&mut up, place, octet);
-            let (line, end) = served(rt.alloc(), "all all", up.as_slice())?;
-            let (slow, again) = served(rt.alloc(), "1 1", up.as_slice())?;
-            assert!(rt; end.is_ok() && end == again, "{octet} at {place}");
-            assert_eq!(rt; line.written(), slow.written(), "{octet} at {place}");
-            set(&mut up, place, kept);
-        }
-    }
-    Ok(())
-}
-
 /// Chunks of a message under a RequestId, from a SequenceNumber on, each with a body of so many zeros.
 fn push_chunks(
     vectors: &Vectors,
@@ -175,61 +147,5 @@ fn holds_as_much_as_its_bound(rt: HostRuntime) -> Result<(), Fail> {
     octets.resize(octets.len().saturating_add(65526), 0)?;
     let server = server_after(&mut services, &vectors, octets.as_slice())?;
     assert_eq!(rt; (server.held(), server.bound()), (4_259_838, 4_259_839));
-    Ok(())
-}
-
-#[test]
-fn takes_256_chunks(rt: HostRuntime) -> Result<(), Fail> {
-    let vectors = Vectors::new(rt.alloc())?;
-    for (flag, is_refused) in [(b'C', true), (b'F', true), (b'A', false)] {
-        let mut services = services_over(rt.alloc(), PUMP)?;
-        let mut octets = vectors.octets("$HEL_FREE $OPN")?;
-        push_chunks(&vectors, 2, 256, 2, 0, &mut octets)?;
-        let mut server = server_after(&mut services, &vectors, octets.as_slice())?;
-        let mut last = vectors.octets(
-            "'MSGA 20000000 01000000 01000000 02010000 02000000 00000000 00000000",
-        )?;
-        if let Some(found) = last.get_mut(3) {
-            *found = flag;
-        }
-        let step = server.step(&mut services, last.as_slice(), MOMENT)?;
-        assert_eq!(rt; step.end.is_some(), is_refused, "{flag}");
-    }
-    Ok(())
-}
-
-#[test]
-fn an_application_acts_before_each_answer(rt: HostRuntime) -> Result<(), Fail> {
-    let (alloc, vectors) = (rt.alloc(), Vectors::new(rt.alloc())?);
-    let mut services = services_over(alloc, "ns=1;s=Pump\trw\tPump\tBoolean\tfalse\n")?;
-    let id = NodeId::parse_text(alloc, "ns=1;s=Pump")?;
-    let mut pulse = Pulse {
-        id,
-        is_on: true,
-        moment: MOMENT,
-    };
-    let terms = ServeTerms {
-        alloc,
-        limits: limits()?,
-        channel_id: 1,
-    };
-    let mut line = line_of(alloc, "all all", vectors.octets("$BEGIN $READ_4")?)?;
-    let mut ticks = Vec::new(alloc);
-    ticks.push(MOMENT.ticks)?;
-    let mut moments = ListMoments::new(ticks);
-    let end = serve_pulse(
-        &mut line,
-        &mut services,
-        terms,
-        &mut moments,
-        &mut Unwatched,
-        &mut pulse,
-    );
-    assert_eq!(rt; end, Ok(End::NoClose));
-    let want = vectors.octets(
-        "$DOWN[..585] 'MSGF 4F000000 01000000 01000000 04000000 04000000 01007A02 $AT 05000000 $GOOD 01000000 0D 0101 \
-        $AT $AT FFFFFFFF",
-    )?;
-    assert_eq!(rt; line.written(), want.as_slice());
     Ok(())
 }
