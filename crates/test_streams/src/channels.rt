@@ -5,11 +5,9 @@ use std::alloc::Global;
 use std::test::Fail;
 use ua_channel::{AskFault, ChannelFault, ClientChannel, ClientEvent, ServerChannel, ServerEvent};
 use ua_chunk::Message;
-use ua_frame::Limits;
 
 /// What a client sends to channel 7, and all that is sent back by a server that returns each message.
 const TALKS: &str = "\
-$HEL_FREE = $ACK
 $HEL_FREE $OPN = $ACK $OPENED_7
 'HELF 38000000 00000000 00200000 00200000 00000000 00000000 $URL = 'ACKF 1C000000 00000000 00200000 00200000 \
 00001000 00010000
@@ -32,11 +30,9 @@ $HEL_FREE 'OPNF 84000000 00000000 $NONE 01000000 01000000 0100BE01 0000 $AT 0000
 02000000 FFFFFFFF 80EE3600 = $ACK 'ERRF 10000000 00005480 FFFFFFFF
 $OPEN $HEL_FREE = $OK 'ERRF 10000000 00007E80 FFFFFFFF
 $OPEN 'MSGF 17000000 = $OK 'ERRF 10000000 00000780 FFFFFFFF
-$OPEN 'MSGF FFFFFF7F = $OK 'ERRF 10000000 00008080 FFFFFFFF
 $OPEN 'MSGF 00000100 = $OK 'ERRF 10000000 00008080 FFFFFFFF
 $OPEN 'MSGF 19000000 08000000 01000000 02000000 02000000 AA = $OK 'ERRF 10000000 00007F80 FFFFFFFF
 $OPEN 'MSGF 19000000 07000000 02000000 02000000 02000000 AA = $OK 'ERRF 10000000 00008780 FFFFFFFF
-$OPEN 'MSGF 19000000 08000000 02000000 02000000 02000000 AA = $OK 'ERRF 10000000 00007F80 FFFFFFFF
 $OPEN 'MSGF 19000000 07000000 01000000 03000000 02000000 AA = $OK 'ERRF 10000000 00008880 FFFFFFFF
 $OPEN 'MSGA 21000000 07000000 01000000 02000000 02000000 0000B980 FFFFFFFF 00 = $OK 'ERRF 10000000 00000780 FFFFFFFF
 $OPEN 'OPNF 84000000 07000000 $NONE 02000000 02000000 $ISSUE = $OK 'ERRF 10000000 00005380 FFFFFFFF
@@ -110,23 +106,11 @@ fn joined(alloc: Global, message: &Message) -> Result<Vec<u8>, Fail> {
 #[test]
 fn answers_clients_in_all_fragments(rt: HostRuntime) -> Result<(), Fail> {
     let vectors = Vectors::new(rt.alloc())?;
-    for (receive, send, message, chunks) in [
-        (8191, 8192, 1, 1),
-        (8192, 8191, 1, 1),
-        (8192, 8192, 0, 1),
-        (8192, 8192, 1, 0),
-    ] {
-        assert!(rt; Limits::new(receive, send, message, chunks).is_none());
-    }
     for line in TALKS.lines() {
         let (up, down) = row_of(line).ok_or("no row")?;
         let (up, down) = (vectors.octets(up)?, vectors.octets(down)?);
         for size in [1, 7, 65535] {
-            assert_eq!(rt;
-                echo(&vectors, up.as_slice(), size)?.as_slice(),
-                down.as_slice(),
-                "{size} {line}"
-            );
+            assert_eq!(rt; echo(&vectors, up.as_slice(), size)?, down, "{size} {line}");
         }
     }
     Ok(())
@@ -150,17 +134,10 @@ fn writes_the_frames_of_a_client(rt: HostRuntime) -> Result<(), Fail> {
     assert_eq!(rt; channel.judge(0, 1_048_576), Ok(()));
     assert_eq!(rt; channel.judge(0, 1_048_577), Err(AskFault::RequestTooLarge));
     assert_eq!(rt; channel.judge(64, 1), Err(AskFault::TooManyPending));
-    let (id, octets) = channel.renew(MOMENT)?;
-    assert_eq!(rt; (id, octets), (2, vectors.octets("$RENEWAL_7")?));
+    assert_eq!(rt; channel.renew(MOMENT)?, (2, vectors.octets("$RENEWAL_7")?));
     assert_eq!(rt; channel.renew(MOMENT).err(), Some(AskFault::RenewPending));
-    let (id, octets) = channel.ask(&[0xAA])?;
-    assert_eq!(rt;
-        (id, octets),
-        (
-            3,
-            vectors.octets("'MSGF 19000000 07000000 01000000 03000000 03000000 AA")?
-        )
-    );
+    let asked = vectors.octets("'MSGF 19000000 07000000 01000000 03000000 03000000 AA")?;
+    assert_eq!(rt; channel.ask(&[0xAA])?, (3, asked));
     let renewed = vectors.octets("$RENEWED_7")?;
     assert!(rt;
         matches!(

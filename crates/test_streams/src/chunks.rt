@@ -2,7 +2,7 @@
 
 ghost use Rattle.std.specs.Prelude.{◌≡◌};
 
-use crate::vectors::{Vectors, number_of, row_of};
+use crate::vectors::{Vectors, row_of};
 use bytes::Bytes;
 use hex;
 use std::alloc::Global;
@@ -44,8 +44,8 @@ fn accepted(assembler: &mut Assembler, vectors: &Vectors, words: &str) -> Result
     let (sequence, words) = words.split_once(' ').ok_or("no number")?;
     let (id, body) = words.split_once(' ').unwrap_or((words, ""));
     let mut octets = vectors.octets("01000000 02000000")?;
-    octets.extend_from_slice(&number_of(sequence)?.to_le_bytes())?;
-    octets.extend_from_slice(&number_of(id)?.to_le_bytes())?;
+    octets.extend_from_slice(&sequence.parse::<u32>()?.to_le_bytes())?;
+    octets.extend_from_slice(&id.parse::<u32>()?.to_le_bytes())?;
     octets.extend_from_slice(vectors.octets(body)?.as_slice())?;
     let flag = flag.as_bytes().first().copied().ok_or("no flag")?;
     let body = Bytes::copy_from_slice(vectors.alloc(), octets.as_slice())?;

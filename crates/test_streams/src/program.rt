@@ -7,7 +7,6 @@ use std::alloc::Global;
 use std::io;
 use std::test::Fail;
 use std::time::{Clock, Duration};
-use ua_builtin::StatusCode;
 use ua_channel::{Line, LineFault, Moments};
 use ua_client::ClientFault;
 use ua_report::{Fault, LoopFault};
@@ -81,10 +80,8 @@ fn names_faults(rt: HostRuntime) -> Result<(), Fail> {
         let found = format!(in rt.alloc(); "{}", Fault::Asking(QuestionFault::from(fault)))?;
         assert_eq!(rt; found.as_str(), want);
     }
-    let code = StatusCode { code: 0x80BE_00EF };
     for (fault, want) in [
         (LoopFault::Exhausted, "connection Exhausted"),
-        (LoopFault::Service(code), "service 80BE00EF"),
         (LoopFault::UnknownResponse, "connection UnknownResponse"),
         (LoopFault::NoMemory, "no memory"),
     ] {

@@ -197,11 +197,6 @@ pub fn row_of(line: &str) -> Option<(&str, &str)> {
     line.split_once(" = ")
 }
 
-/// The number that a word is.
-pub fn number_of(word: &str) -> Result<u32, Fail> {
-    Ok(word.parse::<u32>()?)
-}
-
 /// The limits of the program at either end.
 pub fn limits() -> Result<Limits, Fail> {
     Ok(Limits::new(65535, 65535, 1_048_576, 256).ok_or("no limits")?)
