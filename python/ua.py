@@ -2,7 +2,7 @@
 
 It has no input and output: octets that came go in, octets to be sent come out. docs/PYTHON.md has a server, and
 examples/python/read.py is a client over a socket. Each call is one of ua.h, which says what it keeps. The library is
-`libua.so`, or the file that UA_LIBRARY of the environment names. Times are in units of 100 nanoseconds since 1601-01-01
+`libua.so.0`, or the file that UA_LIBRARY of the environment names. Times are in units of 100 nanoseconds since 1601-01-01
 00:00 UTC.
 
 >>> nodes = Nodes("ns=1;s=Pump\\trw\\tPump\\tInt32\\t5\\n", "opc.tcp://localhost:4840")
@@ -31,14 +31,28 @@ import ctypes
 import os
 import struct
 import time
-from ctypes import POINTER, byref, c_char_p, c_int64, c_size_t, c_uint8, c_uint16, c_uint32
+from ctypes import byref, c_int64, c_size_t, c_uint8, c_uint16, c_uint32, c_void_p
 from dataclasses import dataclass
 from typing import Any, Callable
 
-OK, NO_MEMORY, REFUSED, ENDED, TOO_SMALL, SERVICE, NO_MORE, NO_TEXT = 0, 1, 6, 7, 18, 21, 25, 27
+OK, NO_MEMORY, REFUSED, ENDED, TOO_SMALL, SERVICE, UNKNOWN, NO_MORE, NO_TEXT = 0, 1, 6, 7, 18, 21, 22, 25, 27
 EVENTS = ("NEED_MORE", "SEND", "OPEN", "ANSWERED", "ABORTED", "RENEWED", "FAILED", "FAILED_BY_PEER")
 # The type id of each number that a Variant may hold alone or in an array, and how `struct` reads it.
 NUMBERS = {1: "?", 2: "b", 3: "B", 4: "h", 5: "H", 6: "i", 7: "I", 8: "q", 9: "Q", 10: "f", 11: "d", 13: "q", 19: "I"}
+# Of each call its parameters: a pointer, octets or a buffer with their size, a size, and numbers of 32 and of 64 bits.
+CALLS = {
+    "ua_free": "p", "ua_waiting": "p", "ua_fetch": "pop", "ua_held": "p", "ua_bound": "p", "ua_nodes_new": "oooouppp", "ua_node_find": "pop",
+    "ua_node_set": "psop", "ua_node_get": "psopp", "ua_connection_new": "pup", "ua_connection_step": "ppoippp", "ua_next_written": "pppopp",
+    "ua_client_new": "pop", "ua_client_hello": "p", "ua_client_take": "poipppp", "ua_client_ask": "pop", "ua_client_renew": "pip",
+    "ua_client_close": "pi", "ua_encode_value": "ooop", "ua_decode_value": "oop", "ua_value_text": "ouopp", "ua_text_value": "oouopp",
+    "ua_get_endpoints_request": "oiuop", "ua_create_session_request": "oiuop", "ua_activate_session_request": "oiuop",
+    "ua_activate_session_request_as": "ooiuopp", "ua_close_session_request": "oiuop", "ua_read_request": "oiuoooppp",
+    "ua_write_request": "oiuoooopp", "ua_response_kind": "opp", "ua_choose_policy": "oopp", "ua_session_token": "oopp", "ua_response_text": "ooopp",
+    "ua_readings": "oopp", "ua_version": "", "ua_status_text": "uop", "ua_code_name": "uop",
+}
+PARAMETERS = {"p": [c_void_p], "o": [c_void_p, c_size_t], "s": [c_size_t], "u": [c_uint32], "i": [c_int64]}
+# How many texts a request takes; those behind the first come behind its numbers, but the PolicyId.
+REQUESTS = {"get_endpoints": (1,), "create_session": (1,), "activate_session": (1, 2), "close_session": (1,), "read": (3,), "write": (4,)}
 # The octets of the first buffer of a call; where they are too few, the call says how many it takes.
 ROOM = 4096
 
@@ -50,12 +64,17 @@ class Handle(ctypes.Structure):
 
 
 class Limits(ctypes.Structure):
-    """What one end of a connection allows: octets of frames each way, octets and chunks of messages."""
+    """What one end of a connection allows: octets of frames each way, octets and chunks of messages.
+
+    >>> Limits(65535, 65535, 1048576, 2**32)
+    Traceback (most recent call last):
+    OverflowError: 4294967296 is no number of 32 bits
+    """
 
     _fields_ = [(name, c_uint32) for name in ("size", "receive_buffer_size", "send_buffer_size", "max_message_size", "max_chunk_count")]
 
     def __init__(self, *sizes: int) -> None:
-        super().__init__(ctypes.sizeof(Limits), *sizes)
+        super().__init__(ctypes.sizeof(Limits), *(_checked(c_uint32, it) for it in sizes))
 
 
 class _Reading(ctypes.Structure):
@@ -64,6 +83,13 @@ class _Reading(ctypes.Structure):
         ("source_picoseconds", c_uint16), ("server_picoseconds", c_uint16), ("has_value", c_uint8), ("has_status", c_uint8),
         ("has_source_time", c_uint8), ("has_server_time", c_uint8), ("has_source_picoseconds", c_uint8), ("has_server_picoseconds", c_uint8),
     ]
+
+
+def _checked(kind: Any, number: int) -> Any:
+    """A number for C, where it has room for it: `ctypes` would cut it."""
+    if kind(number).value != number:
+        raise OverflowError(f"{number} is no number of {8 * ctypes.sizeof(kind)} bits")
+    return number
 
 
 LIMITS = Limits(65535, 65535, 1048576, 256)
@@ -79,9 +105,11 @@ class Error(Exception):
 
 
 def _load() -> Any:
-    library = ctypes.CDLL(os.environ.get("UA_LIBRARY", "libua.so"))
-    for name in ("ua_waiting", "ua_held", "ua_bound"):
-        getattr(library, name).restype = c_size_t
+    library = ctypes.CDLL(os.environ.get("UA_LIBRARY", "libua.so.0"))
+    for name, parameters in CALLS.items():
+        call = getattr(library, name)
+        call.argtypes = [kind for it in parameters for kind in PARAMETERS[it]]
+        call.restype = c_size_t if name in ("ua_waiting", "ua_held", "ua_bound") else c_uint32
     library.ua_free.restype = None
     return library
 
@@ -91,13 +119,18 @@ _library = _load()
 
 def _octets(given: str | bytes) -> list[Any]:
     """A text, or octets, as a call takes it."""
-    octets = given.encode() if isinstance(given, str) else given
-    return [c_char_p(octets), c_size_t(len(octets))]
+    octets = given.encode() if isinstance(given, str) else bytes(memoryview(given))
+    return [octets, len(octets)]
+
+
+def _bits(kind: Any, number: int) -> int:
+    """A number as a call takes it."""
+    return int(_checked(kind, number))
 
 
 def _call(name: str, *given: Any, ok: tuple[int, ...] = (OK,), **numbers: Any) -> int:
     """A call that answers a status. Numbers are those that it gives back, behind what is given; they are told of an error."""
-    status = getattr(_library, name)(*given, *(byref(it) for it in numbers.values())) & 0xFFFFFFFF
+    status = getattr(_library, name)(*given, *(byref(it) for it in numbers.values()))
     if status not in ok:
         raise Error(name, status, **{name: it.value for name, it in numbers.items() if isinstance(it, (c_size_t, c_uint32))})
     return status
@@ -108,7 +141,7 @@ def _made(name: str, *given: Any, behind: tuple[Any, ...] = (), tells: tuple[str
     room = ROOM
     while True:
         buffer, needed = ctypes.create_string_buffer(room), c_size_t()
-        status = getattr(_library, name)(*given, buffer, c_size_t(room), byref(needed), *(byref(it) for it in behind)) & 0xFFFFFFFF
+        status = getattr(_library, name)(*given, buffer, room, byref(needed), *(byref(it) for it in behind))
         if status == OK:
             return buffer.raw[: needed.value]
         if status != TOO_SMALL:
@@ -123,18 +156,23 @@ def status_text(status: int) -> str:
     'the buffer is too small'
     """
     buffer, needed = ctypes.create_string_buffer(256), c_size_t()
-    if _library.ua_status_text(c_uint32(status), buffer, c_size_t(256), byref(needed)) != OK:
+    if _library.ua_status_text(_bits(c_uint32, status), buffer, 256, byref(needed)) != OK:
         return f"status {status}"
     return buffer.raw[: needed.value].decode()
 
 
-def code_name(code: int) -> str:
-    """The standard's name of a status code.
+def code_name(code: int) -> str | None:
+    """The standard's name of a status code; None where it has none that the library knows.
 
-    >>> code_name(0x80340000)
-    'BadNodeIdUnknown'
+    >>> code_name(0x80340000), code_name(0x80340001)
+    ('BadNodeIdUnknown', None)
     """
-    return _made("ua_code_name", c_uint32(code)).decode()
+    try:
+        return _made("ua_code_name", _bits(c_uint32, code)).decode()
+    except Error as error:
+        if error.status == UNKNOWN:
+            return None
+        raise
 
 
 def version() -> tuple[int, int, int]:
@@ -175,7 +213,7 @@ def value_text(value: bytes, plain: bool = True) -> tuple[str, str] | None:
     """
     size = c_size_t()
     try:
-        text = _made("ua_value_text", *_octets(value), c_uint32(plain), behind=(size,)).decode()
+        text = _made("ua_value_text", *_octets(value), int(plain), behind=(size,)).decode()
     except Error as error:
         if error.status == NO_TEXT:
             return None
@@ -192,7 +230,7 @@ def text_value(kind: str, text: str, plain: bool = True) -> bytes:
     Traceback (most recent call last):
     ua.Error: ua_text_value: a text is none of those that the call takes (reason 10)
     """
-    return _made("ua_text_value", *_octets(kind), *_octets(text), c_uint32(plain), behind=(c_uint32(),), tells=("reason",))
+    return _made("ua_text_value", *_octets(kind), *_octets(text), int(plain), behind=(c_uint32(),), tells=("reason",))
 
 
 def _number(kind: int) -> Callable[[Any], bytes]:
@@ -231,8 +269,9 @@ class Reading:
     def _to_c(self) -> _Reading:
         given = _Reading(value_len=len(self.value or b""), has_value=self.value is not None)
         for name in ("status", "source_time", "source_picoseconds", "server_time"):
-            if getattr(self, name) is not None:
-                setattr(given, name, getattr(self, name))
+            number = getattr(self, name)
+            if number is not None:
+                setattr(given, name, _checked(dict(_Reading._fields_)[name], number))
                 setattr(given, "has_" + name, 1)
         return given
 
@@ -266,17 +305,22 @@ class _Held:
         """The octets that wait: they are to be sent, or behind ANSWERED the body of a reply."""
         room, fetched = _library.ua_waiting(byref(self._handle)), c_size_t()
         buffer = ctypes.create_string_buffer(room or 1)
-        _call("ua_fetch", byref(self._handle), buffer, c_size_t(room), fetched=fetched)
+        _call("ua_fetch", byref(self._handle), buffer, room, fetched=fetched)
         return buffer.raw[: fetched.value]
 
 
 class Nodes(_Held):
-    """Nodes that connections share, of the text of a node file, and what a server of them says of itself."""
+    """Nodes that connections share, of the text of a node file, and what a server of them says of itself.
+
+    >>> Nodes("", "opc.tcp://localhost:4840").set(2**64, Reading(int32(7)))
+    Traceback (most recent call last):
+    OverflowError: 18446744073709551616 is no number of 64 bits
+    """
 
     def __init__(self, file: str | bytes, url: str, application_uri: str = "urn:ua:server", name: str = "ua", max_message_size: int = 0) -> None:
         super().__init__()
         texts = [it for text in (file, url, application_uri, name) for it in _octets(text)]
-        _call("ua_nodes_new", *texts, c_uint32(max_message_size), byref(self._handle), line=c_size_t(), reason=c_uint32())
+        _call("ua_nodes_new", *texts, _bits(c_uint32, max_message_size), byref(self._handle), line=c_size_t(), reason=c_uint32())
 
     def find(self, node: str) -> int:
         """The index of a node, which stays."""
@@ -289,62 +333,66 @@ class Nodes(_Held):
         given = reading._to_c()
         if not given.has_source_time:
             given.source_time, given.has_source_time = now(), 1
-        _call("ua_node_set", byref(self._handle), c_size_t(index), *_octets(reading.value or b""), byref(given))
+        _call("ua_node_set", byref(self._handle), _bits(c_size_t, index), *_octets(reading.value or b""), byref(given))
 
     def get(self, index: int) -> Reading:
         """What a node holds."""
         reading = _Reading()
-        octets = _made("ua_node_get", byref(self._handle), c_size_t(index), behind=(reading,))
+        octets = _made("ua_node_get", byref(self._handle), _bits(c_size_t, index), behind=(reading,))
         return Reading._of_c(octets, reading)
 
 
 class Connection(_Held):
-    """One connection of a server, with a channel id of its own."""
+    """One connection of a server, with a channel id of its own. It is stepped with the same nodes from its first step on."""
 
     def __init__(self, channel: int, limits: Limits = LIMITS) -> None:
         super().__init__()
         self.ended: str | None = None
         self._written: list[tuple[int, Reading]] = []
-        _call("ua_connection_new", byref(limits), c_uint32(channel), byref(self._handle))
+        self._room = ctypes.create_string_buffer(ROOM)
+        _call("ua_connection_new", byref(limits), _bits(c_uint32, channel), byref(self._handle))
 
     def step(self, nodes: Nodes, piece: bytes, moment: int | None = None) -> bytes:
         """Takes a whole piece of the client's octets, and hands back what is to be sent. `ended` says how the connection
-        ended, if it did: what then is handed back is to be sent first."""
-        said, moment = b"", now() if moment is None else moment
+        ended, if it did: what then is handed back is to be sent first. What clients wrote before, and was not taken, is
+        let go of."""
+        self._written, said, at = [], [], 0
+        moment = _bits(c_int64, now() if moment is None else moment)
+        octets = ctypes.create_string_buffer(bytes(memoryview(piece)), len(piece) + 1)
         while self.ended is None:
             taken, waiting, code = c_size_t(), c_size_t(), c_uint32()
             status = _call(
-                "ua_connection_step", byref(self._handle), byref(nodes._handle), *_octets(piece), c_int64(moment),
+                "ua_connection_step", byref(self._handle), byref(nodes._handle), ctypes.addressof(octets) + at, len(piece) - at, moment,
                 ok=(OK, ENDED, REFUSED), taken=taken, waiting=waiting, code=code,
             )
-            said += self.fetch() if waiting.value else b""
+            if waiting.value:
+                said.append(self.fetch())
             self._gather(nodes)
-            piece = piece[taken.value :]
+            at += taken.value
             if status != OK:
                 self.ended = "Closed" if status == ENDED else f"Refused {code.value:08X}"
-            if not piece:
+            if at == len(piece):
                 break
-        return said
+        return b"".join(said)
 
     def _gather(self, nodes: Nodes) -> None:
         """Asks what the step stored, which the next one lets go of."""
-        room = ROOM
         while True:
-            index, reading = c_size_t(), _Reading()
-            buffer, needed = ctypes.create_string_buffer(room), c_size_t()
+            index, reading, needed = c_size_t(), _Reading(), c_size_t()
             status = _call(
-                "ua_next_written", byref(self._handle), byref(nodes._handle), byref(index), buffer, c_size_t(room), byref(needed),
+                "ua_next_written", byref(self._handle), byref(nodes._handle), byref(index), self._room, len(self._room), byref(needed),
                 byref(reading), ok=(OK, NO_MORE, TOO_SMALL),
             )
             if status == NO_MORE:
                 return
             if status == OK:
-                self._written.append((index.value, Reading._of_c(buffer.raw, reading)))
-            room = max(room, needed.value)
+                self._written.append((index.value, Reading._of_c(self._room.raw[: needed.value], reading)))
+            elif needed.value > len(self._room):
+                self._room = ctypes.create_string_buffer(needed.value)
 
     def take_written(self) -> list[tuple[int, Reading]]:
-        """What clients wrote since this was last asked, item by item and in order: the index of the node, and its value
-        with the status and times that the client wrote beside it."""
+        """What the client wrote by the last call of `step`, item by item and in order: the index of the node, and its value
+        with the status and times that the client wrote beside it. Ask behind each."""
         written, self._written = self._written, []
         return written
 
@@ -367,7 +415,7 @@ class Client(_Held):
         taken, event, ident, code = c_size_t(), c_uint32(), c_uint32(), c_uint32()
         moment = now() if moment is None else moment
         _call(
-            "ua_client_take", byref(self._handle), *_octets(piece), c_int64(moment), ok=(OK, REFUSED),
+            "ua_client_take", byref(self._handle), *_octets(piece), _bits(c_int64, moment), ok=(OK, REFUSED),
             taken=taken, event=event, id=ident, code=code,
         )
         return taken.value, EVENTS[event.value], ident.value, code.value, self.fetch()
@@ -379,21 +427,28 @@ class Client(_Held):
 
     def renew(self, moment: int | None = None) -> bytes:
         """The request for a further token."""
-        _call("ua_client_renew", byref(self._handle), c_int64(now() if moment is None else moment), id=c_uint32())
+        _call("ua_client_renew", byref(self._handle), _bits(c_int64, now() if moment is None else moment), id=c_uint32())
         return self.fetch()
 
     def end(self, moment: int | None = None) -> bytes:
         """The CLO."""
-        _call("ua_client_close", byref(self._handle), c_int64(now() if moment is None else moment))
+        _call("ua_client_close", byref(self._handle), _bits(c_int64, now() if moment is None else moment))
         return self.fetch()
 
     def request(self, name: str, *texts: str, moment: int | None = None) -> bytes:
         """The body of a request, by the name of its call: `get_endpoints`, `create_session`, `activate_session` (a token, and
         where it is not `anonymous` a PolicyId), `close_session`, `read` (a token, lines of nodes, an index range), `write` (a
-        token, a node, a type, a text)."""
-        self.requests += 1
+        token, a node, a type, a text).
+
+        >>> Client("opc.tcp://a").request("read", "ns=2;i=1")
+        Traceback (most recent call last):
+        TypeError: read takes 3 texts, and not 1
+        """
+        if len(texts) not in REQUESTS[name]:
+            raise TypeError(f"{name} takes {' or '.join(map(str, REQUESTS[name]))} texts, and not {len(texts)}")
+        self.requests = self.requests % 0xFFFFFFFF + 1
         split = 1 if name in ("read", "write") else len(texts)
-        numbers = [c_int64(now() if moment is None else moment), c_uint32(self.requests)]
+        numbers = [_bits(c_int64, now() if moment is None else moment), self.requests]
         first, rest = ([it for text in part for it in _octets(text)] for part in (texts[:split], texts[split:]))
         tells = {"read": ("reason", "index"), "write": ("reason",), "activate_session": ("reason",) * (len(texts) == 2)}.get(name, ())
         behind = tuple(c_size_t() if it == "index" else c_uint32() for it in tells)
@@ -426,9 +481,9 @@ def response_kind(body: bytes) -> tuple[int, int]:
 
 def readings(body: bytes) -> list[Reading]:
     """The results of the Read whose reply this is, in order."""
-    count, code, places = c_size_t(), c_uint32(), (_Reading * (len(body) // 16))()
+    count, code, places = c_size_t(), c_uint32(), (_Reading * (len(body) // 16 + 1))()
     while True:
-        status = _call("ua_readings", *_octets(body), places, c_size_t(len(places)), ok=(OK, TOO_SMALL), count=count, code=code)
+        status = _call("ua_readings", *_octets(body), places, len(places), ok=(OK, TOO_SMALL), count=count, code=code)
         if status == OK:
             return [Reading._of_c(body, places[at]) for at in range(count.value)]
         places = (_Reading * count.value)()

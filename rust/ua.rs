@@ -129,6 +129,7 @@ impl Status {
     pub const NO_MORE: Status = Status(25);
     pub const NO_POLICY: Status = Status(26);
     pub const NO_TEXT: Status = Status(27);
+    pub const BAD_ARGUMENT: Status = Status(28);
 }
 
 /// `call` of ua.h answered `status`. The numbers are those that the call tells, each 0 where there is none: the bad

@@ -5,7 +5,7 @@ Each declaration has the name, the result and the parameters of an export, by ty
 each export is declared; the structures of limits and of a reading have the fields of the crate's, in order; each status and
 each event has one number in the header and in src/, and each definition of specs/Status.antt has that of
 the header; each kind of response of ua_services has its number in the header; include/ua.hpp names each number by its own
-name, and makes each call, but those of the server of one connection, and rust/ua.rs declares these calls and has the statuses; the version of the header is
+name, and makes each call, but those of the server of one connection, and rust/ua.rs declares these calls and has the statuses; python/ua.py has their parameters; the version of the header is
 that of specs/Words.antt and of the program; the records of specs/ that say what a call of the library says have a field
 for each of its clauses, in order; include/ua_null.h is what follows from the declarations, and with --write
 it is written. The status is 1 at the first difference, which is printed.
@@ -97,43 +97,56 @@ def declarations(header: str) -> Calls:
         found[name] = (result, types)
     return found
 
-NULL = """/* In C and C++ a null pointer whose length is 0 is an empty text, or a buffer without room, and ua_free(NULL) does
- * nothing: ua.h includes this, which tools/check_c_header.py --write writes from its declarations. */
-static inline const uint8_t *ua_some(const uint8_t *octets) {
-    static const uint8_t none[1] = {0};
-    return octets ? octets : none;
-}
-
-static inline uint8_t *ua_room(uint8_t *buffer) {
-    static uint8_t none[1];
-    return buffer ? buffer : none;
-}
-
-static inline struct ua_reading *ua_places(struct ua_reading *readings) {
-    static struct ua_reading none[1];
-    return readings ? readings : none;
-}
-
-static inline void ua_free_some(struct ua_handle *handle) {
-    if (handle)
-        ua_free(handle);
-}
-#define ua_free ua_free_some
+NULL = """/* Null pointers, in C and C++ with GCC or Clang: ua.h includes this, which
+ * tools/check_c_header.py --write writes from its declarations. Where a pointer with a length is null, the call takes it
+ * as empty if the length is 0, and else answers UA_BAD_ARGUMENT; ua_free(NULL) does nothing.
+ * Each of these functions stands in front of the library's function of its name, which is `_given` here. */
+#if defined(__GNUC__)
+"""
+# What stands behind the functions of include/ua_null.h.
+NULL_END = """
+#endif
 """
 
 def null_header(found: Calls) -> str:
-    """What include/ua_null.h has to be: each call with octets or a buffer, with another pointer in the place of a null one."""
+    """What include/ua_null.h has to be: what is done in front of each call with octets or with a buffer."""
     out = NULL
-    other = {'const uint8_t *': 'ua_some(%s)', 'uint8_t *': 'ua_room(%s)', 'struct ua_reading *': 'ua_places(%s)'}
     for name, (result, parameters) in found.items():
-        counted = {given.removesuffix('_len') for _, given in parameters if given.endswith('_len')}
-        if counted:
-            head = 'static inline %s %s_some(' % (result, name)
-            declared = [kind + ' ' * (kind[-1] != '*') + given for kind, given in parameters]
-            handed = [(other[kind] if given in counted else '%s') % given for kind, given in parameters]
-            out += '\n' + wrapped(head, declared, ') {', '') + wrapped('return %s(' % name, handed, ');', '    ')
-            out += '}\n#define %s %s_some\n' % (name, name)
-    return out
+        counted = [given.removesuffix('_len') for _, given in parameters if given.endswith('_len')]
+        frees = name == 'ua_free'
+        if not counted and not frees:
+            continue
+        declared = [kind + ' ' * (kind[-1] != '*') + given for kind, given in parameters]
+        out += '\n' + wrapped('%s %s_given(' % (result, name), declared, ') __asm__("%s");' % name, '')
+        out += wrapped('static inline %s %s(' % (result, name), declared, ') __asm__("%s_in_front");' % name, '')
+        out += wrapped('static inline %s %s(' % (result, name), declared, ') {', '') + in_front(parameters, counted, frees)
+        handed = ['%s ? %s : (%s)(void *)&%s_len' % (it, it, kind, it) if it in counted else it for kind, it in parameters]
+        out += wrapped('%s%s_given(' % ('' if frees else 'return ', name), handed, ');', '    ') + '}\n'
+    return out + NULL_END
+
+def in_front(parameters: list[tuple[str, str]], counted: list[str], frees: bool) -> str:
+    """What a call does before it makes the library's, as lines.
+
+    >>> print(in_front([('uint8_t *', 'buffer'), ('size_t', 'buffer_len'), ('size_t *', 'needed')], ['buffer'], False), end='')
+        if (!buffer && buffer_len) {
+            *needed = 0;
+            return UA_BAD_ARGUMENT;
+        }
+    >>> print(in_front([('struct ua_handle *', 'handle')], [], True), end='')
+        if (!handle)
+            return;
+    """
+    lines = ['    if (!%s)\n        return;\n' % it for _, it in parameters if frees]
+    if counted:
+        tests = ['(!%s && %s_len)' % (it, it) for it in counted]
+        lines.append('    if (%s) {\n' % (tests[0][1:-1] if len(tests) == 1 else ' ||\n        '.join(tests)))
+        for kind, it in parameters:
+            if kind in ('size_t *', 'uint32_t *'):
+                lines.append('        *%s = 0;\n' % it)
+            if kind == 'struct ua_reading *' and it not in counted:
+                lines.append('        memset(%s, 0, sizeof *%s);\n' % (it, it))
+        lines.append('        return UA_BAD_ARGUMENT;\n    }\n')
+    return ''.join(lines)
 
 def wrapped(head: str, parameters: list[str], rest: str, indent: str) -> str:
     """A head, parameters and what stands behind them, on as many lines as they take.
@@ -141,8 +154,8 @@ def wrapped(head: str, parameters: list[str], rest: str, indent: str) -> str:
     >>> wrapped('return ua_get(', ['a', 'b'], ');', '    ')
     '    return ua_get(a, b);\\n'
     """
-    line = (head + ', '.join(parameters) + rest).replace(' ', '\0').replace(',\0', ', ')
-    lines = textwrap.wrap(line, 100, initial_indent=indent, subsequent_indent=indent + '    ')
+    line = (head + ', '.join(parameters) + rest).replace(' ', '\0').replace(',\0', ', ').replace('\0__asm__', ' __asm__')
+    lines = textwrap.wrap(line, 100, initial_indent=indent, subsequent_indent=indent + '    ', break_long_words=False)
     return ''.join(it.replace('\0', ' ') + '\n' for it in lines)
 
 def check_null(found: Calls) -> None:
@@ -208,6 +221,16 @@ def check_rust(found: Calls, header: str) -> None:
         if [(FIELDS[kind], name) for name, kind in fields] != theirs:
             end('%s of rust/ua.rs has other fields' % ours)
 
+def check_python(found: Calls) -> None:
+    """The module in Python has the parameters of each call that it names."""
+    named = re.findall(r'"(ua_\w+)": "(\w*)"', first(r'^CALLS = \{(.*?)^\}', text('..', '..', 'python', 'ua.py'), re.DOTALL | re.MULTILINE))
+    letters = {'uint32_t': 'u', 'int64_t': 'i', 'size_t': 's'}
+    for name, parameters in named:
+        counted = {given[:-4] for _, given in found[name][1] if given.endswith('_len')}
+        wanted = ['o' if it in counted else letters.get(kind, 'p') for kind, it in found[name][1] if not it.endswith('_len')]
+        if parameters != ''.join(wanted):
+            end('%s of python/ua.py has %s' % (name, parameters))
+
 def check_structures(header: str) -> None:
     """The structures that cross have the fields of the crate's."""
     for name, (c, file) in STRUCTURES.items():
@@ -226,6 +249,7 @@ def check_numbers(header: str) -> None:
             end('UA_%s is not %s, as in ua_services' % (name, number))
     consts = dict(re.findall(r'const (\w+): u32 = (\d+);', ''.join(text('src', name) for name in ('status.rt', 'told.rt', 'shared.rt'))))
     specs = {n.upper(): v for n, v in re.findall(r'^(\w+) = (\d+)$', text('specs', 'Status.antt'), re.MULTILINE)}
+    ours.pop('BAD_ARGUMENT')  # which the headers tell alone
     if ours != consts:
         end('numbers differ: %s' % sorted(set(ours.items()) ^ set(consts.items())))
     for name, number in specs.items():
@@ -276,6 +300,7 @@ def main() -> None:
     check_null(found)
     check_cpp(found, plain)
     check_rust(found, plain)
+    check_python(found)
     check_structures(plain)
     check_numbers(plain)
     check_version(plain)

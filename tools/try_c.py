@@ -192,7 +192,7 @@ class Examples:
     def build(self) -> Clients:
         """Builds each example whose compiler is at hand; those words ask a server at a port, by name."""
         clients: Clients = {}
-        for name in ('examples/python/read.py', 'examples/python/historian.py', 'python/ua.py'):
+        for name in ('examples/python/read.py', 'examples/python/historian.py', 'examples/python/pieces.py', 'python/ua.py'):
             compile(text_of(os.path.join(TOP, name)), name, 'exec')
         if self.is_there('cc', 'gateway.c and read.py'):
             self.build_snippets('docs/C.md', 'c', AROUND, STRICT)
@@ -231,6 +231,7 @@ class Examples:
         snippet, = re.findall(r'^```python\n(.*?)^```$', text_of(os.path.join(TOP, 'docs/PYTHON.md')), re.MULTILINE | re.DOTALL)
         words = {**os.environ, 'UA_LIBRARY': shared, 'PYTHONPATH': os.path.join(TOP, 'python'), 'PYTHONDONTWRITEBYTECODE': '1'}
         same('ua.py', run([sys.executable, '-m', 'doctest', os.path.join(TOP, 'python/ua.py')], env=words), '')
+        same('pieces.py', run([sys.executable, os.path.join(EXAMPLES, 'python/pieces.py'), shared], env=words), 'True None\n')
         same('docs/PYTHON.md', run([sys.executable, '-c', snippet], env=words), "21.5 b''\n")
 
     def ask(self, clients: Clients, server: str, serve_at: Callable[[str], list[str]]) -> None:

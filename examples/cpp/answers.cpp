@@ -153,6 +153,11 @@ void conversation() {
     auto front = connection.fetch(three);
     say("fetched", std::to_string(front.size()) + " " + std::string(ua::text_of(front)));
     say_error("limits", [] { ua::Client(url, {sizeof(ua::Limits), 1, 1, 1, 1}); });
+    std::vector<std::uint8_t> grown(4);
+    ua::Room kept(grown);
+    ua::status_text(ua::Status::empty, kept);
+    auto boolean = ua::encode_value("Boolean", "true", kept); /* where the vector stands since it grew */
+    say("kept room", std::to_string(boolean.size()) + (boolean.data() == grown.data() ? " in it" : " elsewhere"));
 }
 
 int main() {

@@ -13,8 +13,12 @@
  *   types of their own, so that a compiler tells of a step on a client. C never reads or writes what is in it, copies
  *   it, or moves it to another address while a call runs. The calls below alone change it. `ua_free` ends
  *   it; it may then be used again, as one that begins.
- * - A pointer is never null, but where the length behind it is 0, and at `ua_free`. (What calls the
- *   library without this header, as ctypes does, hands over no null pointer there either.)
+ * - A handle that was freed, or never made from {0}, and one of another kind are told, by UA_NO_HANDLE and
+ *   UA_OTHER_HANDLE. What cannot be told: a handle that was never set; a copy of a handle that was freed; and a
+ *   handle that two threads use at once.
+ * - A pointer is never null, but at `ua_free` and its like, and where a length stands behind it: there a null pointer
+ *   is an empty text, or a buffer without room, if the length is 0, and else UA_BAD_ARGUMENT. (What calls the
+ *   library without this header, or with another compiler than GCC and Clang, hands over no null pointer there either.)
  *   `const uint8_t *p, size_t p_len` are so many octets that may be read during the call and that
  *   nothing writes meanwhile; a length is at most half the address space. `uint8_t *buffer,
  *   size_t buffer_len` are so many octets that may be read and written. Pointers of one call lead to memory
@@ -49,6 +53,7 @@
 
 #include <stddef.h>
 #include <stdint.h>
+#include <string.h>
 
 #ifdef __cplusplus
 extern "C" {
@@ -94,7 +99,8 @@ enum {
     UA_BAD_READING = 24,     /* the reading has no value within the octets, or no source time */
     UA_NO_MORE = 25,         /* nothing more is there */
     UA_NO_POLICY = 26,       /* no endpoint has a token policy that fits */
-    UA_NO_TEXT = 27          /* the value has no text that denotes it */
+    UA_NO_TEXT = 27,         /* the value has no text that denotes it */
+    UA_BAD_ARGUMENT = 28     /* a pointer is null, and the length behind it is not 0; ua_status_text has no text of it */
 };
 
 /* Why a line of a node file is none: the first of these that holds. */
@@ -203,6 +209,9 @@ struct ua_limits {
     uint32_t max_chunk_count;
 };
 
+/* What is done with null pointers in front of the calls below. */
+#include "ua_null.h"
+
 /* Moments are in units of 100 nanoseconds since 1601-01-01 00:00 UTC. */
 
 /* ---- any handle */
@@ -240,7 +249,7 @@ uint32_t ua_nodes_new(const uint8_t *file, size_t file_len, const uint8_t *url, 
                       struct ua_nodes *out, size_t *line, uint32_t *reason);
 
 /* The index of the node that a NodeId's text names. It is the place of the node in the node file, from 0, and
- * stays. The nodes are looked through in their order: find each once. UA_UNKNOWN: there is no such node.
+ * stays: find each once. UA_UNKNOWN: there is no such node.
  * UA_BAD_TEXT: the text names no NodeId. UA_NO_MEMORY. */
 uint32_t ua_node_find(struct ua_nodes *nodes, const uint8_t *node, size_t node_len, size_t *index);
 
@@ -313,8 +322,7 @@ static inline size_t ua_connection_waiting(struct ua_connection *connection) {
 
 static inline uint32_t ua_connection_fetch(struct ua_connection *connection, uint8_t *buffer,
                                            size_t buffer_len, size_t *fetched) {
-    static uint8_t none[1];
-    return ua_fetch(&connection->handle, buffer ? buffer : none, buffer_len, fetched);
+    return ua_fetch(&connection->handle, buffer, buffer_len, fetched);
 }
 
 static inline size_t ua_connection_held(struct ua_connection *connection) {
@@ -530,7 +538,6 @@ uint32_t ua_status_text(uint32_t status, uint8_t *buffer, size_t buffer_len, siz
  * prints by name. */
 uint32_t ua_code_name(uint32_t code, uint8_t *buffer, size_t buffer_len, size_t *needed);
 
-#include "ua_null.h"
 #include "ua_values.h"
 
 #ifdef __cplusplus

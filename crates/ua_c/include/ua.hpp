@@ -56,7 +56,8 @@ enum class Status : std::uint32_t {
     bad_reading = UA_BAD_READING,
     no_more = UA_NO_MORE,
     no_policy = UA_NO_POLICY,
-    no_text = UA_NO_TEXT
+    no_text = UA_NO_TEXT,
+    bad_argument = UA_BAD_ARGUMENT
 };
 
 /* Why a line of a node file is none: Error::reason() of Status::bad_nodes. */
@@ -156,8 +157,9 @@ inline std::string_view text_of(Octets octets) noexcept {
 }
 
 /* Where a call puts octets: a buffer of a fixed size, or a vector or string of them, which is made larger where a call
- * needs more, and never smaller. The view that the call hands back is the part that was written. It overlaps nothing
- * else that the call is given. */
+ * needs more, and never smaller. The view that the call hands back is the part that was written, until the room is used
+ * again or ends; a vector or string that ends with the call is no room. It overlaps nothing else that the call is
+ * given. */
 class Room {
     /* Whether a type holds octets in a row that may be written, and is no Room itself. */
     template <class Row, class Element = std::remove_pointer_t<decltype(std::declval<Row &>().data())>>
@@ -174,24 +176,21 @@ public:
     Room(Row &row) noexcept : data_(start_of(row)), size_(row.size()) {
         if constexpr (can_grow<Row>(nullptr)) {
             row_ = &row;
-            grow_ = [](void *grown, std::size_t size) {
-                static_cast<Row *>(grown)->resize(size);
-                return start_of(*static_cast<Row *>(grown));
+            look_ = [](const Room &room, std::size_t least) -> Span<std::uint8_t> {
+                auto &grown = *static_cast<Row *>(room.row_);
+                if (least > grown.size())
+                    grown.resize(least);
+                return {start_of(grown), grown.size()};
             };
         }
     }
 
-    std::uint8_t *data() const noexcept { return data_; }
-    std::size_t size() const noexcept { return size_; }
+    /* Where the octets of a vector or string stand now, also after it grew for another call. */
+    std::uint8_t *data() const noexcept { return row_ ? look_(*this, 0).data() : data_; }
+    std::size_t size() const noexcept { return row_ ? look_(*this, 0).size() : size_; }
 
     /* Whether there is room for so many octets now. */
-    bool fit(std::size_t size) {
-        if (size > size_ && grow_) {
-            data_ = grow_(row_, size);
-            size_ = size;
-        }
-        return size <= size_;
-    }
+    bool fit(std::size_t size) { return size <= (row_ ? look_(*this, size).size() : size_); }
 
 private:
     template <class Row>
@@ -210,7 +209,7 @@ private:
     std::uint8_t *data_;
     std::size_t size_;
     void *row_ = nullptr; /* the vector or string, which the caller owns */
-    std::uint8_t *(*grow_)(void *row, std::size_t size) = nullptr;
+    Span<std::uint8_t> (*look_)(const Room &room, std::size_t least) = nullptr;
 };
 
 /* ---- statuses that are no success */

@@ -1,236 +1,563 @@
-/* In C and C++ a null pointer whose length is 0 is an empty text, or a buffer without room, and ua_free(NULL) does
- * nothing: ua.h includes this, which tools/check_c_header.py --write writes from its declarations. */
-static inline const uint8_t *ua_some(const uint8_t *octets) {
-    static const uint8_t none[1] = {0};
-    return octets ? octets : none;
+/* Null pointers, in C and C++ with GCC or Clang: ua.h includes this, which
+ * tools/check_c_header.py --write writes from its declarations. Where a pointer with a length is null, the call takes it
+ * as empty if the length is 0, and else answers UA_BAD_ARGUMENT; ua_free(NULL) does nothing.
+ * Each of these functions stands in front of the library's function of its name, which is `_given` here. */
+#if defined(__GNUC__)
+
+void ua_free_given(struct ua_handle *handle) __asm__("ua_free");
+static inline void ua_free(struct ua_handle *handle) __asm__("ua_free_in_front");
+static inline void ua_free(struct ua_handle *handle) {
+    if (!handle)
+        return;
+    ua_free_given(handle);
 }
 
-static inline uint8_t *ua_room(uint8_t *buffer) {
-    static uint8_t none[1];
-    return buffer ? buffer : none;
-}
-
-static inline struct ua_reading *ua_places(struct ua_reading *readings) {
-    static struct ua_reading none[1];
-    return readings ? readings : none;
-}
-
-static inline void ua_free_some(struct ua_handle *handle) {
-    if (handle)
-        ua_free(handle);
-}
-#define ua_free ua_free_some
-
-static inline uint32_t ua_fetch_some(struct ua_handle *handle, uint8_t *buffer, size_t buffer_len,
+uint32_t ua_fetch_given(struct ua_handle *handle, uint8_t *buffer, size_t buffer_len,
+    size_t *fetched) __asm__("ua_fetch");
+static inline uint32_t ua_fetch(struct ua_handle *handle, uint8_t *buffer, size_t buffer_len,
+    size_t *fetched) __asm__("ua_fetch_in_front");
+static inline uint32_t ua_fetch(struct ua_handle *handle, uint8_t *buffer, size_t buffer_len,
     size_t *fetched) {
-    return ua_fetch(handle, ua_room(buffer), buffer_len, fetched);
+    if (!buffer && buffer_len) {
+        *fetched = 0;
+        return UA_BAD_ARGUMENT;
+    }
+    return ua_fetch_given(handle, buffer ? buffer : (uint8_t *)(void *)&buffer_len, buffer_len,
+        fetched);
 }
-#define ua_fetch ua_fetch_some
 
-static inline uint32_t ua_nodes_new_some(const uint8_t *file, size_t file_len, const uint8_t *url,
+uint32_t ua_nodes_new_given(const uint8_t *file, size_t file_len, const uint8_t *url,
+    size_t url_len, const uint8_t *application_uri, size_t application_uri_len, const uint8_t *name,
+    size_t name_len, uint32_t max_message_size, struct ua_nodes *out, size_t *line,
+    uint32_t *reason) __asm__("ua_nodes_new");
+static inline uint32_t ua_nodes_new(const uint8_t *file, size_t file_len, const uint8_t *url,
+    size_t url_len, const uint8_t *application_uri, size_t application_uri_len, const uint8_t *name,
+    size_t name_len, uint32_t max_message_size, struct ua_nodes *out, size_t *line,
+    uint32_t *reason) __asm__("ua_nodes_new_in_front");
+static inline uint32_t ua_nodes_new(const uint8_t *file, size_t file_len, const uint8_t *url,
     size_t url_len, const uint8_t *application_uri, size_t application_uri_len, const uint8_t *name,
     size_t name_len, uint32_t max_message_size, struct ua_nodes *out, size_t *line,
     uint32_t *reason) {
-    return ua_nodes_new(ua_some(file), file_len, ua_some(url), url_len, ua_some(application_uri),
-        application_uri_len, ua_some(name), name_len, max_message_size, out, line, reason);
+    if ((!file && file_len) ||
+        (!url && url_len) ||
+        (!application_uri && application_uri_len) ||
+        (!name && name_len)) {
+        *line = 0;
+        *reason = 0;
+        return UA_BAD_ARGUMENT;
+    }
+    return ua_nodes_new_given(file ? file : (const uint8_t *)(void *)&file_len, file_len,
+        url ? url : (const uint8_t *)(void *)&url_len, url_len,
+        application_uri ? application_uri : (const uint8_t *)(void *)&application_uri_len,
+        application_uri_len, name ? name : (const uint8_t *)(void *)&name_len, name_len,
+        max_message_size, out, line, reason);
 }
-#define ua_nodes_new ua_nodes_new_some
 
-static inline uint32_t ua_node_find_some(struct ua_nodes *nodes, const uint8_t *node,
-    size_t node_len, size_t *index) {
-    return ua_node_find(nodes, ua_some(node), node_len, index);
+uint32_t ua_node_find_given(struct ua_nodes *nodes, const uint8_t *node, size_t node_len,
+    size_t *index) __asm__("ua_node_find");
+static inline uint32_t ua_node_find(struct ua_nodes *nodes, const uint8_t *node, size_t node_len,
+    size_t *index) __asm__("ua_node_find_in_front");
+static inline uint32_t ua_node_find(struct ua_nodes *nodes, const uint8_t *node, size_t node_len,
+    size_t *index) {
+    if (!node && node_len) {
+        *index = 0;
+        return UA_BAD_ARGUMENT;
+    }
+    return ua_node_find_given(nodes, node ? node : (const uint8_t *)(void *)&node_len, node_len,
+        index);
 }
-#define ua_node_find ua_node_find_some
 
-static inline uint32_t ua_node_set_some(struct ua_nodes *nodes, size_t index, const uint8_t *octets,
+uint32_t ua_node_set_given(struct ua_nodes *nodes, size_t index, const uint8_t *octets,
+    size_t octets_len, const struct ua_reading *reading) __asm__("ua_node_set");
+static inline uint32_t ua_node_set(struct ua_nodes *nodes, size_t index, const uint8_t *octets,
+    size_t octets_len, const struct ua_reading *reading) __asm__("ua_node_set_in_front");
+static inline uint32_t ua_node_set(struct ua_nodes *nodes, size_t index, const uint8_t *octets,
     size_t octets_len, const struct ua_reading *reading) {
-    return ua_node_set(nodes, index, ua_some(octets), octets_len, reading);
+    if (!octets && octets_len) {
+        return UA_BAD_ARGUMENT;
+    }
+    return ua_node_set_given(nodes, index, octets ? octets : (const uint8_t *)(void *)&octets_len,
+        octets_len, reading);
 }
-#define ua_node_set ua_node_set_some
 
-static inline uint32_t ua_node_get_some(struct ua_nodes *nodes, size_t index, uint8_t *buffer,
+uint32_t ua_node_get_given(struct ua_nodes *nodes, size_t index, uint8_t *buffer, size_t buffer_len,
+    size_t *needed, struct ua_reading *reading) __asm__("ua_node_get");
+static inline uint32_t ua_node_get(struct ua_nodes *nodes, size_t index, uint8_t *buffer,
+    size_t buffer_len, size_t *needed, struct ua_reading *reading) __asm__("ua_node_get_in_front");
+static inline uint32_t ua_node_get(struct ua_nodes *nodes, size_t index, uint8_t *buffer,
     size_t buffer_len, size_t *needed, struct ua_reading *reading) {
-    return ua_node_get(nodes, index, ua_room(buffer), buffer_len, needed, reading);
+    if (!buffer && buffer_len) {
+        *needed = 0;
+        memset(reading, 0, sizeof *reading);
+        return UA_BAD_ARGUMENT;
+    }
+    return ua_node_get_given(nodes, index, buffer ? buffer : (uint8_t *)(void *)&buffer_len,
+        buffer_len, needed, reading);
 }
-#define ua_node_get ua_node_get_some
 
-static inline uint32_t ua_connection_step_some(struct ua_connection *connection,
-    struct ua_nodes *nodes, const uint8_t *piece, size_t piece_len, int64_t moment, size_t *taken,
-    size_t *waiting, uint32_t *code) {
-    return ua_connection_step(connection, nodes, ua_some(piece), piece_len, moment, taken, waiting,
+uint32_t ua_connection_step_given(struct ua_connection *connection, struct ua_nodes *nodes,
+    const uint8_t *piece, size_t piece_len, int64_t moment, size_t *taken, size_t *waiting,
+    uint32_t *code) __asm__("ua_connection_step");
+static inline uint32_t ua_connection_step(struct ua_connection *connection, struct ua_nodes *nodes,
+    const uint8_t *piece, size_t piece_len, int64_t moment, size_t *taken, size_t *waiting,
+    uint32_t *code) __asm__("ua_connection_step_in_front");
+static inline uint32_t ua_connection_step(struct ua_connection *connection, struct ua_nodes *nodes,
+    const uint8_t *piece, size_t piece_len, int64_t moment, size_t *taken, size_t *waiting,
+    uint32_t *code) {
+    if (!piece && piece_len) {
+        *taken = 0;
+        *waiting = 0;
+        *code = 0;
+        return UA_BAD_ARGUMENT;
+    }
+    return ua_connection_step_given(connection, nodes,
+        piece ? piece : (const uint8_t *)(void *)&piece_len, piece_len, moment, taken, waiting,
         code);
 }
-#define ua_connection_step ua_connection_step_some
 
-static inline uint32_t ua_next_written_some(struct ua_connection *connection,
-    struct ua_nodes *nodes, size_t *index, uint8_t *buffer, size_t buffer_len, size_t *needed,
-    struct ua_reading *reading) {
-    return ua_next_written(connection, nodes, index, ua_room(buffer), buffer_len, needed, reading);
+uint32_t ua_next_written_given(struct ua_connection *connection, struct ua_nodes *nodes,
+    size_t *index, uint8_t *buffer, size_t buffer_len, size_t *needed, struct ua_reading *reading)
+    __asm__("ua_next_written");
+static inline uint32_t ua_next_written(struct ua_connection *connection, struct ua_nodes *nodes,
+    size_t *index, uint8_t *buffer, size_t buffer_len, size_t *needed, struct ua_reading *reading)
+    __asm__("ua_next_written_in_front");
+static inline uint32_t ua_next_written(struct ua_connection *connection, struct ua_nodes *nodes,
+    size_t *index, uint8_t *buffer, size_t buffer_len, size_t *needed, struct ua_reading *reading) {
+    if (!buffer && buffer_len) {
+        *index = 0;
+        *needed = 0;
+        memset(reading, 0, sizeof *reading);
+        return UA_BAD_ARGUMENT;
+    }
+    return ua_next_written_given(connection, nodes, index,
+        buffer ? buffer : (uint8_t *)(void *)&buffer_len, buffer_len, needed, reading);
 }
-#define ua_next_written ua_next_written_some
 
-static inline uint32_t ua_server_new_some(const uint8_t *nodes, size_t nodes_len,
+uint32_t ua_server_new_given(const uint8_t *nodes, size_t nodes_len, const struct ua_limits *limits,
+    const uint8_t *url, size_t url_len, uint32_t channel, struct ua_handle *out, size_t *line)
+    __asm__("ua_server_new");
+static inline uint32_t ua_server_new(const uint8_t *nodes, size_t nodes_len,
+    const struct ua_limits *limits, const uint8_t *url, size_t url_len, uint32_t channel,
+    struct ua_handle *out, size_t *line) __asm__("ua_server_new_in_front");
+static inline uint32_t ua_server_new(const uint8_t *nodes, size_t nodes_len,
     const struct ua_limits *limits, const uint8_t *url, size_t url_len, uint32_t channel,
     struct ua_handle *out, size_t *line) {
-    return ua_server_new(ua_some(nodes), nodes_len, limits, ua_some(url), url_len, channel, out,
-        line);
+    if ((!nodes && nodes_len) ||
+        (!url && url_len)) {
+        *line = 0;
+        return UA_BAD_ARGUMENT;
+    }
+    return ua_server_new_given(nodes ? nodes : (const uint8_t *)(void *)&nodes_len, nodes_len,
+        limits, url ? url : (const uint8_t *)(void *)&url_len, url_len, channel, out, line);
 }
-#define ua_server_new ua_server_new_some
 
-static inline uint32_t ua_server_step_some(struct ua_handle *handle, const uint8_t *piece,
+uint32_t ua_server_step_given(struct ua_handle *handle, const uint8_t *piece, size_t piece_len,
+    int64_t moment, size_t *taken, size_t *waiting, uint32_t *code) __asm__("ua_server_step");
+static inline uint32_t ua_server_step(struct ua_handle *handle, const uint8_t *piece,
+    size_t piece_len, int64_t moment, size_t *taken, size_t *waiting, uint32_t *code)
+    __asm__("ua_server_step_in_front");
+static inline uint32_t ua_server_step(struct ua_handle *handle, const uint8_t *piece,
     size_t piece_len, int64_t moment, size_t *taken, size_t *waiting, uint32_t *code) {
-    return ua_server_step(handle, ua_some(piece), piece_len, moment, taken, waiting, code);
+    if (!piece && piece_len) {
+        *taken = 0;
+        *waiting = 0;
+        *code = 0;
+        return UA_BAD_ARGUMENT;
+    }
+    return ua_server_step_given(handle, piece ? piece : (const uint8_t *)(void *)&piece_len,
+        piece_len, moment, taken, waiting, code);
 }
-#define ua_server_step ua_server_step_some
 
-static inline uint32_t ua_client_new_some(const struct ua_limits *limits, const uint8_t *url,
+uint32_t ua_client_new_given(const struct ua_limits *limits, const uint8_t *url, size_t url_len,
+    struct ua_handle *out) __asm__("ua_client_new");
+static inline uint32_t ua_client_new(const struct ua_limits *limits, const uint8_t *url,
+    size_t url_len, struct ua_handle *out) __asm__("ua_client_new_in_front");
+static inline uint32_t ua_client_new(const struct ua_limits *limits, const uint8_t *url,
     size_t url_len, struct ua_handle *out) {
-    return ua_client_new(limits, ua_some(url), url_len, out);
+    if (!url && url_len) {
+        return UA_BAD_ARGUMENT;
+    }
+    return ua_client_new_given(limits, url ? url : (const uint8_t *)(void *)&url_len, url_len, out);
 }
-#define ua_client_new ua_client_new_some
 
-static inline uint32_t ua_client_take_some(struct ua_handle *handle, const uint8_t *piece,
+uint32_t ua_client_take_given(struct ua_handle *handle, const uint8_t *piece, size_t piece_len,
+    int64_t moment, size_t *taken, uint32_t *event, uint32_t *id, uint32_t *code)
+    __asm__("ua_client_take");
+static inline uint32_t ua_client_take(struct ua_handle *handle, const uint8_t *piece,
+    size_t piece_len, int64_t moment, size_t *taken, uint32_t *event, uint32_t *id, uint32_t *code)
+    __asm__("ua_client_take_in_front");
+static inline uint32_t ua_client_take(struct ua_handle *handle, const uint8_t *piece,
     size_t piece_len, int64_t moment, size_t *taken, uint32_t *event, uint32_t *id,
     uint32_t *code) {
-    return ua_client_take(handle, ua_some(piece), piece_len, moment, taken, event, id, code);
+    if (!piece && piece_len) {
+        *taken = 0;
+        *event = 0;
+        *id = 0;
+        *code = 0;
+        return UA_BAD_ARGUMENT;
+    }
+    return ua_client_take_given(handle, piece ? piece : (const uint8_t *)(void *)&piece_len,
+        piece_len, moment, taken, event, id, code);
 }
-#define ua_client_take ua_client_take_some
 
-static inline uint32_t ua_client_ask_some(struct ua_handle *handle, const uint8_t *body,
-    size_t body_len, uint32_t *id) {
-    return ua_client_ask(handle, ua_some(body), body_len, id);
+uint32_t ua_client_ask_given(struct ua_handle *handle, const uint8_t *body, size_t body_len,
+    uint32_t *id) __asm__("ua_client_ask");
+static inline uint32_t ua_client_ask(struct ua_handle *handle, const uint8_t *body, size_t body_len,
+    uint32_t *id) __asm__("ua_client_ask_in_front");
+static inline uint32_t ua_client_ask(struct ua_handle *handle, const uint8_t *body, size_t body_len,
+    uint32_t *id) {
+    if (!body && body_len) {
+        *id = 0;
+        return UA_BAD_ARGUMENT;
+    }
+    return ua_client_ask_given(handle, body ? body : (const uint8_t *)(void *)&body_len, body_len,
+        id);
 }
-#define ua_client_ask ua_client_ask_some
 
-static inline uint32_t ua_dissect_some(const uint8_t *octets, size_t octets_len, uint32_t side,
+uint32_t ua_dissect_given(const uint8_t *octets, size_t octets_len, uint32_t side, uint8_t *buffer,
+    size_t buffer_len, size_t *needed) __asm__("ua_dissect");
+static inline uint32_t ua_dissect(const uint8_t *octets, size_t octets_len, uint32_t side,
+    uint8_t *buffer, size_t buffer_len, size_t *needed) __asm__("ua_dissect_in_front");
+static inline uint32_t ua_dissect(const uint8_t *octets, size_t octets_len, uint32_t side,
     uint8_t *buffer, size_t buffer_len, size_t *needed) {
-    return ua_dissect(ua_some(octets), octets_len, side, ua_room(buffer), buffer_len, needed);
+    if ((!octets && octets_len) ||
+        (!buffer && buffer_len)) {
+        *needed = 0;
+        return UA_BAD_ARGUMENT;
+    }
+    return ua_dissect_given(octets ? octets : (const uint8_t *)(void *)&octets_len, octets_len,
+        side, buffer ? buffer : (uint8_t *)(void *)&buffer_len, buffer_len, needed);
 }
-#define ua_dissect ua_dissect_some
 
-static inline uint32_t ua_encode_value_some(const uint8_t *type, size_t type_len,
-    const uint8_t *text, size_t text_len, uint8_t *buffer, size_t buffer_len, size_t *needed) {
-    return ua_encode_value(ua_some(type), type_len, ua_some(text), text_len, ua_room(buffer),
-        buffer_len, needed);
+uint32_t ua_encode_value_given(const uint8_t *type, size_t type_len, const uint8_t *text,
+    size_t text_len, uint8_t *buffer, size_t buffer_len, size_t *needed) __asm__("ua_encode_value");
+static inline uint32_t ua_encode_value(const uint8_t *type, size_t type_len, const uint8_t *text,
+    size_t text_len, uint8_t *buffer, size_t buffer_len, size_t *needed)
+    __asm__("ua_encode_value_in_front");
+static inline uint32_t ua_encode_value(const uint8_t *type, size_t type_len, const uint8_t *text,
+    size_t text_len, uint8_t *buffer, size_t buffer_len, size_t *needed) {
+    if ((!type && type_len) ||
+        (!text && text_len) ||
+        (!buffer && buffer_len)) {
+        *needed = 0;
+        return UA_BAD_ARGUMENT;
+    }
+    return ua_encode_value_given(type ? type : (const uint8_t *)(void *)&type_len, type_len,
+        text ? text : (const uint8_t *)(void *)&text_len, text_len,
+        buffer ? buffer : (uint8_t *)(void *)&buffer_len, buffer_len, needed);
 }
-#define ua_encode_value ua_encode_value_some
 
-static inline uint32_t ua_decode_value_some(const uint8_t *octets, size_t octets_len,
-    uint8_t *buffer, size_t buffer_len, size_t *needed) {
-    return ua_decode_value(ua_some(octets), octets_len, ua_room(buffer), buffer_len, needed);
+uint32_t ua_decode_value_given(const uint8_t *octets, size_t octets_len, uint8_t *buffer,
+    size_t buffer_len, size_t *needed) __asm__("ua_decode_value");
+static inline uint32_t ua_decode_value(const uint8_t *octets, size_t octets_len, uint8_t *buffer,
+    size_t buffer_len, size_t *needed) __asm__("ua_decode_value_in_front");
+static inline uint32_t ua_decode_value(const uint8_t *octets, size_t octets_len, uint8_t *buffer,
+    size_t buffer_len, size_t *needed) {
+    if ((!octets && octets_len) ||
+        (!buffer && buffer_len)) {
+        *needed = 0;
+        return UA_BAD_ARGUMENT;
+    }
+    return ua_decode_value_given(octets ? octets : (const uint8_t *)(void *)&octets_len, octets_len,
+        buffer ? buffer : (uint8_t *)(void *)&buffer_len, buffer_len, needed);
 }
-#define ua_decode_value ua_decode_value_some
 
-static inline uint32_t ua_value_text_some(const uint8_t *octets, size_t octets_len, uint32_t plain,
+uint32_t ua_value_text_given(const uint8_t *octets, size_t octets_len, uint32_t plain,
+    uint8_t *buffer, size_t buffer_len, size_t *needed, size_t *name_size) __asm__("ua_value_text");
+static inline uint32_t ua_value_text(const uint8_t *octets, size_t octets_len, uint32_t plain,
+    uint8_t *buffer, size_t buffer_len, size_t *needed, size_t *name_size)
+    __asm__("ua_value_text_in_front");
+static inline uint32_t ua_value_text(const uint8_t *octets, size_t octets_len, uint32_t plain,
     uint8_t *buffer, size_t buffer_len, size_t *needed, size_t *name_size) {
-    return ua_value_text(ua_some(octets), octets_len, plain, ua_room(buffer), buffer_len, needed,
-        name_size);
+    if ((!octets && octets_len) ||
+        (!buffer && buffer_len)) {
+        *needed = 0;
+        *name_size = 0;
+        return UA_BAD_ARGUMENT;
+    }
+    return ua_value_text_given(octets ? octets : (const uint8_t *)(void *)&octets_len, octets_len,
+        plain, buffer ? buffer : (uint8_t *)(void *)&buffer_len, buffer_len, needed, name_size);
 }
-#define ua_value_text ua_value_text_some
 
-static inline uint32_t ua_text_value_some(const uint8_t *type, size_t type_len, const uint8_t *text,
+uint32_t ua_text_value_given(const uint8_t *type, size_t type_len, const uint8_t *text,
+    size_t text_len, uint32_t plain, uint8_t *buffer, size_t buffer_len, size_t *needed,
+    uint32_t *reason) __asm__("ua_text_value");
+static inline uint32_t ua_text_value(const uint8_t *type, size_t type_len, const uint8_t *text,
+    size_t text_len, uint32_t plain, uint8_t *buffer, size_t buffer_len, size_t *needed,
+    uint32_t *reason) __asm__("ua_text_value_in_front");
+static inline uint32_t ua_text_value(const uint8_t *type, size_t type_len, const uint8_t *text,
     size_t text_len, uint32_t plain, uint8_t *buffer, size_t buffer_len, size_t *needed,
     uint32_t *reason) {
-    return ua_text_value(ua_some(type), type_len, ua_some(text), text_len, plain, ua_room(buffer),
-        buffer_len, needed, reason);
+    if ((!type && type_len) ||
+        (!text && text_len) ||
+        (!buffer && buffer_len)) {
+        *needed = 0;
+        *reason = 0;
+        return UA_BAD_ARGUMENT;
+    }
+    return ua_text_value_given(type ? type : (const uint8_t *)(void *)&type_len, type_len,
+        text ? text : (const uint8_t *)(void *)&text_len, text_len, plain,
+        buffer ? buffer : (uint8_t *)(void *)&buffer_len, buffer_len, needed, reason);
 }
-#define ua_text_value ua_text_value_some
 
-static inline uint32_t ua_get_endpoints_request_some(const uint8_t *url, size_t url_len,
+uint32_t ua_get_endpoints_request_given(const uint8_t *url, size_t url_len, int64_t moment,
+    uint32_t request, uint8_t *buffer, size_t buffer_len, size_t *needed)
+    __asm__("ua_get_endpoints_request");
+static inline uint32_t ua_get_endpoints_request(const uint8_t *url, size_t url_len, int64_t moment,
+    uint32_t request, uint8_t *buffer, size_t buffer_len, size_t *needed)
+    __asm__("ua_get_endpoints_request_in_front");
+static inline uint32_t ua_get_endpoints_request(const uint8_t *url, size_t url_len, int64_t moment,
+    uint32_t request, uint8_t *buffer, size_t buffer_len, size_t *needed) {
+    if ((!url && url_len) ||
+        (!buffer && buffer_len)) {
+        *needed = 0;
+        return UA_BAD_ARGUMENT;
+    }
+    return ua_get_endpoints_request_given(url ? url : (const uint8_t *)(void *)&url_len, url_len,
+        moment, request, buffer ? buffer : (uint8_t *)(void *)&buffer_len, buffer_len, needed);
+}
+
+uint32_t ua_create_session_request_given(const uint8_t *url, size_t url_len, int64_t moment,
+    uint32_t request, uint8_t *buffer, size_t buffer_len, size_t *needed)
+    __asm__("ua_create_session_request");
+static inline uint32_t ua_create_session_request(const uint8_t *url, size_t url_len, int64_t moment,
+    uint32_t request, uint8_t *buffer, size_t buffer_len, size_t *needed)
+    __asm__("ua_create_session_request_in_front");
+static inline uint32_t ua_create_session_request(const uint8_t *url, size_t url_len, int64_t moment,
+    uint32_t request, uint8_t *buffer, size_t buffer_len, size_t *needed) {
+    if ((!url && url_len) ||
+        (!buffer && buffer_len)) {
+        *needed = 0;
+        return UA_BAD_ARGUMENT;
+    }
+    return ua_create_session_request_given(url ? url : (const uint8_t *)(void *)&url_len, url_len,
+        moment, request, buffer ? buffer : (uint8_t *)(void *)&buffer_len, buffer_len, needed);
+}
+
+uint32_t ua_activate_session_request_given(const uint8_t *token, size_t token_len, int64_t moment,
+    uint32_t request, uint8_t *buffer, size_t buffer_len, size_t *needed)
+    __asm__("ua_activate_session_request");
+static inline uint32_t ua_activate_session_request(const uint8_t *token, size_t token_len,
+    int64_t moment, uint32_t request, uint8_t *buffer, size_t buffer_len, size_t *needed)
+    __asm__("ua_activate_session_request_in_front");
+static inline uint32_t ua_activate_session_request(const uint8_t *token, size_t token_len,
     int64_t moment, uint32_t request, uint8_t *buffer, size_t buffer_len, size_t *needed) {
-    return ua_get_endpoints_request(ua_some(url), url_len, moment, request, ua_room(buffer),
-        buffer_len, needed);
+    if ((!token && token_len) ||
+        (!buffer && buffer_len)) {
+        *needed = 0;
+        return UA_BAD_ARGUMENT;
+    }
+    return ua_activate_session_request_given(token ? token : (const uint8_t *)(void *)&token_len,
+        token_len, moment, request, buffer ? buffer : (uint8_t *)(void *)&buffer_len, buffer_len,
+        needed);
 }
-#define ua_get_endpoints_request ua_get_endpoints_request_some
 
-static inline uint32_t ua_create_session_request_some(const uint8_t *url, size_t url_len,
-    int64_t moment, uint32_t request, uint8_t *buffer, size_t buffer_len, size_t *needed) {
-    return ua_create_session_request(ua_some(url), url_len, moment, request, ua_room(buffer),
-        buffer_len, needed);
-}
-#define ua_create_session_request ua_create_session_request_some
-
-static inline uint32_t ua_activate_session_request_some(const uint8_t *token, size_t token_len,
-    int64_t moment, uint32_t request, uint8_t *buffer, size_t buffer_len, size_t *needed) {
-    return ua_activate_session_request(ua_some(token), token_len, moment, request, ua_room(buffer),
-        buffer_len, needed);
-}
-#define ua_activate_session_request ua_activate_session_request_some
-
-static inline uint32_t ua_activate_session_request_as_some(const uint8_t *token, size_t token_len,
+uint32_t ua_activate_session_request_as_given(const uint8_t *token, size_t token_len,
+    const uint8_t *policy, size_t policy_len, int64_t moment, uint32_t request, uint8_t *buffer,
+    size_t buffer_len, size_t *needed, uint32_t *reason) __asm__("ua_activate_session_request_as");
+static inline uint32_t ua_activate_session_request_as(const uint8_t *token, size_t token_len,
+    const uint8_t *policy, size_t policy_len, int64_t moment, uint32_t request, uint8_t *buffer,
+    size_t buffer_len, size_t *needed, uint32_t *reason)
+    __asm__("ua_activate_session_request_as_in_front");
+static inline uint32_t ua_activate_session_request_as(const uint8_t *token, size_t token_len,
     const uint8_t *policy, size_t policy_len, int64_t moment, uint32_t request, uint8_t *buffer,
     size_t buffer_len, size_t *needed, uint32_t *reason) {
-    return ua_activate_session_request_as(ua_some(token), token_len, ua_some(policy), policy_len,
-        moment, request, ua_room(buffer), buffer_len, needed, reason);
+    if ((!token && token_len) ||
+        (!policy && policy_len) ||
+        (!buffer && buffer_len)) {
+        *needed = 0;
+        *reason = 0;
+        return UA_BAD_ARGUMENT;
+    }
+    return ua_activate_session_request_as_given(token ? token : (const uint8_t *)(void *)&token_len,
+        token_len, policy ? policy : (const uint8_t *)(void *)&policy_len, policy_len, moment,
+        request, buffer ? buffer : (uint8_t *)(void *)&buffer_len, buffer_len, needed, reason);
 }
-#define ua_activate_session_request_as ua_activate_session_request_as_some
 
-static inline uint32_t ua_close_session_request_some(const uint8_t *token, size_t token_len,
+uint32_t ua_close_session_request_given(const uint8_t *token, size_t token_len, int64_t moment,
+    uint32_t request, uint8_t *buffer, size_t buffer_len, size_t *needed)
+    __asm__("ua_close_session_request");
+static inline uint32_t ua_close_session_request(const uint8_t *token, size_t token_len,
+    int64_t moment, uint32_t request, uint8_t *buffer, size_t buffer_len, size_t *needed)
+    __asm__("ua_close_session_request_in_front");
+static inline uint32_t ua_close_session_request(const uint8_t *token, size_t token_len,
     int64_t moment, uint32_t request, uint8_t *buffer, size_t buffer_len, size_t *needed) {
-    return ua_close_session_request(ua_some(token), token_len, moment, request, ua_room(buffer),
-        buffer_len, needed);
+    if ((!token && token_len) ||
+        (!buffer && buffer_len)) {
+        *needed = 0;
+        return UA_BAD_ARGUMENT;
+    }
+    return ua_close_session_request_given(token ? token : (const uint8_t *)(void *)&token_len,
+        token_len, moment, request, buffer ? buffer : (uint8_t *)(void *)&buffer_len, buffer_len,
+        needed);
 }
-#define ua_close_session_request ua_close_session_request_some
 
-static inline uint32_t ua_read_request_some(const uint8_t *token, size_t token_len, int64_t moment,
+uint32_t ua_read_request_given(const uint8_t *token, size_t token_len, int64_t moment,
+    uint32_t request, const uint8_t *nodes, size_t nodes_len, const uint8_t *range,
+    size_t range_len, uint8_t *buffer, size_t buffer_len, size_t *needed, uint32_t *reason,
+    size_t *index) __asm__("ua_read_request");
+static inline uint32_t ua_read_request(const uint8_t *token, size_t token_len, int64_t moment,
+    uint32_t request, const uint8_t *nodes, size_t nodes_len, const uint8_t *range,
+    size_t range_len, uint8_t *buffer, size_t buffer_len, size_t *needed, uint32_t *reason,
+    size_t *index) __asm__("ua_read_request_in_front");
+static inline uint32_t ua_read_request(const uint8_t *token, size_t token_len, int64_t moment,
     uint32_t request, const uint8_t *nodes, size_t nodes_len, const uint8_t *range,
     size_t range_len, uint8_t *buffer, size_t buffer_len, size_t *needed, uint32_t *reason,
     size_t *index) {
-    return ua_read_request(ua_some(token), token_len, moment, request, ua_some(nodes), nodes_len,
-        ua_some(range), range_len, ua_room(buffer), buffer_len, needed, reason, index);
+    if ((!token && token_len) ||
+        (!nodes && nodes_len) ||
+        (!range && range_len) ||
+        (!buffer && buffer_len)) {
+        *needed = 0;
+        *reason = 0;
+        *index = 0;
+        return UA_BAD_ARGUMENT;
+    }
+    return ua_read_request_given(token ? token : (const uint8_t *)(void *)&token_len, token_len,
+        moment, request, nodes ? nodes : (const uint8_t *)(void *)&nodes_len, nodes_len,
+        range ? range : (const uint8_t *)(void *)&range_len, range_len,
+        buffer ? buffer : (uint8_t *)(void *)&buffer_len, buffer_len, needed, reason, index);
 }
-#define ua_read_request ua_read_request_some
 
-static inline uint32_t ua_write_request_some(const uint8_t *token, size_t token_len, int64_t moment,
+uint32_t ua_write_request_given(const uint8_t *token, size_t token_len, int64_t moment,
+    uint32_t request, const uint8_t *node, size_t node_len, const uint8_t *type, size_t type_len,
+    const uint8_t *text, size_t text_len, uint8_t *buffer, size_t buffer_len, size_t *needed,
+    uint32_t *reason) __asm__("ua_write_request");
+static inline uint32_t ua_write_request(const uint8_t *token, size_t token_len, int64_t moment,
+    uint32_t request, const uint8_t *node, size_t node_len, const uint8_t *type, size_t type_len,
+    const uint8_t *text, size_t text_len, uint8_t *buffer, size_t buffer_len, size_t *needed,
+    uint32_t *reason) __asm__("ua_write_request_in_front");
+static inline uint32_t ua_write_request(const uint8_t *token, size_t token_len, int64_t moment,
     uint32_t request, const uint8_t *node, size_t node_len, const uint8_t *type, size_t type_len,
     const uint8_t *text, size_t text_len, uint8_t *buffer, size_t buffer_len, size_t *needed,
     uint32_t *reason) {
-    return ua_write_request(ua_some(token), token_len, moment, request, ua_some(node), node_len,
-        ua_some(type), type_len, ua_some(text), text_len, ua_room(buffer), buffer_len, needed,
-        reason);
+    if ((!token && token_len) ||
+        (!node && node_len) ||
+        (!type && type_len) ||
+        (!text && text_len) ||
+        (!buffer && buffer_len)) {
+        *needed = 0;
+        *reason = 0;
+        return UA_BAD_ARGUMENT;
+    }
+    return ua_write_request_given(token ? token : (const uint8_t *)(void *)&token_len, token_len,
+        moment, request, node ? node : (const uint8_t *)(void *)&node_len, node_len,
+        type ? type : (const uint8_t *)(void *)&type_len, type_len,
+        text ? text : (const uint8_t *)(void *)&text_len, text_len,
+        buffer ? buffer : (uint8_t *)(void *)&buffer_len, buffer_len, needed, reason);
 }
-#define ua_write_request ua_write_request_some
 
-static inline uint32_t ua_response_kind_some(const uint8_t *body, size_t body_len,
-    uint32_t *response, uint32_t *service_result) {
-    return ua_response_kind(ua_some(body), body_len, response, service_result);
+uint32_t ua_response_kind_given(const uint8_t *body, size_t body_len, uint32_t *response,
+    uint32_t *service_result) __asm__("ua_response_kind");
+static inline uint32_t ua_response_kind(const uint8_t *body, size_t body_len, uint32_t *response,
+    uint32_t *service_result) __asm__("ua_response_kind_in_front");
+static inline uint32_t ua_response_kind(const uint8_t *body, size_t body_len, uint32_t *response,
+    uint32_t *service_result) {
+    if (!body && body_len) {
+        *response = 0;
+        *service_result = 0;
+        return UA_BAD_ARGUMENT;
+    }
+    return ua_response_kind_given(body ? body : (const uint8_t *)(void *)&body_len, body_len,
+        response, service_result);
 }
-#define ua_response_kind ua_response_kind_some
 
-static inline uint32_t ua_choose_policy_some(const uint8_t *body, size_t body_len, uint8_t *buffer,
+uint32_t ua_choose_policy_given(const uint8_t *body, size_t body_len, uint8_t *buffer,
+    size_t buffer_len, size_t *needed, uint32_t *code) __asm__("ua_choose_policy");
+static inline uint32_t ua_choose_policy(const uint8_t *body, size_t body_len, uint8_t *buffer,
+    size_t buffer_len, size_t *needed, uint32_t *code) __asm__("ua_choose_policy_in_front");
+static inline uint32_t ua_choose_policy(const uint8_t *body, size_t body_len, uint8_t *buffer,
     size_t buffer_len, size_t *needed, uint32_t *code) {
-    return ua_choose_policy(ua_some(body), body_len, ua_room(buffer), buffer_len, needed, code);
+    if ((!body && body_len) ||
+        (!buffer && buffer_len)) {
+        *needed = 0;
+        *code = 0;
+        return UA_BAD_ARGUMENT;
+    }
+    return ua_choose_policy_given(body ? body : (const uint8_t *)(void *)&body_len, body_len,
+        buffer ? buffer : (uint8_t *)(void *)&buffer_len, buffer_len, needed, code);
 }
-#define ua_choose_policy ua_choose_policy_some
 
-static inline uint32_t ua_session_token_some(const uint8_t *body, size_t body_len, uint8_t *buffer,
+uint32_t ua_session_token_given(const uint8_t *body, size_t body_len, uint8_t *buffer,
+    size_t buffer_len, size_t *needed, uint32_t *code) __asm__("ua_session_token");
+static inline uint32_t ua_session_token(const uint8_t *body, size_t body_len, uint8_t *buffer,
+    size_t buffer_len, size_t *needed, uint32_t *code) __asm__("ua_session_token_in_front");
+static inline uint32_t ua_session_token(const uint8_t *body, size_t body_len, uint8_t *buffer,
     size_t buffer_len, size_t *needed, uint32_t *code) {
-    return ua_session_token(ua_some(body), body_len, ua_room(buffer), buffer_len, needed, code);
+    if ((!body && body_len) ||
+        (!buffer && buffer_len)) {
+        *needed = 0;
+        *code = 0;
+        return UA_BAD_ARGUMENT;
+    }
+    return ua_session_token_given(body ? body : (const uint8_t *)(void *)&body_len, body_len,
+        buffer ? buffer : (uint8_t *)(void *)&buffer_len, buffer_len, needed, code);
 }
-#define ua_session_token ua_session_token_some
 
-static inline uint32_t ua_response_text_some(const uint8_t *nodes, size_t nodes_len,
-    const uint8_t *body, size_t body_len, uint8_t *buffer, size_t buffer_len, size_t *needed,
-    uint32_t *code) {
-    return ua_response_text(ua_some(nodes), nodes_len, ua_some(body), body_len, ua_room(buffer),
-        buffer_len, needed, code);
+uint32_t ua_response_text_given(const uint8_t *nodes, size_t nodes_len, const uint8_t *body,
+    size_t body_len, uint8_t *buffer, size_t buffer_len, size_t *needed, uint32_t *code)
+    __asm__("ua_response_text");
+static inline uint32_t ua_response_text(const uint8_t *nodes, size_t nodes_len, const uint8_t *body,
+    size_t body_len, uint8_t *buffer, size_t buffer_len, size_t *needed, uint32_t *code)
+    __asm__("ua_response_text_in_front");
+static inline uint32_t ua_response_text(const uint8_t *nodes, size_t nodes_len, const uint8_t *body,
+    size_t body_len, uint8_t *buffer, size_t buffer_len, size_t *needed, uint32_t *code) {
+    if ((!nodes && nodes_len) ||
+        (!body && body_len) ||
+        (!buffer && buffer_len)) {
+        *needed = 0;
+        *code = 0;
+        return UA_BAD_ARGUMENT;
+    }
+    return ua_response_text_given(nodes ? nodes : (const uint8_t *)(void *)&nodes_len, nodes_len,
+        body ? body : (const uint8_t *)(void *)&body_len, body_len,
+        buffer ? buffer : (uint8_t *)(void *)&buffer_len, buffer_len, needed, code);
 }
-#define ua_response_text ua_response_text_some
 
-static inline uint32_t ua_readings_some(const uint8_t *body, size_t body_len,
+uint32_t ua_readings_given(const uint8_t *body, size_t body_len, struct ua_reading *readings,
+    size_t readings_len, size_t *count, uint32_t *code) __asm__("ua_readings");
+static inline uint32_t ua_readings(const uint8_t *body, size_t body_len,
+    struct ua_reading *readings, size_t readings_len, size_t *count, uint32_t *code)
+    __asm__("ua_readings_in_front");
+static inline uint32_t ua_readings(const uint8_t *body, size_t body_len,
     struct ua_reading *readings, size_t readings_len, size_t *count, uint32_t *code) {
-    return ua_readings(ua_some(body), body_len, ua_places(readings), readings_len, count, code);
+    if ((!body && body_len) ||
+        (!readings && readings_len)) {
+        *count = 0;
+        *code = 0;
+        return UA_BAD_ARGUMENT;
+    }
+    return ua_readings_given(body ? body : (const uint8_t *)(void *)&body_len, body_len,
+        readings ? readings : (struct ua_reading *)(void *)&readings_len, readings_len, count,
+        code);
 }
-#define ua_readings ua_readings_some
 
-static inline uint32_t ua_status_text_some(uint32_t status, uint8_t *buffer, size_t buffer_len,
+uint32_t ua_status_text_given(uint32_t status, uint8_t *buffer, size_t buffer_len, size_t *needed)
+    __asm__("ua_status_text");
+static inline uint32_t ua_status_text(uint32_t status, uint8_t *buffer, size_t buffer_len,
+    size_t *needed) __asm__("ua_status_text_in_front");
+static inline uint32_t ua_status_text(uint32_t status, uint8_t *buffer, size_t buffer_len,
     size_t *needed) {
-    return ua_status_text(status, ua_room(buffer), buffer_len, needed);
+    if (!buffer && buffer_len) {
+        *needed = 0;
+        return UA_BAD_ARGUMENT;
+    }
+    return ua_status_text_given(status, buffer ? buffer : (uint8_t *)(void *)&buffer_len,
+        buffer_len, needed);
 }
-#define ua_status_text ua_status_text_some
 
-static inline uint32_t ua_code_name_some(uint32_t code, uint8_t *buffer, size_t buffer_len,
+uint32_t ua_code_name_given(uint32_t code, uint8_t *buffer, size_t buffer_len, size_t *needed)
+    __asm__("ua_code_name");
+static inline uint32_t ua_code_name(uint32_t code, uint8_t *buffer, size_t buffer_len,
+    size_t *needed) __asm__("ua_code_name_in_front");
+static inline uint32_t ua_code_name(uint32_t code, uint8_t *buffer, size_t buffer_len,
     size_t *needed) {
-    return ua_code_name(code, ua_room(buffer), buffer_len, needed);
+    if (!buffer && buffer_len) {
+        *needed = 0;
+        return UA_BAD_ARGUMENT;
+    }
+    return ua_code_name_given(code, buffer ? buffer : (uint8_t *)(void *)&buffer_len, buffer_len,
+        needed);
 }
-#define ua_code_name ua_code_name_some
+
+#endif

@@ -8,12 +8,12 @@
  *     int ua_get_double(const uint8_t *from, size_t from_len, double *value);
  *         1 where the octets are just the encoding of a Double, which is put into `value`, else 0
  *     size_t ua_put_double_array(uint8_t *to, size_t room, const double *values, size_t count);
- *         the same of an array; where it takes more than `room` octets nothing is written
+ *         the same of an array; where it takes more than `room` octets nothing is written. SIZE_MAX: no array has
+ *         as many elements, and nothing is written
  *     int ua_get_double_array(const uint8_t *from, size_t from_len, double *values, size_t room, size_t *count);
  *         1 where the octets are just the encoding of an array of Doubles without dimensions, whose first `room`
  *         elements are put into `values`; `count` is how many it has, 0 where it is null
  */
-#include <string.h>
 
 /* The octets of the largest number, with its type id. */
 #define UA_NUMBER_ROOM 9
@@ -45,8 +45,10 @@
         return 1;                                                                                                 \
     }                                                                                                             \
     static inline size_t ua_put_##name##_array(uint8_t *to, size_t room, const type *values, size_t count) {      \
+        if (count > 0x7fffffff || count > (SIZE_MAX - 5) / sizeof(word))                                          \
+            return SIZE_MAX;                                                                                      \
         size_t size = 5 + count * sizeof(word);                                                                   \
-        if (size > room || count > 0x7fffffff)                                                                    \
+        if (size > room)                                                                                          \
             return size;                                                                                          \
         to[0] = 0x80 | id;                                                                                        \
         for (size_t at = 0; at < 4; at++)                                                                         \
