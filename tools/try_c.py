@@ -36,7 +36,8 @@ LINES = 'ns=1;s=Pump 00000000 Int32 5\nns=1;s=Row 00000000 Int32[] 10,20,30\ni=9
 HISTORY = 'ns=1;s=Pump - 00000000 5\nns=1;s=Row - 00000000 [10, 20, 30]\ni=9 - 80340000 -\n'
 ENDPOINT = 'opc.tcp://localhost:%s 1 http://opcfoundation.org/UA/SecurityPolicy#None\n'
 # What stands around the snippets of docs/C.md: what they are given, and what they use without showing it.
-AROUND = '''#include "ua.h"
+AROUND = '''#include <stdlib.h>
+#include "ua.h"
 extern const uint8_t *nodes, *node, *url, *uri, *name, *range, *piece, *reply;
 extern size_t nodes_len, node_len, url_len, uri_len, name_len, count, reply_len;
 extern struct ua_limits limits;
@@ -198,6 +199,7 @@ class Examples:
             self.build_snippets('docs/C.md', 'c', AROUND, STRICT)
             self.gateways['gateway.c'] = self.build_c('gateway')
             self.build_c('hammer')
+            self.build_c('faults', SANITIZED)
             self.build_c('steps')
             self.build_c('stack', '-pthread')
             self.build_c('threads', '-pthread')
@@ -335,6 +337,7 @@ def main() -> None:
         for language in examples.answers:
             examples.answer(language)
         if 'c' in examples.answers:
+            same('faults.c under the sanitizers', run([examples.at('faults')]), 'as wanted\n')
             examples.threads()
             examples.stack()
         for gateway, built in examples.gateways.items():
