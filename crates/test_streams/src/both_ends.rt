@@ -70,6 +70,35 @@ fn exchanges_the_same_bytes_in_all_fragments(rt: HostRuntime) -> Result<(), Fail
 }
 
 #[test]
+fn exchanges_65_requests(rt: HostRuntime) -> Result<(), Fail> {
+    let (alloc, vectors) = (rt.alloc(), Vectors::new(rt.alloc())?);
+    let octets = vectors.octets("0100AC01 0000 $AT 02000000 $ASKING FFFFFFFF FFFFFFFF FFFFFFFF")?;
+    for length in [0, 1, 7, 65535] {
+        let mut turns = Vec::new(alloc);
+        for _ in 0..65 {
+            turns.push(Turn::Ask(request_in(alloc, octets.as_slice())?))?;
+        }
+        let nodes = NodeTable::load(alloc, "")?;
+        let lengths = lengths(alloc, length)?;
+        let found = exchange(
+            alloc,
+            nodes,
+            turns.as_slice(),
+            lengths.as_slice(),
+            lengths.as_slice(),
+            MOMENT,
+        )?;
+        let sizes = (found.up.len(), found.down.len(), found.replies.len());
+        assert_eq!(rt;
+            (sizes, found.end),
+            ((4730, 20833, 65), End::Closed),
+            "{length}"
+        );
+    }
+    Ok(())
+}
+
+#[test]
 fn names_the_operation_that_is_refused(rt: HostRuntime) -> Result<(), Fail> {
     let mut turns = Vec::new(rt.alloc());
     for _ in 0..16 {

@@ -116,6 +116,23 @@ fn answers_clients_in_all_fragments(rt: HostRuntime) -> Result<(), Fail> {
     Ok(())
 }
 
+#[test]
+fn greets_by_need_more_55_times(rt: HostRuntime) -> Result<(), Fail> {
+    let vectors = Vectors::new(rt.alloc())?;
+    let (hello, ack) = (vectors.octets("$HEL_FREE")?, vectors.octets("$ACK")?);
+    let mut channel = ServerChannel::new(rt.alloc(), limits()?, 7);
+    let mut waits = 0u32;
+    for octet in hello.as_slice() {
+        match channel.take(&[*octet], MOMENT)? {
+            (1, ServerEvent::NeedMore) => waits = waits.saturating_add(1),
+            (1, ServerEvent::Send(octets)) => assert_eq!(rt; octets.as_slice(), ack.as_slice()),
+            _ => panic!(rt; "no ACK"),
+        }
+    }
+    assert_eq!(rt; waits, 55);
+    Ok(())
+}
+
 /// A client whose channel 7 is open.
 fn opened(vectors: &Vectors) -> Result<ClientChannel, Fail> {
     let mut channel = ClientChannel::new(vectors.alloc(), limits()?, url(vectors.alloc())?);

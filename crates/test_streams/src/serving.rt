@@ -149,3 +149,23 @@ fn holds_as_much_as_its_bound(rt: HostRuntime) -> Result<(), Fail> {
     assert_eq!(rt; (server.held(), server.bound()), (4_259_838, 4_259_839));
     Ok(())
 }
+
+#[test]
+fn takes_256_chunks(rt: HostRuntime) -> Result<(), Fail> {
+    let vectors = Vectors::new(rt.alloc())?;
+    for (flag, is_refused) in [(b'C', true), (b'F', true), (b'A', false)] {
+        let mut services = services_over(rt.alloc(), PUMP)?;
+        let mut octets = vectors.octets("$HEL_FREE $OPN")?;
+        push_chunks(&vectors, 2, 256, 2, 0, &mut octets)?;
+        let mut server = server_after(&mut services, &vectors, octets.as_slice())?;
+        let mut last = vectors.octets(
+            "'MSGA 20000000 01000000 01000000 02010000 02000000 00000000 00000000",
+        )?;
+        if let Some(found) = last.get_mut(3) {
+            *found = flag;
+        }
+        let step = server.step(&mut services, last.as_slice(), MOMENT)?;
+        assert_eq!(rt; step.end.is_some(), is_refused, "{flag}");
+    }
+    Ok(())
+}
